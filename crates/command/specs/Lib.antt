@@ -1,0 +1,4 @@
+pub mod Command
+pub mod Write
+pub mod Weight
+pub mod Encoded

@@ -1,0 +1,32 @@
+-- Writing one command into a lent slice: "written into too short a buffer it meets 25 and writes nothing".
+use mathlib.Core.Bool.{cond}
+use mathlib.Core.List.{List, _++_}
+use mathlib.Core.Path.{_≡_}
+use Prim.Native.Nat.{ℕ}
+use lib.Dec.{leb}
+use lib.ListN.{length, take, drop}
+use Rattle.command.specs.declared.Command.{Command}
+use Rattle.command.specs.declared.CommandWritten.{CommandWritten}
+use Rattle.command.specs.declared.CommandWritten.the-variants.{Bytes, TooShort}
+use Rattle.command.specs.declared.CommandRead.the-variants.{Found}
+use Rattle.command.specs.Command.{bytesOf, commandAt}
+
+-- the number of a command that was not written
+abbrev pub numberOf : CommandWritten → ℕ
+numberOf (Bytes n) = 0
+numberOf TooShort = 25
+
+-- what writing a command into a buffer answers
+unfoldable pub answerOf : Command → List ℕ → CommandWritten
+answerOf command buffer = cond (leb (length (bytesOf command)) (length buffer)) (Bytes (length (bytesOf command))) TooShort
+
+-- what the buffer then holds: the command's bytes first, and past them what it held
+unfoldable pub writtenTo : Command → List ℕ → List ℕ
+writtenTo command buffer =
+    cond (leb (length (bytesOf command)) (length buffer)) (bytesOf command ++ drop (length (bytesOf command)) buffer) buffer
+
+-- what `write` gives: the answer, the bytes, and "a written command reads back as itself"
+pub record Wrote (command : Command) (before after : List ℕ) (answer : CommandWritten) : Type 0 where
+  pub answered : answer ≡ answerOf command before
+  pub written : after ≡ writtenTo command before
+  pub back : (n : ℕ) → answer ≡ Bytes n → commandAt after 0 ≡ Found command n

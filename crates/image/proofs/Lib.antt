@@ -1,0 +1,4 @@
+pub mod Walk
+pub mod Passes
+pub mod Places
+pub mod Accepted

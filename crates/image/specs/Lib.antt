@@ -1,0 +1,4 @@
+pub mod Layout
+pub mod Code
+pub mod Image
+pub mod Marks
