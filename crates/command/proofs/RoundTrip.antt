@@ -4,6 +4,7 @@ use mathlib.Core.Bool.{Bool, true, false, cond}
 use mathlib.Core.List.{List, [], _∷_, _++_}
 use mathlib.Core.Path.{_≡_, refl, sym, _∙_, ap}
 use Prim.Native.Nat.{ℕ, zero, suc, _+_, _-_, _*_, _/_, _%_, _≤_, _<_}
+use native.Mathlib.Nat.{add-zero}
 use native.Mathlib.Omega.{arith}
 use lib.Dec.{leb, ltb, eqb}
 use lib.ListN.{length, take, drop, getD, length-append}
@@ -144,3 +145,43 @@ read-as s small at answer is = record { is = is; again = λ command n found. wri
 pub at-end : (s : List ℕ) (at : ℕ) → length s ≤ at → commandAt s at ≡ CutOff
 unfolding commandAt
 at-end s at h = rw (le-leb (length s) at h)
+
+-- a command takes no more than its own bytes
+decoded-needs : (x y z w x' y' z' w' byte : ℕ) → 1 ≤ widthOf byte → (1 < widthOf byte → x ≡ x') → (2 < widthOf byte → y ≡ y') → (3 < widthOf byte → z ≡ z')
+    → (4 < widthOf byte → w ≡ w') → decoded byte x y z w ≡ decoded byte x' y' z' w'
+unfolding decoded
+decoded-needs x y z w x' y' z' w' zero n a b c d = absurd (omega arith)
+decoded-needs x y z w x' y' z' w' (suc zero) n a b c d = rw (a (omega arith), b (omega arith), c (omega arith))
+decoded-needs x y z w x' y' z' w' (suc (suc zero)) n a b c d = rw (a (omega arith), b (omega arith), c (omega arith))
+decoded-needs x y z w x' y' z' w' (suc (suc (suc zero))) n a b c d = rw (a (omega arith), b (omega arith), c (omega arith))
+decoded-needs x y z w x' y' z' w' (suc (suc (suc (suc zero)))) n a b c d = rw (a (omega arith), b (omega arith))
+decoded-needs x y z w x' y' z' w' (suc (suc (suc (suc (suc zero))))) n a b c d = rw (a (omega arith), b (omega arith))
+decoded-needs x y z w x' y' z' w' (suc (suc (suc (suc (suc (suc zero)))))) n a b c d = rw (a (omega arith), b (omega arith), c (omega arith))
+decoded-needs x y z w x' y' z' w' (suc (suc (suc (suc (suc (suc (suc zero))))))) n a b c d = rw (a (omega arith), b (omega arith))
+decoded-needs x y z w x' y' z' w' (suc (suc (suc (suc (suc (suc (suc (suc zero)))))))) n a b c d = rw (a (omega arith), b (omega arith), c (omega arith), d (omega arith))
+decoded-needs x y z w x' y' z' w' (suc (suc (suc (suc (suc (suc (suc (suc (suc zero))))))))) n a b c d = rw (a (omega arith), b (omega arith), c (omega arith), d (omega arith))
+decoded-needs x y z w x' y' z' w' (suc (suc (suc (suc (suc (suc (suc (suc (suc (suc zero)))))))))) n a b c d = refl
+decoded-needs x y z w x' y' z' w' (suc (suc (suc (suc (suc (suc (suc (suc (suc (suc (suc zero))))))))))) n a b c d = refl
+decoded-needs x y z w x' y' z' w' (suc (suc (suc (suc (suc (suc (suc (suc (suc (suc (suc (suc zero)))))))))))) n a b c d = refl
+decoded-needs x y z w x' y' z' w' (suc (suc (suc (suc (suc (suc (suc (suc (suc (suc (suc (suc (suc zero))))))))))))) n a b c d = rw (a (omega arith))
+decoded-needs x y z w x' y' z' w' (suc (suc (suc (suc (suc (suc (suc (suc (suc (suc (suc (suc (suc (suc k)))))))))))))) n a b c d = absurd (omega arith)
+
+-- the same bytes at another place are the same command
+pub found-alike : (s t : List ℕ) (at at' n : ℕ) (command : Command) → commandAt s at ≡ Found command n → at' + n ≤ length t
+    → ((i : ℕ) → i < n → getD t (at' + i) 0 ≡ getD s (at + i) 0) → commandAt t at' ≡ Found command n
+found-alike s t at at' zero command found room same = absurd (let f = stands s at command zero found in omega (arith, f .some))
+found-alike s t at at' (suc n) command found room same =
+    accepts t at' n (rw first (sym (f .width))) room ∙ ap (λ c. Found c (suc n)) (alike ∙ sym (f .is))
+  where
+    f : Stands s at command (suc n)
+    f = stands s at command (suc n) found
+
+    first : getD t at' 0 ≡ getD s at 0
+    first = rw (add-zero, add-zero) at (same 0 (omega arith))
+
+    alike : decodedAt t at' ≡ decodedAt s at
+    alike =
+        let w = f .width in
+        rw first
+        (decoded-needs _ _ _ _ _ _ _ _ (getD s at 0) (omega arith) (λ h. same 1 (omega arith)) (λ h. same 2 (omega arith)) (λ h. same 3 (omega arith))
+        (λ h. same 4 (omega arith)))

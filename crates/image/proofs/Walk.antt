@@ -49,7 +49,7 @@ module _ (code : List ℕ) (left at n : ℕ) (c : Command) (found : commandAt co
   unfolding verdictFrom
   verdict-found ok h fine = rw (lt-leb (length code) at h, found, fine)
 
-  last-found : (last : Bool) → lastEnds last (commandsFrom code (suc left) at) ≡ lastEnds (ends c) (commandsFrom code left (at + n))
+  pub last-found : (last : Bool) → lastEnds last (commandsFrom code (suc left) at) ≡ lastEnds (ends c) (commandsFrom code left (at + n))
   unfolding commandsFrom lastEnds
   last-found last = rw found
 
@@ -63,7 +63,7 @@ module _ (code : List ℕ) (left at n : ℕ) (c : Command) (found : commandAt co
   targets-found start = rw found
 
 -- where no command is found, none follows
-commands-end : (code : List ℕ) (left at : ℕ) → commandAt code at ≡ CutOff → commandsFrom code left at ≡ []
+pub commands-end : (code : List ℕ) (left at : ℕ) → commandAt code at ≡ CutOff → commandsFrom code left at ≡ []
 unfolding commandsFrom
 commands-end code zero at e = refl
 commands-end code (suc left) at e = rw e
