@@ -1,0 +1,4 @@
+-- The laws that the proofs of `queue` and of the crates above it cite.
+pub mod Ascending
+pub mod Ring
+pub mod Laws

@@ -1,0 +1,89 @@
+-- Counting entry by entry gives the count of the whole: what is left, with the entries counted so far, counts as the schedule does. Assumes nothing.
+use mathlib.Core.Path.{_≡_, refl, ap, sym, _∙_}
+use mathlib.Core.List.{List, []}
+use Prim.Native.Nat.{ℕ, _+_, _≤_, _<_}
+use native.Mathlib.Nat.{zero-add, add-zero}
+use native.Mathlib.Omega.{arith}
+use borrow.Author.Tests.{lt-ltb, le-ltb}
+use lib.ListN.{length, drop}
+use Rattle.schedule.proofs.Standing.{Found-at, found}
+use Rattle.schedule.proofs.Following.{follow, follows}
+use Rattle.schedule.specs.Format.{entryAt}
+use Rattle.schedule.specs.Meaning.{Schedule, entries, malformed, prepend, entriesOf, scheduleOf, numberOf, countOf, numberOfCount, Counts}
+use Rattle.schedule.specs.declared.Entry.{Entry}
+use Rattle.schedule.specs.declared.EntryRead.the-variants.{Found, End, Malformed as Bad}
+use Rattle.schedule.specs.declared.Counted.{Counted}
+use Rattle.schedule.specs.declared.Counted.the-variants.{Entries, Malformed}
+
+-- n entries before those counted
+abbrev more : ℕ → Counted → Counted
+more n (Entries m) = Entries (n + m)
+more n Malformed = Malformed
+
+more-none : (r : Counted) → more 0 r ≡ r
+more-none (Entries m) = ap Entries (zero-add m)
+more-none Malformed = refl
+
+more-one : (n : ℕ) (e : Entry) (x : Schedule) → more (n + 1) (countOf x) ≡ more n (countOf (prepend e x))
+more-one n e (entries es) = ap Entries (omega arith)
+more-one n e malformed = refl
+
+-- n entries end at a position
+pub record Sofar (s : List ℕ) (at n : ℕ) : Type 0 where
+  pub within : at ≤ length s
+  pub few : n ≤ at
+  pub same : more n (countOf (entriesOf (drop at s))) ≡ countOf (entriesOf s)
+
+pub starts : (s : List ℕ) → Sofar s 0 0
+starts s = record { within = omega arith; few = omega arith; same = more-none (countOf (entriesOf s)) }
+
+module _ (s : List ℕ) (at n : ℕ) (so : Sofar s at n) where
+  pub goes-on : (e : Entry) (next : ℕ) → entryAt s at ≡ Found e next → Sofar s next (n + 1)
+  goes-on e next h =
+      let f : Found-at s at e next = found s at e next h in
+      let k : entriesOf (drop at s) ≡ prepend e (entriesOf (drop next s)) = follows s at ∙ ap (follow s) h in
+      record {
+        within = f .within;
+        few = omega (arith, f .wide, so .few);
+        same = more-one n e (entriesOf (drop next s)) ∙ ap (λ (x : Schedule). more n (countOf x)) (sym k) ∙ so .same;
+      }
+
+  pub stops : entryAt s at ≡ End → Entries n ≡ countOf (entriesOf s)
+  stops h =
+      let k : entriesOf (drop at s) ≡ entries [] = follows s at ∙ ap (follow s) h in
+      ap Entries (sym (add-zero n)) ∙ ap (λ (x : Schedule). more n (countOf x)) (sym k) ∙ so .same
+
+  pub spoils : entryAt s at ≡ Bad → Malformed ≡ countOf (entriesOf s)
+  spoils h =
+      let k : entriesOf (drop at s) ≡ malformed = follows s at ∙ ap (follow s) h in
+      ap (λ (x : Schedule). more n (countOf x)) (sym k) ∙ so .same
+
+numbers : (x : Schedule) → numberOfCount (countOf x) ≡ numberOf x
+numbers (entries es) = refl
+numbers malformed = refl
+
+counts-as : (s : List ℕ) (r : Counted) → r ≡ countOf (scheduleOf s) → Counts s r
+counts-as s r h = record { is = h; number = ap numberOfCount h ∙ numbers (scheduleOf s) }
+
+-- a schedule of at most 32,768 bytes
+pub counts : (s : List ℕ) (r : Counted) → length s ≤ 32768 → r ≡ countOf (entriesOf s) → Counts s r
+unfolding scheduleOf
+counts s r l h = counts-as s r (h ∙ rw (le-ltb 32768 (length s) l))
+
+-- a longer one
+pub too-long : (s : List ℕ) → 32768 < length s → Counts s Malformed
+unfolding scheduleOf
+too-long s l = counts-as s Malformed (rw (lt-ltb 32768 (length s) l))
+
+-- what a count of n says: the schedule is accepted, and its entries are n
+pub record Counted-as (s : List ℕ) (n : ℕ) : Type 0 where
+  pub all : List Entry
+  pub means : scheduleOf s ≡ entries all
+  pub many : length all ≡ n
+
+counted-by : (s : List ℕ) (n : ℕ) (x : Schedule) → scheduleOf s ≡ x → Entries n ≡ countOf x → Counted-as s n
+counted-by s n (entries es) h k = record { all = es; means = h; many = cc }
+counted-by s n malformed h k = let z : _≡_ {A = ℕ} 0 1 = cc in absurd (omega arith)
+
+pub counted : (s : List ℕ) (n : ℕ) → Counts s (Entries n) → Counted-as s n
+counted s n h = counted-by s n (scheduleOf s) refl (h .is)

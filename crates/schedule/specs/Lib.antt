@@ -1,0 +1,4 @@
+-- The definitions that the contracts of `schedule` cite.
+pub mod Format
+pub mod Meaning
+pub mod Writing

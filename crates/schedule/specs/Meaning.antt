@@ -1,0 +1,55 @@
+-- What the bytes of a whole schedule mean: a list of entries, or document 01's number 13.
+use mathlib.Core.Path.{_≡_}
+use mathlib.Core.List.{List, [], _∷_}
+use mathlib.Core.Bool.{cond}
+use Prim.Native.Nat.{ℕ}
+use lib.ListN.{length}
+use lib.Dec.{ltb, eqb}
+use Rattle.schedule.specs.Format.{oneOperand}
+use Rattle.schedule.specs.declared.Entry.{Entry}
+use Rattle.schedule.specs.declared.Entry.the-variants.{Steal}
+use Rattle.schedule.specs.declared.Counted.{Counted}
+use Rattle.schedule.specs.declared.Counted.the-variants.{Entries, Malformed}
+
+-- a schedule that is accepted, with its entries in order, or one that is not
+pub data Schedule : Type 0 where
+  entries : List Entry → Schedule
+  malformed : Schedule
+
+-- an entry before the others
+abbrev pub prepend : Entry → Schedule → Schedule
+prepend e (entries es) = entries (e ∷ es)
+prepend e malformed = malformed
+
+-- the entries that stand one after another in some bytes: "one-byte commands with one-byte operands"; an unknown byte or a cut entry spoils all
+unfoldable pub entriesOf : List ℕ → Schedule
+entriesOf [] = entries []
+entriesOf (k ∷ []) = malformed
+entriesOf (k ∷ x ∷ []) = oneOperand k x (λ e. entries (e ∷ [])) malformed
+entriesOf (k ∷ x ∷ y ∷ rest) =
+    cond (eqb k 3) (prepend (Steal x y) (entriesOf rest))
+    (oneOperand k x (λ e. prepend e (entriesOf (y ∷ rest))) malformed)
+
+-- the meaning of a schedule: "13 (whole run): unknown byte, cut entry, or over 32,768 bytes"
+unfoldable pub scheduleOf : List ℕ → Schedule
+scheduleOf s = cond (ltb 32768 (length s)) malformed (entriesOf s)
+
+-- document 01's number for a schedule: 13, or 0 where it is accepted
+abbrev pub numberOf : Schedule → ℕ
+numberOf (entries es) = 0
+numberOf malformed = 13
+
+-- the count of a schedule's entries
+abbrev pub countOf : Schedule → Counted
+countOf (entries es) = Entries (length es)
+countOf malformed = Malformed
+
+-- document 01's number for each answer of `count`
+abbrev pub numberOfCount : Counted → ℕ
+numberOfCount (Entries n) = 0
+numberOfCount Malformed = 13
+
+-- what `count` gives of a schedule's bytes
+pub record Counts (s : List ℕ) (r : Counted) : Type 0 where
+  pub is : r ≡ countOf (scheduleOf s)
+  pub number : numberOfCount r ≡ numberOf (scheduleOf s)

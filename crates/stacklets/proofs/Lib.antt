@@ -1,0 +1,4 @@
+pub mod Words
+pub mod Places
+pub mod Laying
+pub mod Pushing

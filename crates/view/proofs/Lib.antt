@@ -1,0 +1,3 @@
+-- The laws that the proofs of `view` cite.
+pub mod Cases
+pub mod Examples

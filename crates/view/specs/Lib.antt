@@ -1,0 +1,2 @@
+-- The definitions that the contracts of `view` cite.
+pub mod Part
