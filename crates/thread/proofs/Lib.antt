@@ -1,0 +1,11 @@
+pub mod Routines
+pub mod EffectFacts
+pub mod ThreadState
+pub mod LawfulThreads
+pub mod CarriedThreads
+pub mod DocumentJob
+pub mod ThreadSteps
+pub mod SerialSteps
+pub mod MarkedWindows
+pub mod Example
+pub mod Witness

@@ -1,0 +1,26 @@
+-- What a thread's command may look at, from its slots, its pending slots and its window.
+use mathlib.Core.Bool.{Bool, true, false}
+use Prim.Native.Nat.{ℕ}
+use Rattle.window.specs.declared.Window.{Window}
+use Rattle.window.specs.declared.Cut.{Cut}
+use Rattle.window.specs.declared.Cut.the-variants.{Parts, OutOfRange}
+use Rattle.window.specs.Rights.{mayLoad, mayStore, cutAt}
+use Rattle.thread.specs.Effect.{Own}
+
+-- is the cut in range?
+abbrev pub isCut : Cut → Bool
+isCut (Parts child rest) = true
+isCut OutOfRange = false
+
+-- "A fork whose cut is e needs mark ≤ e ≤ hi"
+abbrev pub mayCut : Window → ℕ → Bool
+mayCut w e = isCut (cutAt w e)
+
+abbrev pub viewOf : (ℕ → ℕ) → (ℕ → Bool) → Window → Own
+viewOf slots pending w = record {
+  slot = slots;
+  pending = pending;
+  mayLoad = mayLoad w;
+  mayStore = mayStore w;
+  mayCut = mayCut w;
+}
