@@ -12,7 +12,7 @@ use Rattle.image.specs.declared.Row.{Row}
 use Rattle.image.specs.declared.Verdict.{Verdict}
 use Rattle.image.specs.declared.Verdict.the-variants.{Accepted, Refused}
 use Rattle.image.specs.declared.Refusal.{Refusal}
-use Rattle.image.specs.Layout.{countOf, slotsOf, lengthOf, rowsEnd, startOf, codeOf, rowOf, rowsOf, blankRow}
+use Rattle.image.specs.Layout.{countOf, slotsOf, lengthOf, rowsEnd, startOf, codeOf, rowOf, rowsOf, blankRow, programOf, startsIn, startsUpTo}
 use Rattle.image.specs.Code.{routineVerdict, _then_}
 use Rattle.image.specs.Image.{rowGood, rowsGood, inRange, routinesVerdict}
 
@@ -129,3 +129,31 @@ module _ (s : List ℕ) where
 
   pub first-routine : (n : ℕ) → routinesVerdict s (n - 0) 0 ≡ routinesVerdict s n 0
   first-routine n = let d : n - 0 ≡ n = omega arith in rw d
+
+-- the starts copied out of the rows
+pub starts-first : (rows : List Row) → replicate 32 0 ≡ startsUpTo rows 0
+unfolding startsUpTo
+starts-first rows = refl
+
+pub starts-more : (rows : List Row) (r : ℕ) → set (startsUpTo rows r) r (getD rows r blankRow .start) ≡ startsUpTo rows (r + 1)
+unfolding startsUpTo
+starts-more rows r = rw (add-one r)
+
+length-starts : (rows : List Row) (n : ℕ) → length (startsUpTo rows n) ≡ 32
+unfolding startsUpTo
+length-starts rows zero = refl
+length-starts rows (suc n) = length-set (startsUpTo rows n) n (getD rows n blankRow .start) ∙ length-starts rows n
+
+start-of-row : (rows : List Row) (r n : ℕ) → r < n → n ≤ 32 → getD (startsUpTo rows n) r 0 ≡ getD rows r blankRow .start
+unfolding startsUpTo
+start-of-row rows r zero h k = absurd (omega arith)
+start-of-row rows r (suc n) h k = go (ℕ-discrete r n) (λ l. start-of-row rows r n l (omega arith))
+  where
+    go : Dec (r ≡ n) → (r < n → getD (startsUpTo rows n) r 0 ≡ getD rows r blankRow .start)
+        → getD (set (startsUpTo rows n) n (getD rows n blankRow .start)) r 0 ≡ getD rows r blankRow .start
+    go (yes e) f = rw e (getD-set-same (startsUpTo rows n) n (getD rows n blankRow .start) 0 (omega (arith, length-starts rows n)))
+    go (no e) f = getD-set-other (startsUpTo rows n) n r (getD rows n blankRow .start) 0 e ∙ f (omega arith)
+
+-- where each routine's code starts
+pub starts-at : (s : List ℕ) (r : ℕ) → r < countOf s → countOf s ≤ 32 → getD (startsIn (programOf s)) r 0 ≡ startOf s r
+starts-at s r h k = start-of-row (rowsOf s (countOf s)) r 32 (omega arith) (omega arith) ∙ ap (λ row. row .start) (row-at s r (countOf s) h k)

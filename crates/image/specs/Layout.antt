@@ -54,3 +54,12 @@ programOf s = record { count = countOf s; rows = rowsOf s (countOf s) }
 -- the program of no image
 abbrev pub noProgram : Program
 noProgram = record { count = 0; rows = replicate 32 blankRow }
+
+-- the starts of the first n rows' codes, in a table of 32
+unfoldable pub startsUpTo : List Row → ℕ → List ℕ
+startsUpTo rows zero = replicate 32 0
+startsUpTo rows (suc r) = set (startsUpTo rows r) r (getD rows r blankRow .start)
+
+-- the codes' starts
+abbrev pub startsIn : Program → List ℕ
+startsIn p = startsUpTo (p .rows) 32

@@ -9,7 +9,7 @@ use command::byte_at;
 ghost use mathlib.Core.Path.{_≡_};
 ghost use Prim.Native.Nat.{_≤_, _<_};
 ghost use lib.ListN.{length};
-ghost use Rattle.image.specs.Layout.{countOf, startOf, programOf, noProgram};
+ghost use Rattle.image.specs.Layout.{countOf, startOf, programOf, noProgram, startsIn};
 ghost use Rattle.image.specs.Image.{routinesVerdict, imageVerdict, imageAnswer};
 
 // A routine's row with the place of its code: its slots, its arguments, its code's first byte in the image and its code's length.
@@ -24,6 +24,22 @@ pub struct Row {
 pub struct Program {
     pub count: u8,
     pub rows: [Row; 32],
+}
+
+impl Program {
+    // Where each routine's code starts, as an array that can be lent.
+    pub fn starts(self) -> [u16; 32]
+        ensures { λ r. ⌜ r ≡ startsIn self ⌝ }
+    {
+        let mut starts = [0u16; 32];
+        let mut r: usize = 0;
+        while r < 32 {
+            let row = self.rows[r];
+            starts[r] = row.start;
+            r = r + 1;
+        }
+        starts
+    }
 }
 
 // Why an image is refused.
