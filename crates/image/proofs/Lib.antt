@@ -4,3 +4,4 @@ pub mod Places
 pub mod Accepted
 pub mod Starts
 pub mod Laws
+pub mod Cases

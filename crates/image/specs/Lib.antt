@@ -2,3 +2,4 @@ pub mod Layout
 pub mod Code
 pub mod Image
 pub mod Marks
+pub mod Cases
