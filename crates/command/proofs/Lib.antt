@@ -1,3 +1,4 @@
+pub mod Bools
 pub mod Tables
 pub mod RoundTrip
 pub mod Encoding

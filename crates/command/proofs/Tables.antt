@@ -8,6 +8,7 @@ use native.Mathlib.Omega.{arith}
 use lib.Dec.{leb, eqb}
 use lib.ListN.{getD}
 use Rattle.command.specs.Command.{widths, widthOf}
+use Rattle.command.proofs.Bools.{both}
 use Rattle.command.specs.Weight.{standardWeights, weightOf}
 
 -- a test of the entries of two tables, row by row, of equally many rows
@@ -16,10 +17,6 @@ rows test [] [] = true
 rows test [] (y ∷ ys) = false
 rows test (x ∷ xs) [] = false
 rows test (x ∷ xs) (y ∷ ys) = test x y && rows test xs ys
-
-both : (a b : Bool) → (a && b) ≡ true → (a ≡ true) × (b ≡ true)
-both true b h = (refl, h)
-both false b h = absurd (false≢true h)
 
 -- what the test found holds at each index, and past the tables' end where it holds of 0 and 0
 row : (test : ℕ → ℕ → Bool) → test 0 0 ≡ true → (xs ys : List ℕ) → rows test xs ys ≡ true → (i : ℕ) → test (getD xs i 0) (getD ys i 0) ≡ true

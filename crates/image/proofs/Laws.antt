@@ -14,6 +14,7 @@ use lib.Seq.{getD-take, getD-drop}
 use Rattle.command.specs.declared.Command.{Command}
 use Rattle.command.specs.declared.CommandRead.the-variants.{Found}
 use Rattle.command.specs.Command.{commandAt}
+use Rattle.command.proofs.Bools.{both}
 use Rattle.command.proofs.RoundTrip.{stands, found-alike}
 use Rattle.image.specs.declared.Verdict.the-variants.{Accepted}
 use Rattle.image.specs.Layout.{countOf, slotsOf, argumentsOf, lengthOf, startOf, codeOf}
@@ -21,7 +22,7 @@ use Rattle.image.specs.Code.{commandsOf, isStart, ends, targetGood, rout
 use Rattle.image.specs.Image.{inRange, rowGood, rowsGood, routinesVerdict, imageVerdict}
 use Rattle.image.proofs.Places.{code-inside, good-all}
 use Rattle.image.proofs.Accepted.{Accepts, accepted}
-use Rattle.image.proofs.Starts.{Standing, standing, first-start, both-accept, both}
+use Rattle.image.proofs.Starts.{Standing, standing, first-start, both-accept}
 
 -- a command of an accepted image, at position p of routine r
 pub record Placed (s : List ℕ) (r p : ℕ) : Type 0 where

@@ -8,6 +8,7 @@ use native.Mathlib.Numerals.{add-one}
 use native.Mathlib.Omega.{arith}
 use lib.ListN.{length, getD, set, take, drop, length-take, length-drop, replicate, length-set, length-replicate}
 use lib.Seq.{getD-set-same, getD-set-other}
+use Rattle.command.proofs.Bools.{both}
 use Rattle.image.specs.declared.Row.{Row}
 use Rattle.image.specs.declared.Verdict.{Verdict}
 use Rattle.image.specs.declared.Verdict.the-variants.{Accepted, Refused}
@@ -64,10 +65,6 @@ module _ (s : List ℕ) where
   good-all r zero h e = absurd (omega arith)
   good-all r (suc n) h e = go (ℕ-discrete r n) (λ k d. good-all r n k d)
     where
-      both : (a b : Bool) → (a && b) ≡ true → (a ≡ true) × (b ≡ true)
-      both true b h = (refl, h)
-      both false b h = let z : _≡_ {A = ℕ} 0 1 = cc in absurd (omega arith)
-
       go : Dec (r ≡ n) → (r < n → rowsGood s n ≡ true → rowGood s r ≡ true) → rowGood s r ≡ true
       go (yes i) f = rw i (both (rowsGood s n) _ e .1)
       go (no i) f = f (omega arith) (both (rowsGood s n) _ e .0)

@@ -14,6 +14,7 @@ use Rattle.command.specs.declared.Command.{Command}
 use Rattle.command.specs.declared.CommandRead.{CommandRead}
 use Rattle.command.specs.declared.CommandRead.the-variants.{Found, Unknown, CutOff}
 use Rattle.command.specs.Command.{commandAt}
+use Rattle.command.proofs.Bools.{both}
 use Rattle.command.proofs.RoundTrip.{stands, at-end}
 use Rattle.image.specs.declared.Verdict.{Verdict}
 use Rattle.image.specs.declared.Verdict.the-variants.{Accepted, Refused}
@@ -21,10 +22,6 @@ use Rattle.image.specs.declared.Refusal.{Refusal}
 use Rattle.image.specs.declared.Refusal.the-variants.{UnknownByte, OperandsCutOff, OutOfRange, BadEnd, BadTarget}
 use Rattle.image.specs.Code.{commandsFrom, commandsOf, verdictFrom, lastEnds, ends, isStart, targetGood, targetsGood, readVerdict, routineVerdict, _then_}
 use Rattle.image.proofs.Walk.{start-found, targets-found, last-found, commands-end}
-
-pub both : (a b : Bool) → (a && b) ≡ true → (a ≡ true) × (b ≡ true)
-both true b h = (refl, h)
-both false b h = let z : _≡_ {A = ℕ} 0 1 = cc in absurd (omega arith)
 
 clash : {P : Type 0} (b : Bool) → b ≡ true → b ≡ false → P
 clash b h k = let z : _≡_ {A = ℕ} 0 1 = cc in absurd (omega arith)

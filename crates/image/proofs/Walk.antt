@@ -1,6 +1,6 @@
 -- The two passes over a code, turn by turn: what is left of the code gives what the whole gives. Assumes nothing.
 use borrow.Author.Tests.{le-leb, lt-leb, lt-ltb, le-ltb, eq-eqb, ne-eqb}
-use mathlib.Core.Bool.{Bool, true, false, cond, _&&_, _||_}
+use mathlib.Core.Bool.{Bool, true, false, cond, _&&_, _||_, and-false, or-false, or-true}
 use mathlib.Core.List.{List, [], _∷_}
 use mathlib.Core.Path.{_≡_, refl, sym, _∙_, ap}
 use Prim.Native.Nat.{ℕ, zero, suc, _+_, _≤_, _<_}
@@ -20,14 +20,6 @@ use Rattle.image.specs.declared.Refusal.{Refusal}
 use Rattle.image.specs.declared.Refusal.the-variants.{UnknownByte, OperandsCutOff, OutOfRange}
 use Rattle.image.specs.Code.{commandsFrom, commandsOf, verdictFrom, lastEnds, ends, isStart, targetGood, targetsGood, whenFound, readVerdict}
 use Rattle.image.specs.Marks.{marked, Blank, WalkedBy}
-
-or-false : (b : Bool) → (b || false) ≡ b
-or-false true = refl
-or-false false = refl
-
-or-true : (b : Bool) → (b || true) ≡ true
-or-true true = refl
-or-true false = refl
 
 accepted-at-end : (ok : Command → Bool) (code : List ℕ) (left at : ℕ) → length code ≤ at → Accepted ≡ verdictFrom ok code left at
 unfolding verdictFrom
@@ -76,10 +68,6 @@ commands-unknown code (suc left) at e = rw e
 unmarked : (code marks : List ℕ) → Blank marks → (t : ℕ) → marked code marks t ≡ false
 unfolding marked
 unmarked code marks blank t = rw (blank t) (and-false (ltb t (length code)))
-  where
-    and-false : (b : Bool) → (b && false) ≡ false
-    and-false true = refl
-    and-false false = refl
 
 -- a mark more, at `at`
 mark : (code marks : List ℕ) (at t : ℕ) (b : Bool) → at < length code → at < length marks
