@@ -2,7 +2,7 @@
 ghost use mathlib.Core.Path.{_≡_};
 ghost use mathlib.Core.List.{[], _∷_};
 ghost use lib.ListN.{getD};
-ghost use Rattle.command.specs.Command.{ReadAs, decoded, widthOf, pair, low, high};
+ghost use Rattle.command.specs.Command.{ReadAs, decoded, decodedAt, widthOf, pair, low, high};
 ghost use Rattle.command.specs.Write.{Wrote};
 ghost use Rattle.command.specs.Encoded.{Encodes};
 ghost use Rattle.command.specs.Weight.{weightOf, standardWeights};
@@ -76,7 +76,7 @@ const WIDTHS: [u8; 14] = [0, 4, 4, 4, 3, 3, 4, 3, 5, 5, 1, 1, 1, 2];
 const WEIGHTS: [u8; 14] = [0, 1, 1, 1, 2, 2, 1, 1, 6, 12, 1, 3, 3, 1];
 
 // The number of bytes of the command with this first byte; 0 where there is none.
-fn width(byte: u8) -> u8
+pub fn width(byte: u8) -> u8
     ensures { λ r. ⌜ r ≡ widthOf byte ⌝ }
 {
     let i = byte as usize;
@@ -169,6 +169,22 @@ pub fn read(bytes: &[u8], at: usize) -> CommandRead
         byte_at(bytes, at + 4),
     );
     CommandRead::Found(command, w)
+}
+
+// The command whose first byte stands at a position, taken as whole: bytes past the end read as 0.
+pub fn fetch(bytes: &[u8], at: usize) -> Command
+    ensures { λ r. ⌜ r ≡ decodedAt (now (bytes .entry)) at ⌝ }
+{
+    if bytes.len() <= at {
+        return Command::Return(0);
+    }
+    decode(
+        bytes[at],
+        byte_at(bytes, at + 1),
+        byte_at(bytes, at + 2),
+        byte_at(bytes, at + 3),
+        byte_at(bytes, at + 4),
+    )
 }
 
 // A value's low byte.

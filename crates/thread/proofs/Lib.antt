@@ -9,3 +9,4 @@ pub mod SerialSteps
 pub mod MarkedWindows
 pub mod Example
 pub mod Witness
+pub mod CodePending

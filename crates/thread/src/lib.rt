@@ -1,4 +1,42 @@
-// What a command does to its own thread.
+// A thread: its record, and what a command does to its own thread.
+
+pub mod effects;
+pub mod pending;
+pub mod record;
+
+use window::Window;
+
+// What a thread is doing: document 01's states of a thread record. Free comes first, so that the record of zeros is a free one.
+pub enum Status {
+    Free,
+    Running,
+    Ready,
+    Suspended,
+    Waiting,
+    // its connected child has the core
+    Lent,
+}
+
+// A thread record.
+pub struct Thread {
+    pub status: Status,
+    // its parent is lent, and runs on when it leaves the core
+    pub connected: bool,
+    pub routine: u8,
+    // the parent's number; 32 for the root
+    pub parent: u8,
+    // the parent's slot that its value goes to
+    pub result: u8,
+    // its children that have not ended
+    pub children: u8,
+    // its next command's first byte, from its routine's start
+    pub position: u16,
+    // its frame's first word among all words of the stacklets
+    pub base: u16,
+    pub window: Window,
+    // one bit for each pending slot
+    pub pending: u16,
+}
 
 // The effect of a command, computed from the thread's own slots, pending slots and window alone.
 pub enum Effect {

@@ -1,0 +1,55 @@
+// Pending slots, as a mask with one bit for each.
+ghost use mathlib.Core.Path.{_≡_};
+ghost use Prim.Native.Nat.{_<_};
+ghost use Rattle.thread.specs.Thread.{isPending, withPending};
+ghost use Rattle.thread.specs.Effect.{run, anyPending};
+
+// Is slot k pending?
+pub fn is_pending(mask: u16, k: u8) -> bool
+    ensures { λ r. ⌜ r ≡ isPending mask k ⌝ }
+{
+    pending_at(mask, k as u16)
+}
+
+// The same of any number: no slot from 16 on is pending.
+fn pending_at(mask: u16, k: u16) -> bool
+    ensures { λ r. ⌜ r ≡ isPending mask k ⌝ }
+{
+    if k < 16 {
+        return (mask >> k) % 2 == 1;
+    }
+    false
+}
+
+// Slot d becomes pending.
+pub fn with_pending(mask: u16, d: u8) -> u16
+    requires { ⌜ d < 16 ⌝ }
+    ensures { λ r. ⌜ r ≡ withPending mask d ⌝ }
+{
+    let one: u16 = 1;
+    let i = d as u16;
+    mask | (one << i)
+}
+
+// Is one of n slots from a on pending?
+pub fn any_pending(mask: u16, a: u8, n: u8) -> bool
+    ensures { λ r. ⌜ r ≡ anyPending (isPending mask) (run a n) ⌝ }
+{
+    let mut left: u8 = n;
+    let mut at: u16 = a as u16;
+    while 0 < left {
+        if pending_at(mask, at) {
+            return true;
+        }
+        at = at + 1;
+        left = left - 1;
+    }
+    false
+}
+
+// Is any slot pending?
+pub fn some_pending(mask: u16) -> bool
+    ensures { λ r. ⌜ r ≡ anyPending (isPending mask) (run 0 16) ⌝ }
+{
+    mask != 0
+}
