@@ -2,7 +2,6 @@
 use mathlib.Core.Bool.{Bool, true, false, _&&_}
 use mathlib.Core.List.{List, [], _∷_, List·Mem, not-mem-nil, forall-mem-cons}
 use mathlib.Core.Path.{_≡_}
-use Prim.Native.Nat.{ℕ}
 use lib.Dec.{T, T-prop, eqb, eqb→eq}
 use Rattle.command.specs.Command.{decoded, commandAt}
 use Rattle.image.specs.Layout.{startOf}

@@ -1,0 +1,33 @@
+// The machine: the thread table, the cores, the three queues and the stacklets, moved by one entry at a time. Queues, stacklets, windows
+// and commands are lower crates, known by their contracts.
+use queue::Queue;
+use stacklets::Stacklets;
+use thread::Thread;
+
+// The machine's tables. The 1,024 words of the stacklets and the memory words are lent to each entry.
+pub struct Machine {
+    pub threads: [Thread; 32],
+    // the thread on each core; 32 on an idle one
+    pub cores: [u8; 4],
+    pub count: u8,
+    pub stacklets: Stacklets,
+    pub free_threads: Queue,
+    pub free_stacklets: Queue,
+    pub ready: Queue,
+    pub units: u32,
+    // 0 open, 1 finished with a result, 2 faulted by a number, at a thread and an offset
+    pub over: u8,
+    pub result: u32,
+    pub fault: u8,
+    pub fault_thread: u8,
+    pub fault_offset: u16,
+    // the last entry's log byte
+    pub log: u8,
+}
+
+// How a fork is carried out: by an lfork's step, by a fork's step, or by a steal.
+pub enum ForkKind {
+    Called,
+    Queued,
+    Stolen,
+}

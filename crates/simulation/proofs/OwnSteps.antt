@@ -1,0 +1,188 @@
+-- Commands that change their own thread only, as steps of the pool: 01 to 07, a passed join, and suspend and yield as far as they go on.
+-- Assumes a sound state and a thread in use.
+use mathlib.Core.List.{List}
+use mathlib.Core.Logic.{_⊎_, ⊎-elim, ite}
+use mathlib.Core.Path.{_≡_, refl, sym, _∙_, ap, subst}
+use Prim.Native.Nat.{ℕ, _+_, _-_, _/_, _<_, _≤_}
+use native.Mathlib.Decide.{decLt, decLe}
+use native.Mathlib.Omega.{arith}
+use lib.ListN.{getD, set, length}
+use borrow.Author.Tests.{lt-ltb, le-ltb}
+use Rattle.forkjoin.proofs.Update.{update}
+use Rattle.forkjoin.proofs.ThreadPool.{used}
+use Rattle.forkjoin.proofs.Arrays.{words-from, words-set, frame, frame-own, frame-other}
+use Rattle.image.specs.Layout.{argumentsOf}
+use Rattle.window.specs.declared.Window.{Window}
+use Rattle.window.proofs.Laws.{store-in-memory}
+use Rattle.window.proofs.Instance.{windows}
+use Rattle.thread.specs.declared.Effect.{Effect}
+use Rattle.thread.specs.declared.Effect.the-variants.{Sets, Loads, Stores, Goes, Continues, Suspends, Yields}
+use Rattle.thread.specs.declared.Thread.{Thread}
+use Rattle.thread.specs.Thread.{isPending, movedTo}
+use Rattle.thread.proofs.EffectFacts.{Facts}
+use Rattle.thread.proofs.ThreadState.{ThreadState, effect, view, onward, at-target}
+use Rattle.thread.proofs.LawfulThreads.{effect-facts}
+use Rattle.thread.proofs.MarkedWindows.{window-tests}
+use Rattle.thread.proofs.ThreadSteps.{ThreadStep, moved, sets-step, goes-step, continues-step, suspends-step, yields-step, loads-parameter-step, loads-step, stores-step}
+use Rattle.machine.specs.State.{Job, State, threadAt}
+use Rattle.machine.specs.Update.{setSlot, setMemory}
+use Rattle.machine.specs.Turn.{turnAt, effectAt, wordAt, done, goesOn}
+use Rattle.machine.specs.Sound.{GoodJob, Sound, Used, sizeAt}
+use Rattle.simulation.proofs.Operands.{EffectInFrame}
+use Rattle.simulation.proofs.JobCode.{weightIn, codeOf}
+use Rattle.simulation.proofs.StatePool.{threadOf, linkOf, cellOf, cellsOf, poolOf, cell-used, used-below, cells-change}
+use Rattle.simulation.proofs.NextCommand.{weight-here, next-here, effect-here, effect-range}
+
+-- a store into one frame leaves a frame apart from it
+pub frame-apart : (ws : List ℕ) (b n d v b' n' : ℕ) → d < n → (b + n ≤ b') ⊎ (b' + n' ≤ b) → frame (set ws (b + d) v) b' n' ≡ frame ws b' n'
+frame-apart ws b n d v b' n' h a = frame-other ws (b + d) v b' n' (λ k l e. ⊎-elim (λ x. omega arith) (λ x. omega arith) a)
+
+-- a used thread's frame lies within the words
+pub frame-within : (j : Job) (s : State) → Sound j s → (t : ℕ) → Used s t → threadAt s t .base + sizeAt j s t ≤ length (s .words)
+frame-within j s ok t u =
+    let a = ok .frames .under t u in
+    let b = ok .frames .most (threadAt s t .base / 64) in
+    let c = ok .frames .bounded t u in
+    let d = ok .sized .words in
+    omega arith
+
+-- one thread goes on: the step, as a step between the two states' pools
+module _ (j : Job) (good : GoodJob j) (s : State) (ok : Sound j s) (c t : ℕ) (in-use : Used s t) where
+  abbrev h : Thread
+  h = threadAt s t
+
+  -- the thread to the theory
+  abbrev pub here : ThreadState Window
+  here = threadOf j (s .words) h
+
+  -- a step of thread t
+  abbrev pub StepsTo : State → Type 0
+  StepsTo s' = ThreadStep windows window-tests (codeOf j good) t (poolOf j s) (poolOf j s')
+
+  pub cell-here : poolOf j s .cell t ≡ used here (linkOf h)
+  cell-here = cell-used j (s .words) h in-use
+
+  pub thread-below : t < length (s .threads)
+  thread-below = used-below (s .threads) t in-use
+
+  pub units-here : s .units + weightIn j (h .routine) (h .position) ≡ s .units + turnAt j s c t .weight
+  units-here = ap (λ z. s .units + z) (weight-here j good s (ok .placed) t in-use)
+
+  pub position-here : codeOf j good .next (h .routine) (h .position) ≡ turnAt j s c t .next
+  position-here = next-here j good s (ok .placed) t in-use
+
+  pub effect-met : (e : Effect) → effectAt j s h ≡ e → effect windows window-tests (codeOf j good) here ≡ e
+  effect-met e met = effect-here j good s (ok .placed) t in-use ∙ met
+
+  pub effect-slots : (e : Effect) → effectAt j s h ≡ e → EffectInFrame (j .image) (sizeAt j s t) e
+  effect-slots e met = subst (EffectInFrame (j .image) (sizeAt j s t)) met (effect-range j good s (ok .placed) t in-use)
+
+  pub effect-tested : (e : Effect) → effectAt j s h ≡ e → Facts (argumentsOf (j .image)) (view windows window-tests here) e
+  effect-tested e met = subst (Facts (argumentsOf (j .image)) (view windows window-tests here)) (effect-met e met)
+      (effect-facts windows window-tests (codeOf j good) here)
+
+  -- the pool in which thread t alone is another, by its record and words
+  pub own-cells : (ws : List ℕ) (h' : Thread) (q : ThreadState Window)
+      → ((u : ℕ) → ¬ (u ≡ t) → Used s u → frame ws (threadAt s u .base) (sizeAt j s u) ≡ frame (s .words) (threadAt s u .base) (sizeAt j s u))
+      → cellOf j ws h' ≡ used q (linkOf h)
+      → update (poolOf j s .cell) t (used q (linkOf h)) ≡ cellsOf j ws (set (s .threads) t h')
+  own-cells ws h' q others own = sym (cells-change j (s .words) ws (s .threads) t h' thread-below others ∙ ap (update (poolOf j s .cell) t) own)
+
+  -- slot d becomes v
+  slot-cell : (d v : ℕ) → d < sizeAt j s t
+      → cellOf j (set (s .words) (h .base + d) v) (movedTo (turnAt j s c t .next) h)
+      ≡ used (onward (codeOf j good) here (update (here .slots) d v)) (linkOf h)
+  slot-cell d v l = cell-used j (set (s .words) (h .base + d) v) (movedTo (turnAt j s c t .next) h) in-use
+      ∙ (λ ι. used (record {
+        routine = h .routine;
+        position = sym position-here ι;
+        slots = frame-own (s .words) (h .base) (sizeAt j s t) d v l (frame-within j s ok t in-use) ι;
+        pending = isPending (h .pending);
+        window = h .window;
+      }) (linkOf h))
+
+  slot-step : (d v : ℕ) → d < sizeAt j s t
+      → ThreadStep windows window-tests (codeOf j good) t (poolOf j s)
+      (moved windows window-tests (codeOf j good) (poolOf j s) t here (linkOf h) cell-here (onward (codeOf j good) here (update (here .slots) d v)))
+      → StepsTo (goesOn (turnAt j s c t) (setSlot h d v s))
+  slot-step d v l step = subst (ThreadStep windows window-tests (codeOf j good) t (poolOf j s)) (λ ι. record {
+    cell = own-cells (set (s .words) (h .base + d) v) (movedTo (turnAt j s c t .next) h) (onward (codeOf j good) here (update (here .slots) d v))
+        (λ u n k. frame-apart (s .words) (h .base) (sizeAt j s t) d v (threadAt s u .base) (sizeAt j s u) l
+        (ok .frames .apart t u in-use k (λ e. n (sym e)))) (slot-cell d v l) ι;
+    words = words-from 32 (s .memory);
+    units = units-here ι;
+  }) step
+
+  -- 01, 02, 03
+  pub sets-goes : (d v : ℕ) → effectAt j s h ≡ Sets d v → StepsTo (goesOn (turnAt j s c t) (setSlot h d v s))
+  sets-goes d v met = slot-step d v (effect-slots (Sets d v) met)
+      (sets-step windows window-tests (codeOf j good) (poolOf j s) t here (linkOf h) cell-here d v (effect-met (Sets d v) met))
+
+  -- 04
+  pub loads-goes : (d a : ℕ) → effectAt j s h ≡ Loads d a → StepsTo (goesOn (turnAt j s c t) (setSlot h d (wordAt j s a) s))
+  loads-goes d a met = go (decLt a 32)
+    where
+      word : (o : Dec (32 ≤ a)) → 32 ≤ a → ite o (getD (s .memory) (a - 32) 0) 0 ≡ getD (s .memory) (a - 32) 0
+      word (yes _) l = refl
+      word (no x) l = absurd (x l)
+
+      go : Dec (a < 32) → StepsTo (goesOn (turnAt j s c t) (setSlot h d (wordAt j s a) s))
+      go (yes l) = rw (lt-ltb a 32 l) (slot-step d (getD (j .parameters) a 0) (effect-slots (Loads d a) met)
+          (loads-parameter-step windows window-tests (codeOf j good) (poolOf j s) t here (linkOf h) cell-here d a (effect-met (Loads d a) met) l))
+      go (no l) = rw (le-ltb a 32 (omega arith)) (slot-step d (getD (s .memory) (a - 32) 0) (effect-slots (Loads d a) met)
+          (subst (λ v. ThreadStep windows window-tests (codeOf j good) t (poolOf j s)
+          (moved windows window-tests (codeOf j good) (poolOf j s) t here (linkOf h) cell-here (onward (codeOf j good) here (update (here .slots) d v))))
+          (word (decLe 32 a) (omega arith))
+          (loads-step windows window-tests (codeOf j good) (poolOf j s) t here (linkOf h) cell-here d a (effect-met (Loads d a) met) (omega arith))))
+
+  -- the thread goes on and its slots stay
+  onward-cell : cellOf j (s .words) (movedTo (turnAt j s c t .next) h) ≡ used (onward (codeOf j good) here (here .slots)) (linkOf h)
+  onward-cell = cell-used j (s .words) (movedTo (turnAt j s c t .next) h) in-use
+      ∙ (λ ι. used (record {
+        routine = h .routine;
+        position = sym position-here ι;
+        slots = here .slots;
+        pending = isPending (h .pending);
+        window = h .window;
+      }) (linkOf h))
+
+  onward-step : ThreadStep windows window-tests (codeOf j good) t (poolOf j s)
+      (moved windows window-tests (codeOf j good) (poolOf j s) t here (linkOf h) cell-here (onward (codeOf j good) here (here .slots)))
+      → StepsTo (goesOn (turnAt j s c t) s)
+  onward-step step = subst (ThreadStep windows window-tests (codeOf j good) t (poolOf j s)) (λ ι. record {
+    cell = own-cells (s .words) (movedTo (turnAt j s c t .next) h) (onward (codeOf j good) here (here .slots)) (λ u n k. refl) onward-cell ι;
+    words = words-from 32 (s .memory);
+    units = units-here ι;
+  }) step
+
+  -- 06 where the slot is not 0; 0B and 0C as far as the thread goes on
+  pub continues-goes : effectAt j s h ≡ Continues → StepsTo (goesOn (turnAt j s c t) s)
+  continues-goes met = onward-step
+      (continues-step windows window-tests (codeOf j good) (poolOf j s) t here (linkOf h) cell-here (effect-met Continues met))
+
+  pub suspends-goes : effectAt j s h ≡ Suspends → StepsTo (goesOn (turnAt j s c t) s)
+  suspends-goes met = onward-step
+      (suspends-step windows window-tests (codeOf j good) (poolOf j s) t here (linkOf h) cell-here (effect-met Suspends met))
+
+  pub yields-goes : effectAt j s h ≡ Yields → StepsTo (goesOn (turnAt j s c t) s)
+  yields-goes met = onward-step
+      (yields-step windows window-tests (codeOf j good) (poolOf j s) t here (linkOf h) cell-here (effect-met Yields met))
+
+  -- 05
+  pub stores-goes : (a v : ℕ) → effectAt j s h ≡ Stores a v → StepsTo (goesOn (turnAt j s c t) (setMemory a v s))
+  stores-goes a v met = subst (ThreadStep windows window-tests (codeOf j good) t (poolOf j s)) (λ ι. record {
+    cell = own-cells (s .words) (movedTo (turnAt j s c t .next) h) (onward (codeOf j good) here (here .slots)) (λ u n k. refl) onward-cell ι;
+    words = sym (words-set 32 (s .memory) a v (place .0) (omega (arith, place .1, ok .sized .memory))) ι;
+    units = units-here ι;
+  }) (stores-step windows window-tests (codeOf j good) (poolOf j s) t here (linkOf h) cell-here a v (effect-met (Stores a v) met))
+    where
+      place : (32 ≤ a) × (a < 1024)
+      place = store-in-memory (h .window) a (ok .windows .fits t in-use) (effect-tested (Stores a v) met)
+
+  -- 07, and 06 where the slot is 0
+  pub goes-goes : (p : ℕ) → effectAt j s h ≡ Goes p → StepsTo (done (turnAt j s c t) (movedTo p h) s)
+  goes-goes p met = subst (ThreadStep windows window-tests (codeOf j good) t (poolOf j s)) (λ ι. record {
+    cell = own-cells (s .words) (movedTo p h) (at-target here p) (λ u n k. refl) (cell-used j (s .words) (movedTo p h) in-use) ι;
+    words = words-from 32 (s .memory);
+    units = units-here ι;
+  }) (goes-step windows window-tests (codeOf j good) (poolOf j s) t here (linkOf h) cell-here p (effect-met (Goes p) met))

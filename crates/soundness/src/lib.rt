@@ -1,0 +1,1 @@
+// Proofs only: every entry keeps a sound state sound. The theorems stand under proofs/.
