@@ -42,7 +42,7 @@ use Rattle.simulation.proofs.ForkStep.{Room, room-above, room-free, lfo
 use Rattle.simulation.proofs.ReturnStep.{ResultsInFrame, returns, root-cell, returns-goes}
 use Rattle.simulation.proofs.SamePool.{used-set, runs-pool, leaves-pool, enable-pool}
 use Rattle.simulation.proofs.FaultNumbers.{fault-number}
-use Rattle.simulation.proofs.EntryCases.{Waits, Stepped, Seeded, Chosen, above, onFree, Forked, Cases, entry-by}
+use Rattle.soundness.proofs.EntryCases.{Waits, Stepped, Seeded, Chosen, above, onFree, Forked, Cases, entry-by}
 
 module _ (j : Job) (good : GoodJob j) (s : State) where
   -- an accepted entry that the pool does not see: a take, an enable, a join that waits

@@ -11,7 +11,6 @@ pub mod JoinStep
 pub mod ForkStep
 pub mod ReturnStep
 pub mod SamePool
-pub mod EntryCases
 pub mod FaultNumbers
 pub mod EntryMoves
 pub mod ResultSlots

@@ -32,7 +32,7 @@ use Rattle.simulation.proofs.StatePool.{InUse, used-below}
 use Rattle.simulation.proofs.OwnSteps.{effect-slots, effect-tested}
 use Rattle.simulation.proofs.ReturnStep.{ResultsInFrame, above}
 use Rattle.simulation.proofs.SamePool.{used-set}
-use Rattle.simulation.proofs.EntryCases.{Stepped, Forked, Cases, entry-by}
+use Rattle.soundness.proofs.EntryCases.{Stepped, Forked, Cases, entry-by}
 use Rattle.simulation.proofs.EntryMoves.{stepped-used, seeded-used, waits-used, parent-used}
 
 -- one record is put in: its own result slot is good, and its routine is the same if it has children

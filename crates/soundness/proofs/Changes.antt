@@ -1,8 +1,7 @@
 -- What a rule does to the thread table: it changes no record, one, or two. A relation between each thread's records before and after
 -- is shown at the changed threads, and of the other threads' records and themselves (`one-changed`, `two-changed`). Assumes nothing.
 use mathlib.Core.Bool.{Bool}
-use mathlib.Core.List.{List}
-use mathlib.Core.Path.{_≡_, refl, sym, _∙_, ap, subst}
+use mathlib.Core.Path.{_≡_, sym, _∙_, ap, subst}
 use Prim.Native.Nat.{ℕ, _<_, _≤_}
 use native.Mathlib.Decide.{ℕ-discrete, decLt}
 use native.Mathlib.Omega.{arith}
@@ -13,7 +12,7 @@ use Rattle.thread.specs.declared.Status.{Status}
 use Rattle.thread.specs.declared.Status.the-variants.{Free, Running, Ready, Suspended, Waiting, Lent}
 use Rattle.thread.specs.Thread.{blankThread, statusNumber}
 use Rattle.machine.specs.State.{State, threadAt}
-use Rattle.machine.specs.Sound.{statusAt, Used}
+use Rattle.machine.specs.Sound.{Used}
 
 -- fields of thread t's record
 abbrev pub connectedAt : State → ℕ → Bool
@@ -50,7 +49,10 @@ used-below s t h = go (decLt t (length (s .threads)))
   where
     go : Dec (t < length (s .threads)) → t < length (s .threads)
     go (yes l) = l
-    go (no n) = absurd (let e : threadAt s t ≡ blankThread = List·getD-eq-default (s .threads) blankThread (omega arith) in let z = ap standing e in omega arith)
+    go (no n) =
+        let e : threadAt s t ≡ blankThread = List·getD-eq-default (s .threads) blankThread (omega arith) in
+        let z = ap standing e in
+        absurd (omega arith)
 
 pub used-low : (s : State) → length (s .threads) ≡ 32 → (t : ℕ) → Used s t → t < 32
 used-low s many t h = let z = used-below s t h in omega arith
@@ -73,12 +75,14 @@ module _ (s s' : State) (Q : ℕ → Thread → Thread → Type 0) where
       → s' .threads ≡ set (set (s .threads) a A) b B
       → ((u : ℕ) → ¬ (u ≡ a) → ¬ (u ≡ b) → Q u (threadAt s u) (threadAt s u)) → Q a (threadAt s a) A → Q b (threadAt s b) B
       → (u : ℕ) → Q u (threadAt s u) (threadAt s' u)
-  two-changed a A b B l m d e same new new' u = subst (λ ts. Q u (threadAt s u) (getD ts u blankThread)) (sym e) (go (ℕ-discrete u b) (ℕ-discrete u a))
+  two-changed a A b B l m d e same new new' u = subst (λ ts. Q u (threadAt s u) (getD ts u blankThread)) (sym e)
+      (go (ℕ-discrete u b) (ℕ-discrete u a))
     where
       go : Dec (u ≡ b) → Dec (u ≡ a) → Q u (threadAt s u) (getD (set (set (s .threads) a A) b B) u blankThread)
       go (yes q) _ = subst (λ v. Q v (threadAt s v) (getD (set (set (s .threads) a A) b B) v blankThread)) (sym q)
           (subst (Q b (threadAt s b)) (sym (getD-set-same (set (s .threads) a A) b B blankThread (rw length-set m))) new')
       go (no n) (yes q) = subst (λ v. Q v (threadAt s v) (getD (set (set (s .threads) a A) b B) v blankThread)) (sym q)
-          (subst (Q a (threadAt s a)) (sym (getD-set-other (set (s .threads) a A) b a B blankThread d ∙ getD-set-same (s .threads) a A blankThread l)) new)
+          (subst (Q a (threadAt s a)) (sym (getD-set-other (set (s .threads) a A) b a B blankThread d
+          ∙ getD-set-same (s .threads) a A blankThread l)) new)
       go (no n) (no k) = subst (Q u (threadAt s u))
           (sym (getD-set-other (set (s .threads) a A) b u B blankThread n ∙ getD-set-other (s .threads) a u A blankThread k)) (same u k n)

@@ -1,12 +1,10 @@
 -- `Seats`, "running threads and cores match", after a change that gives one core another thread or none (`seats-move`), and after one
 -- that leaves the cores alone (`seats-same`). Assumes nothing.
-use mathlib.Core.List.{List}
-use mathlib.Core.Logic.{_⊎_, inl, inr, ⊎-elim}
-use mathlib.Core.Path.{_≡_, refl, sym, _∙_, ap}
+use mathlib.Core.Path.{_≡_, sym, _∙_, ap}
 use Prim.Native.Nat.{ℕ, _<_, _≤_}
 use native.Mathlib.Decide.{ℕ-discrete}
 use native.Mathlib.Omega.{arith}
-use lib.ListN.{getD, set, length}
+use lib.ListN.{set, length}
 use lib.Seq.{getD-set-same, getD-set-other}
 use Rattle.thread.specs.declared.Thread.{Thread}
 use Rattle.thread.specs.Thread.{none}
@@ -52,7 +50,8 @@ module _ (s s' : State) (ok : Seats s) (wide : s .count ≤ length (s .cores)) (
     one = λ d e m n. one d e (rw count at m) (rw count at n) (ℕ-discrete d c) (ℕ-discrete e c);
   }
     where
-      other : (d : ℕ) → d < s .count → ¬ (d ≡ c) → onCore s d < none → Seat (onCore s c) x (onCore s d) (threadAt s (onCore s d)) (threadAt s' (onCore s d)) → statusAt s' (onCore s d) ≡ 1
+      other : (d : ℕ) → d < s .count → ¬ (d ≡ c) → onCore s d < none
+          → Seat (onCore s c) x (onCore s d) (threadAt s (onCore s d)) (threadAt s' (onCore s d)) → statusAt s' (onCore s d) ≡ 1
       other d m n k (came e) = rw e (runs-x (rw e at k))
       other d m n k (went e _) = absurd (n (ok .one d c m l k e))
       other d m n k (sits _ f) = f .to (ok .runs d m k)
@@ -74,10 +73,13 @@ module _ (s s' : State) (ok : Seats s) (wide : s .count ≤ length (s .cores)) (
       one : (d e : ℕ) → d < s .count → e < s .count → Dec (d ≡ c) → Dec (e ≡ c) → onCore s' d < none → onCore s' d ≡ onCore s' e → d ≡ e
       one d e m n (yes p) (yes q) h k = p ∙ sym q
       one d e m n (yes p) (no q) h k = absurd (lone e n q (sym (on-there e q) ∙ sym k ∙ ap (onCore s') p ∙ on-here) (rw (p, on-here) at h))
-      one d e m n (no p) (yes q) h k = absurd (let z : onCore s' d ≡ x = k ∙ ap (onCore s') q ∙ on-here in lone d m p (sym (on-there d p) ∙ z) (rw z at h))
+      one d e m n (no p) (yes q) h k =
+          let z : onCore s' d ≡ x = k ∙ ap (onCore s') q ∙ on-here in
+          absurd (lone d m p (sym (on-there d p) ∙ z) (rw z at h))
       one d e m n (no p) (no q) h k = ok .one d e m n (rw (on-there d p) at h) (sym (on-there d p) ∙ k ∙ on-there e q)
 
-pub seats-same : (s s' : State) → Seats s → s' .cores ≡ s .cores → s' .count ≡ s .count → ((u : ℕ) → Same 1 (threadAt s u) (threadAt s' u)) → Seats s'
+pub seats-same : (s s' : State) → Seats s → s' .cores ≡ s .cores → s' .count ≡ s .count → ((u : ℕ) → Same 1 (threadAt s u) (threadAt s' u))
+    → Seats s'
 seats-same s s' ok cores count view = record {
   runs = λ c l h. rw cores (view _ .to (ok .runs c (rw count at l) (rw cores at h)));
   seated = λ t e. rw (count, cores) (ok .seated t (view t .from e));

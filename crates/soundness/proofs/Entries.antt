@@ -1,83 +1,26 @@
 -- What an entry may do to a state, once for every property P of states: where P holds after each of these changes (`Kept`), it holds
 -- after any entry, whatever its log byte (`entry-by`). Assumes nothing.
-use mathlib.Core.Bool.{Bool, true, false, cond, _&&_, _||_, not}
-use mathlib.Core.List.{List, [], _∷_}
-use mathlib.Core.Logic.{_⊎_, inl, inr, ⊎-elim}
-use mathlib.Core.Path.{_≡_, refl, sym, _∙_}
-use Prim.Native.Nat.{ℕ, _+_, _-_, _/_, _<_, _≤_}
-use native.Mathlib.Omega.{arith}
-use lib.Dec.{ltb, leb, eqb}
-use borrow.Author.Tests.{eqb-true, ltb-true, ltb-false, leb-false}
+use mathlib.Core.List.{List}
+use mathlib.Core.Logic.{_⊎_, ⊎-elim}
+use mathlib.Core.Path.{_≡_}
+use Prim.Native.Nat.{ℕ, _-_, _<_}
 use Rattle.schedule.specs.declared.Entry.{Entry}
-use Rattle.schedule.specs.declared.Entry.the-variants.{Step, Take, Steal, Enable}
-use Rattle.thread.specs.declared.Effect.{Effect}
 use Rattle.thread.specs.declared.Effect.the-variants.{Faults, Sets, Loads, Stores, Goes, Continues, Lforks, Forks, Joins, Suspends, Yields, Returns}
-use Rattle.thread.specs.declared.Status.the-variants.{Ready, Suspended, Waiting, Lent}
-use Rattle.thread.specs.declared.Thread.{Thread}
-use Rattle.thread.specs.Thread.{movedTo, joinedAt, withStatus, none, _is_}
-use Rattle.machine.specs.declared.ForkKind.{ForkKind}
+use Rattle.thread.specs.declared.Status.the-variants.{Ready, Suspended, Waiting}
+use Rattle.thread.specs.Thread.{movedTo, joinedAt, withStatus, _is_}
 use Rattle.machine.specs.declared.ForkKind.the-variants.{Called, Queued, Stolen}
-use Rattle.machine.specs.State.{Job, State, After, Outcome, going, finished, faulted, isOver, threadAt, onCore, isBusy}
+use Rattle.machine.specs.State.{Job, State, going, faulted, threadAt}
 use Rattle.machine.specs.Update.{setThread, setReady, setSlot, setMemory, setOutcome, enqueueReady, refused}
-use Rattle.machine.specs.Turn.{Turn, turnAt, byteOf, offsetOf, effectAt, tooDear, waits, wordAt, done, goesOn}
+use Rattle.machine.specs.Turn.{turnAt, offsetOf, effectAt, wordAt, done, goesOn}
 use Rattle.machine.specs.Leave.{runs, leaves}
-use Rattle.machine.specs.Fork.{Asked, asked, goesAbove, Place, onStacklet, nowhere, placeOf, born, forkOn, forkWith, forkOf}
+use Rattle.machine.specs.Fork.{asked, born}
 use Rattle.machine.specs.Return.{returnOf}
-use Rattle.machine.specs.Rules.{carriedOf, turnOf, stepOf, takeInto, takeOf, isSeed, stolenOf, stealOf, enableOf, entryOf}
-use Rattle.machine.specs.Sound.{statusAt}
+use Rattle.machine.specs.Rules.{entryOf}
+pub use Rattle.soundness.proofs.EntryCases.{Waits, Stepped, Seeded, Chosen, above, onFree, Forked, Taken, Enabled, Seed, seed-true, not-over, and-true, or-true}
+use Rattle.soundness.proofs.EntryCases.{Cases}
+use Rattle.soundness.proofs.EntryCases as cases
 
--- WHAT IS KNOWN where a change is met. Thread t on core c meets a join that waits
-pub record Waits (j : Job) (s : State) (c t : ℕ) : Type 0 where
-  pub ongoing : s .outcome ≡ going
-  pub core : c < s .count
-  pub seat : onCore s c ≡ t
-  pub low : t < 32
-  pub byte : byteOf j (threadAt s t) ≡ 10
-  pub children : 0 < threadAt s t .children
-
--- thread t on core c carries out its next command
-pub record Stepped (j : Job) (s : State) (c t : ℕ) : Type 0 where
-  pub ongoing : s .outcome ≡ going
-  pub core : c < s .count
-  pub seat : onCore s c ≡ t
-  pub low : t < 32
-  pub passes : waits j (threadAt s t) ≡ false
-  pub paid : turnAt j s c t .weight ≤ j .allowance - s .units
-
--- the next command of lent thread t, an 08 or 09, is carried out as a seed for idle core c
-pub record Seeded (j : Job) (s : State) (c t : ℕ) : Type 0 where
-  pub ongoing : s .outcome ≡ going
-  pub core : c < s .count
-  pub idle : none ≤ onCore s c
-  pub low : t < 32
-  pub lent : statusAt s t ≡ 5
-  pub byte : (byteOf j (threadAt s t) ≡ 8) ⊎ (byteOf j (threadAt s t) ≡ 9)
-  pub paid : turnAt j s c t .weight ≤ j .allowance - s .units
-
--- the stacklet x of a new frame, and the free stacklets xs that are left
-pub data Chosen (j : Job) (s : State) (kind : ForkKind) (h : Thread) (r x : ℕ) (xs : List ℕ) : Type 0 where
-  above : goesAbove j s kind h r ≡ true → x ≡ h .base / 64 → xs ≡ s .freeStacklets → Chosen j s kind h r x xs
-  onFree : goesAbove j s kind h r ≡ false → s .freeStacklets ≡ x ∷ xs → Chosen j s kind h r x xs
-
--- a fork has the thread number n and the stacklet x for its child
-pub record Forked (j : Job) (s : State) (kind : ForkKind) (h : Thread) (r n : ℕ) (ns : List ℕ) (x : ℕ) (xs : List ℕ) : Type 0 where
-  pub number : s .freeThreads ≡ n ∷ ns
-  pub place : Chosen j s kind h r x xs
-
--- idle core c takes t, the head of the ready queue
-pub record Taken (s : State) (c t : ℕ) (ts : List ℕ) : Type 0 where
-  pub ongoing : s .outcome ≡ going
-  pub core : c < s .count
-  pub idle : none ≤ onCore s c
-  pub head : s .ready ≡ t ∷ ts
-
--- suspended thread t is enabled
-pub record Enabled (s : State) (t : ℕ) : Type 0 where
-  pub ongoing : s .outcome ≡ going
-  pub low : t < 32
-  pub suspended : statusAt s t ≡ 3
-
--- THE CHANGES that an entry can make, and P after each
+-- the changes that an entry can make, and P after each
 pub record Kept (P : State → Type 0) (j : Job) (s : State) : Type 0 where
   -- refused: nothing changes
   pub unchanged : P s
@@ -116,167 +59,27 @@ pub record Kept (P : State → Type 0) (j : Job) (s : State) : Type 0 where
       → P (born j s Stolen (turnAt j s c t) (asked r d a e) n ns x xs)
   pub enables : (t : ℕ) → Enabled s t → P (enqueueReady t (setThread t (withStatus Ready (threadAt s t)) s))
 
--- a machine that is not over is going
-pub not-over : (o : Outcome) → isOver o ≡ false → o ≡ going
-not-over going e = refl
-not-over (finished v) e = absurd (let z : _≡_ {A = ℕ} 0 1 = cc in omega arith)
-not-over (faulted n t o) e = absurd (let z : _≡_ {A = ℕ} 0 1 = cc in omega arith)
-
-pub and-true : (a b : Bool) → (a && b) ≡ true → (a ≡ true) × (b ≡ true)
-and-true true b h = (refl, h)
-and-true false b h = absurd (let z : _≡_ {A = ℕ} 0 1 = cc in omega arith)
-
-pub or-true : (a b : Bool) → (a || b) ≡ true → (a ≡ true) ⊎ (b ≡ true)
-or-true true b h = inl refl
-or-true false b h = inr h
-
 module _ (P : State → Type 0) (j : Job) (s : State) (kept : Kept P j s) where
-  -- FORKS of any kind: 20, 21 or a child
-  fork-by : (kind : ForkKind) (o : Turn) (f : Asked)
-      → ((n : ℕ) (ns : List ℕ) (x : ℕ) (xs : List ℕ) → Forked j s kind (o .thread) (f .routine) n ns x xs → P (born j s kind o f n ns x xs))
-      → P (forkOf j s kind o f .state)
-  unfolding forkOf forkWith forkOn placeOf
-  fork-by kind o f make = with-number (s .freeThreads) refl
-    where
-      on-place : (n : ℕ) (ns : List ℕ) → s .freeThreads ≡ n ∷ ns → (b : Bool) → goesAbove j s kind (o .thread) (f .routine) ≡ b
-          → (ys : List ℕ) → s .freeStacklets ≡ ys → P (forkOn j s kind o f n ns (placeOf b (o .thread .base / 64) ys) .state)
-      on-place n ns e true g ys q = make n ns (o .thread .base / 64) ys (record { number = e; place = above g refl (sym q) })
-      on-place n ns e false g [] q = kept .unchanged
-      on-place n ns e false g (y ∷ ys) q = make n ns y ys (record { number = e; place = onFree g q })
+  each : Cases (λ a. P (a .state)) j s
+  each = record {
+    refuses = λ n l m. kept .unchanged;
+    fault = λ c t k n e. ⊎-elim (λ h. kept .fault t n (h .ongoing) (h .low) e) (λ h. kept .fault t n (h .ongoing) (h .low) e) k;
+    waiting = kept .waiting;
+    sets = kept .sets;
+    loads = kept .loads;
+    stores = kept .stores;
+    goes = kept .goes;
+    continues = kept .continues;
+    lforks = kept .lforks;
+    forks = kept .forks;
+    joins = kept .joins;
+    suspends = kept .suspends;
+    yields = kept .yields;
+    returns = kept .returns;
+    takes = kept .takes;
+    steals = kept .steals;
+    enables = kept .enables;
+  }
 
-      with-number : (ns : List ℕ) → s .freeThreads ≡ ns → P (forkWith j s kind o f ns .state)
-      with-number [] e = kept .unchanged
-      with-number (n ∷ ns) e = on-place n ns e (goesAbove j s kind (o .thread) (f .routine)) refl (s .freeStacklets) refl
-
-  -- STEP, by the effect of the command met
-  carried-by : (c t : ℕ) → Stepped j s c t → (e : Effect) → effectAt j s (threadAt s t) ≡ e → P (carriedOf j s (turnAt j s c t) e .state)
-  unfolding carriedOf
-  carried-by c t k (Faults n) e = kept .fault t n (k .ongoing) (k .low) e
-  carried-by c t k (Sets d v) e = kept .sets c t k d v e
-  carried-by c t k (Loads d a) e = kept .loads c t k d a e
-  carried-by c t k (Stores a v) e = kept .stores c t k a v e
-  carried-by c t k (Goes p) e = kept .goes c t k p e
-  carried-by c t k Continues e = kept .continues c t k e
-  carried-by c t k (Lforks r d a w) e = fork-by Called (turnAt j s c t) (asked r d a w) (λ n ns x xs. kept .lforks c t k r d a w e n ns x xs)
-  carried-by c t k (Forks r d a w) e = fork-by Queued (turnAt j s c t) (asked r d a w) (λ n ns x xs. kept .forks c t k r d a w e n ns x xs)
-  carried-by c t k Joins e = kept .joins c t k e
-  carried-by c t k Suspends e = kept .suspends c t k e
-  carried-by c t k Yields e = kept .yields c t k e
-  carried-by c t k (Returns v) e = kept .returns c t k v e
-
-  step-by : (c : ℕ) → P (stepOf j s c .state)
-  unfolding stepOf turnOf
-  step-by c = go (isOver (s .outcome)) refl (leb (s .count) c) refl (isBusy s c) refl (waits j (threadAt s (onCore s c))) refl
-      (tooDear j s (turnAt j s c (onCore s c))) refl
-    where
-      go : (x : Bool) → isOver (s .outcome) ≡ x → (y : Bool) → leb (s .count) c ≡ y → (z : Bool) → isBusy s c ≡ z
-          → (v : Bool) → waits j (threadAt s (onCore s c)) ≡ v → (b : Bool) → tooDear j s (turnAt j s c (onCore s c)) ≡ b
-          → P (cond x (refused 19 s) (cond y (refused 14 s) (cond (not z) (refused 15 s)
-          (cond v (record { state = leaves c (onCore s c) Waiting s; log = 0 }) (cond b (refused 22 s)
-          (carriedOf j s (turnAt j s c (onCore s c)) (effectAt j s (threadAt s (onCore s c)))))))) .state)
-      go true _ y _ z _ v _ b _ = kept .unchanged
-      go false e true _ z _ v _ b _ = kept .unchanged
-      go false e false f false _ v _ b _ = kept .unchanged
-      go false e false f true g true h b _ = let w = and-true (eqb (byteOf j (threadAt s (onCore s c))) 10) (ltb 0 (threadAt s (onCore s c) .children)) h in
-          kept .waiting c (onCore s c) (record {
-            ongoing = not-over _ e;
-            core = leb-false _ _ f;
-            seat = refl;
-            low = ltb-true _ _ g;
-            byte = eqb-true _ _ (w .0);
-            children = ltb-true _ _ (w .1);
-          })
-      go false e false f true g false h true _ = kept .unchanged
-      go false e false f true g false h false k =
-          carried-by c (onCore s c) (record {
-            ongoing = not-over _ e;
-            core = leb-false _ _ f;
-            seat = refl;
-            low = ltb-true _ _ g;
-            passes = h;
-            paid = ltb-false _ _ k;
-          }) _ refl
-
-  -- TAKE
-  take-by : (c : ℕ) → P (takeOf s c .state)
-  unfolding takeOf takeInto
-  take-by c = go (isOver (s .outcome)) refl (leb (s .count) c) refl (isBusy s c) refl
-    where
-      into : s .outcome ≡ going → c < s .count → none ≤ onCore s c → (ts : List ℕ) → s .ready ≡ ts → P (takeInto s c ts .state)
-      into o l i [] e = kept .unchanged
-      into o l i (t ∷ ts) e = kept .takes c t ts (record { ongoing = o; core = l; idle = i; head = e })
-
-      go : (x : Bool) → isOver (s .outcome) ≡ x → (y : Bool) → leb (s .count) c ≡ y → (z : Bool) → isBusy s c ≡ z
-          → P (cond x (refused 19 s) (cond y (refused 14 s) (cond z (refused 15 s) (takeInto s c (s .ready)))) .state)
-      go true _ y _ z _ = kept .unchanged
-      go false e true _ z _ = kept .unchanged
-      go false e false f true _ = kept .unchanged
-      go false e false f false g = into (not-over _ e) (leb-false _ _ f) (ltb-false _ _ g) (s .ready) refl
-
-  -- STEAL
-  stolen-by : (c t : ℕ) → Seeded j s c t → (e : Effect) → effectAt j s (threadAt s t) ≡ e → P (stolenOf j s (turnAt j s c t) e .state)
-  unfolding stolenOf
-  stolen-by c t k (Faults n) e = kept .fault t n (k .ongoing) (k .low) e
-  stolen-by c t k (Sets d v) e = kept .unchanged
-  stolen-by c t k (Loads d a) e = kept .unchanged
-  stolen-by c t k (Stores a v) e = kept .unchanged
-  stolen-by c t k (Goes p) e = kept .unchanged
-  stolen-by c t k Continues e = kept .unchanged
-  stolen-by c t k (Lforks r d a w) e = fork-by Stolen (turnAt j s c t) (asked r d a w) (λ n ns x xs. kept .steals c t k r d a w (inl e) n ns x xs)
-  stolen-by c t k (Forks r d a w) e = fork-by Stolen (turnAt j s c t) (asked r d a w) (λ n ns x xs. kept .steals c t k r d a w (inr e) n ns x xs)
-  stolen-by c t k Joins e = kept .unchanged
-  stolen-by c t k Suspends e = kept .unchanged
-  stolen-by c t k Yields e = kept .unchanged
-  stolen-by c t k (Returns v) e = kept .unchanged
-
-  steal-by : (c t : ℕ) → P (stealOf j s c t .state)
-  unfolding stealOf isSeed
-  steal-by c t = go (isOver (s .outcome)) refl (leb (s .count) c) refl (isBusy s c) refl (isSeed j s t) refl (tooDear j s (turnAt j s c t)) refl
-    where
-      seeded : isSeed j s t ≡ true → (t < 32) × (statusAt s t ≡ 5) × ((byteOf j (threadAt s t) ≡ 8) ⊎ (byteOf j (threadAt s t) ≡ 9))
-      seeded h =
-          let (a, b) = and-true (ltb t 32) (threadAt s t .status is Lent && (eqb (byteOf j (threadAt s t)) 8 || eqb (byteOf j (threadAt s t)) 9)) h in
-          let (d, e) = and-true (threadAt s t .status is Lent) (eqb (byteOf j (threadAt s t)) 8 || eqb (byteOf j (threadAt s t)) 9) b in
-          (ltb-true _ _ a, eqb-true _ _ d, ⊎-elim (λ z. inl (eqb-true _ _ z)) (λ z. inr (eqb-true _ _ z)) (or-true _ _ e))
-
-      go : (x : Bool) → isOver (s .outcome) ≡ x → (y : Bool) → leb (s .count) c ≡ y → (z : Bool) → isBusy s c ≡ z
-          → (v : Bool) → isSeed j s t ≡ v → (b : Bool) → tooDear j s (turnAt j s c t) ≡ b
-          → P (cond x (refused 19 s) (cond y (refused 14 s) (cond z (refused 15 s) (cond (not v) (refused 18 s) (cond b (refused 22 s)
-          (stolenOf j s (turnAt j s c t) (effectAt j s (threadAt s t))))))) .state)
-      go true _ y _ z _ v _ b _ = kept .unchanged
-      go false e true _ z _ v _ b _ = kept .unchanged
-      go false e false f true _ v _ b _ = kept .unchanged
-      go false e false f false g false _ b _ = kept .unchanged
-      go false e false f false g true h true _ = kept .unchanged
-      go false e false f false g true h false k =
-          let w = seeded h in
-          stolen-by c t (record {
-            ongoing = not-over _ e;
-            core = leb-false _ _ f;
-            idle = ltb-false _ _ g;
-            low = w .0;
-            lent = w .1;
-            byte = w .2;
-            paid = ltb-false _ _ k;
-          }) _ refl
-
-  -- ENABLE
-  enable-by : (t : ℕ) → P (enableOf s t .state)
-  unfolding enableOf
-  enable-by t = go (isOver (s .outcome)) refl (ltb t 32 && threadAt s t .status is Suspended) refl
-    where
-      go : (x : Bool) → isOver (s .outcome) ≡ x → (y : Bool) → (ltb t 32 && threadAt s t .status is Suspended) ≡ y
-          → P (cond x (refused 19 s) (cond (not y) (refused 17 s)
-          (record { state = enqueueReady t (setThread t (withStatus Ready (threadAt s t)) s); log = 0 })) .state)
-      go true _ y _ = kept .unchanged
-      go false e false _ = kept .unchanged
-      go false e true f = let w = and-true (ltb t 32) (threadAt s t .status is Suspended) f in
-          kept .enables t (record { ongoing = not-over _ e; low = ltb-true _ _ (w .0); suspended = eqb-true _ _ (w .1) })
-
-  -- ANY ENTRY
   pub entry-by : (e : Entry) → P (entryOf j s e .state)
-  unfolding entryOf
-  entry-by (Step c) = step-by c
-  entry-by (Take c) = take-by c
-  entry-by (Steal c t) = steal-by c t
-  entry-by (Enable t) = enable-by t
+  entry-by = cases.entry-by (λ a. P (a .state)) j s each

@@ -1,11 +1,11 @@
 -- A finished machine has no thread in use, and all 32 thread numbers stand in the free-thread queue. Assumes nothing but that the state
 -- is sound.
-use mathlib.Core.Path.{_≡_, refl}
-use Prim.Native.Nat.{ℕ, _<_, _≤_}
+use mathlib.Core.Path.{_≡_}
+use Prim.Native.Nat.{ℕ, _<_}
 use native.Mathlib.Omega.{arith}
 use lib.ListN.{length}
 use Rattle.machine.specs.Lists.{Member}
-use Rattle.machine.specs.State.{Job, State, Outcome, finished, threadAt}
+use Rattle.machine.specs.State.{Job, State, finished}
 use Rattle.machine.specs.Sound.{statusAt, Sound}
 use Rattle.soundness.proofs.Queues.{every-map, at-most, at-least}
 

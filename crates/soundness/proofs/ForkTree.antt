@@ -11,7 +11,7 @@ use lib.ListN.{length}
 use borrow.Author.Tests.{eqb-true, eqb-false, eq-eqb, ne-eqb}
 use Rattle.thread.specs.declared.Thread.{Thread}
 use Rattle.thread.specs.Thread.{none}
-use Rattle.machine.specs.State.{State, Outcome, finished, threadAt}
+use Rattle.machine.specs.State.{State, finished, threadAt}
 use Rattle.machine.specs.Sound.{statusAt, Used, isChild, childrenAmong, Tree}
 use Rattle.soundness.proofs.Changes.{standing, parentAt, childrenAt, used-low}
 
@@ -134,10 +134,12 @@ child-same s s' t u k = go (decLt 0 (statusAt s u))
   where
     go : Dec (0 < statusAt s u) → isChild s' t u ≡ isChild s t u
     go (yes h) = rw (ne-eqb (statusAt s u) 0 (λ z. omega arith), ne-eqb (statusAt s' u) 0 (let m = k .to h in λ z. omega arith), k .parent)
-    go (no n) = let e : statusAt s u ≡ 0 = omega arith in child-free s' t u (stays-free (threadAt s u) (threadAt s' u) k e) ∙ sym (child-free s t u e)
+    go (no n) = let e : statusAt s u ≡ 0 = omega arith in child-free s' t u (stays-free (threadAt s u) (threadAt s' u) k e)
+        ∙ sym (child-free s t u e)
 
 -- no thread starts or ends, and all counts stay
-pub tree-same : (s s' : State) → Tree s → (Unfinished s' → Unfinished s) → ((v : ℕ) → s' .outcome ≡ finished v → (w : ℕ) × (s .outcome ≡ finished w))
+pub tree-same : (s s' : State) → Tree s → (Unfinished s' → Unfinished s)
+    → ((v : ℕ) → s' .outcome ≡ finished v → (w : ℕ) × (s .outcome ≡ finished w))
     → ((u : ℕ) → Stays (threadAt s u) (threadAt s' u)) → ((u : ℕ) → childrenAt s' u ≡ childrenAt s u) → Tree s'
 tree-same s s' ok over over' view same = record {
   waits = λ t. view t .waits;
@@ -151,7 +153,8 @@ tree-same s s' ok over over' view same = record {
 }
 
 -- BIRTH of n, a child of t
-module _ (s s' : State) (ok : Tree s) (t n : ℕ) (used-t : Used s t) (free : statusAt s n ≡ 0) (low : n < 32) (over : Unfinished s) (over' : Unfinished s')
+module _ (s s' : State) (ok : Tree s) (t n : ℕ) (used-t : Used s t) (free : statusAt s n ≡ 0) (low : n < 32) (over : Unfinished s)
+    (over' : Unfinished s')
     (view : (u : ℕ) → ¬ (u ≡ n) → Stays (threadAt s u) (threadAt s' u))
     (more : childrenAt s' t ≡ childrenAt s t + 1) (same : (u : ℕ) → ¬ (u ≡ t) → ¬ (u ≡ n) → childrenAt s' u ≡ childrenAt s u)
     (used-n : Used s' n) (parent-n : parentAt s' n ≡ t) (none-n : childrenAt s' n ≡ 0) (awake-n : ¬ (statusAt s' n ≡ 4)) where
@@ -167,7 +170,8 @@ module _ (s s' : State) (ok : Tree s) (t n : ℕ) (used-t : Used s t) (free : st
     where
       go : (u : ℕ) → Dec (0 < isChild s n u) → isChild s n u ≡ 0
       go u (yes l) = let m = child-some s n u l in
-          absurd (⊎-elim (λ z. let a = z .1 in let b = m .1 in omega arith) (λ z. let y = z .1 in let x = ap (statusAt s) (m .1) in omega arith) (ok .tree u (m .0)))
+          absurd (⊎-elim (λ z. let a = z .1 in let b = m .1 in omega arith) (λ z. let y = z .1 in let x = ap (statusAt s) (m .1) in omega arith)
+          (ok .tree u (m .0)))
       go u (no l) = omega arith
 
   rankOf : (u : ℕ) → Dec (u ≡ n) → ℕ
@@ -230,13 +234,19 @@ module _ (s s' : State) (ok : Tree s) (t n : ℕ) (used-t : Used s t) (free : st
             rw (rank-old t (differs t used-t) (ℕ-discrete t n), rank-new u e (ℕ-discrete u n)) (omega arith),
           ))
       tree u h (no m) = let k = view u m in rw (k .parent) (⊎-elim (λ z. inl z)
-          (λ z. inr (z .0, view (parentAt s u) (differs _ (z .1)) .to (z .1), rw (rank-old (parentAt s u) (differs _ (z .1)) (ℕ-discrete (parentAt s u) n), rank-old u m (ℕ-discrete u n)) (z .2)))
+          (λ z. inr (
+            z .0,
+            view (parentAt s u) (differs _ (z .1)) .to (z .1),
+            rw (rank-old (parentAt s u) (differs _ (z .1)) (ℕ-discrete (parentAt s u) n), rank-old u m (ℕ-discrete u n)) (z .2),
+          ))
           (ok .tree u (k .from h)))
 
 -- THE END of t, a childless child of p
-module _ (s s' : State) (many : length (s .threads) ≡ 32) (ok : Tree s) (t p : ℕ) (used-t : Used s t) (used-p : Used s p) (parent-t : parentAt s t ≡ p) (childless : Childless s t)
+module _ (s s' : State) (many : length (s .threads) ≡ 32) (ok : Tree s) (t p : ℕ) (used-t : Used s t) (used-p : Used s p)
+    (parent-t : parentAt s t ≡ p) (childless : Childless s t)
     (over : Unfinished s) (over' : Unfinished s') (view : (u : ℕ) → ¬ (u ≡ t) → Stays (threadAt s u) (threadAt s' u))
-    (less : childrenAt s' p + 1 ≡ childrenAt s p) (same : (u : ℕ) → ¬ (u ≡ t) → ¬ (u ≡ p) → childrenAt s' u ≡ childrenAt s u) (gone : statusAt s' t ≡ 0) where
+    (less : childrenAt s' p + 1 ≡ childrenAt s p) (same : (u : ℕ) → ¬ (u ≡ t) → ¬ (u ≡ p) → childrenAt s' u ≡ childrenAt s u)
+    (gone : statusAt s' t ≡ 0) where
   lost : (v : ℕ) → childrenAmong s' v 32 + isChild s v t ≡ childrenAmong s v 32 + isChild s' v t
   lost v = among-one s s' v t 32 (used-low s many t used-t) (λ u m. child-same s s' v u (view u m))
 
@@ -269,7 +279,8 @@ module _ (s s' : State) (many : length (s .threads) ≡ 32) (ok : Tree s) (t p :
           let g = same u m n in
           omega arith
 
-      tree : (u : ℕ) → Used s' u → ¬ (u ≡ t) → ((u ≡ 0) × (parentAt s' u ≡ none)) ⊎ ((¬ (u ≡ 0)) × Used s' (parentAt s' u) × (ok .rank (parentAt s' u) < ok .rank u))
+      tree : (u : ℕ) → Used s' u → ¬ (u ≡ t)
+          → ((u ≡ 0) × (parentAt s' u ≡ none)) ⊎ ((¬ (u ≡ 0)) × Used s' (parentAt s' u) × (ok .rank (parentAt s' u) < ok .rank u))
       tree u h m = let k = view u m in let g = k .from h in
           rw (k .parent) (⊎-elim (λ z. inl z) (λ z. inr (z .0, view (parentAt s u) (childless u g) .to (z .1), z .2)) (ok .tree u g))
 

@@ -1,15 +1,15 @@
 -- The six parts of soundness that are about threads, cores and queues, together (`Held`), with the table sizes they need; and what is
 -- left to show of a change that starts and ends no thread (`held-living`). Assumes nothing.
 use mathlib.Core.List.{List}
-use mathlib.Core.Logic.{_⊎_, inl, inr}
-use mathlib.Core.Path.{_≡_, refl, sym, _∙_}
+use mathlib.Core.Logic.{_⊎_, inr}
+use mathlib.Core.Path.{_≡_, refl}
 use Prim.Native.Nat.{ℕ, _<_, _≤_}
 use native.Mathlib.Decide.{decLt}
 use native.Mathlib.Omega.{arith}
 use lib.ListN.{length}
 use Rattle.thread.specs.declared.Thread.{Thread}
-use Rattle.machine.specs.State.{Job, State, threadAt, onCore}
-use Rattle.machine.specs.Sound.{statusAt, Used, Seats, Links, Turns, Tree, Results, FreeThreads, Sound}
+use Rattle.machine.specs.State.{Job, State, threadAt}
+use Rattle.machine.specs.Sound.{Seats, Links, Turns, Tree, Results, FreeThreads, Sound}
 use Rattle.soundness.proofs.Changes.{standing}
 use Rattle.soundness.proofs.CoreSeats.{Same}
 use Rattle.soundness.proofs.LineNumbers.{Lined, lined-same, lined-turns, lined-free, free-lined}
@@ -56,7 +56,8 @@ same-free h h' k = record { to = stays-free h h' k; from = λ e. go e (decLt 0 (
     go e (no n) = omega arith
 
 -- no thread starts or ends
-pub held-living : (s s' : State) → Held s → length (s' .threads) ≡ 32 → s' .count ≤ length (s' .cores) → s' .freeThreads ≡ s .freeThreads → Unfinished s → Unfinished s'
+pub held-living : (s s' : State) → Held s → length (s' .threads) ≡ 32 → s' .count ≤ length (s' .cores) → s' .freeThreads ≡ s .freeThreads
+    → Unfinished s → Unfinished s'
     → Seats s' → Links s' → (ready : List ℕ) → s' .ready ≡ ready → Lined 2 s' ready → ((u : ℕ) → Lives s u (threadAt s u) (threadAt s' u)) → Held s'
 held-living s s' ok many wide free over over' seats links ready line lined view = record {
   many = many;
@@ -66,5 +67,6 @@ held-living s s' ok many wide free over over' seats links ready line lined view 
   turns = lined-turns s' many ready line lined;
   tree = tree-same s s' (ok .tree) (λ o. over) (λ v e. absurd (over' v e)) (λ u. view u .stays) (λ u. view u .children);
   results = results-living s s' (ok .results) (λ u h. view u .stays) (λ u. view u .pends);
-  freeThreads = lined-free s' (s .freeThreads) free (lined-same 0 s s' (s .freeThreads) (free-lined s (ok .freeThreads)) (λ u. same-free (threadAt s u) (threadAt s' u) (view u .stays)));
+  freeThreads = lined-free s' (s .freeThreads) free (lined-same 0 s s' (s .freeThreads) (free-lined s (ok .freeThreads))
+      (λ u. same-free (threadAt s u) (threadAt s' u) (view u .stays)));
 }

@@ -1,14 +1,14 @@
 -- A sound machine does not jam: where every core's step and take are refused, the machine is over, or a thread is suspended (which an
 -- enable would make ready), or a step lacks a thread number, a stacklet or units (`jam`). Assumes nothing but that the state is sound.
 use mathlib.Core.Bool.{Bool, true, false}
-use mathlib.Core.List.{List, []}
+use mathlib.Core.List.{[]}
 use mathlib.Core.Logic.{_⊎_, inl, inr, ⊎-elim}
-use mathlib.Core.Path.{_≡_, refl, sym, _∙_, ap}
+use mathlib.Core.Path.{_≡_, refl, ap}
 use Prim.Native.Nat.{ℕ, zero, suc, _+_, _<_, _≤_}
 use native.Mathlib.Decide.{ℕ-discrete, decLt}
 use native.Mathlib.Omega.{arith}
 use Rattle.thread.specs.Thread.{none}
-use Rattle.machine.specs.State.{Job, State, Outcome, going, isOver, threadAt, onCore}
+use Rattle.machine.specs.State.{Job, State, going, isOver, threadAt, onCore}
 use Rattle.machine.specs.Rules.{stepOf, takeOf}
 use Rattle.machine.specs.Sound.{statusAt, Used, Sound}
 use Rattle.soundness.proofs.Entries.{not-over}
@@ -21,7 +21,8 @@ use Rattle.soundness.proofs.Logs.{StepLog, stepOver, stepNoCore, stepId
 
 -- Where no core runs anything, nothing is ready and nothing is suspended, each thread in use waits or is lent, so it has a child in use,
 -- of a higher rank; ranks are bounded
-module _ (j : Job) (s : State) (ok : Sound j s) (idle : (c : ℕ) → c < s .count → none ≤ onCore s c) (empty : s .ready ≡ []) (awake : (t : ℕ) → ¬ (statusAt s t ≡ 3)) where
+module _ (j : Job) (s : State) (ok : Sound j s) (idle : (c : ℕ) → c < s .count → none ≤ onCore s c) (empty : s .ready ≡ [])
+    (awake : (t : ℕ) → ¬ (statusAt s t ≡ 3)) where
   number : (t : ℕ) → Used s t → t < 32
   number = used-low s (ok .sized .threads)
 
@@ -47,7 +48,12 @@ module _ (j : Job) (s : State) (ok : Sound j s) (idle : (c : ℕ) → c < s .cou
           let m = child-some s t (z .0) (z .2) in
           (z .0, m .0, deeper t (z .0) h (m .0) (m .1))
       go (no a) (yes e) = let z = ok .links .lent t e in let k = used (z .0) (z .1) in (z .0, k, deeper t (z .0) h k (z .2))
-      go (no a) (no b) = absurd (let x = not-running in let y = not-ready in let w = awake t in let v = status-most (threadAt s t .status) in omega arith)
+      go (no a) (no b) =
+          let x = not-running in
+          let y = not-ready in
+          let w = awake t in
+          let v = status-most (threadAt s t .status) in
+          absurd (omega arith)
 
   endless : (f t : ℕ) → ok .tree .deep < f + ok .tree .rank t → Used s t → ⊥
   endless zero t l h = let k = ok .tree .low t in omega arith
@@ -101,7 +107,8 @@ idle-empty s c o l i n (takeAccepted e) k = absurd (let y = k .0 in omega arith)
 -- THE JAM CLAUSE
 pub jam : (j : Job) (s : State) → Sound j s → ((c : ℕ) → c < s .count → Refused (stepOf j s c .log) × Refused (takeOf s c .log))
     → (isOver (s .outcome) ≡ true) ⊎ (((t : ℕ) × (t < 32) × (statusAt s t ≡ 3)) ⊎ ((c : ℕ) × (c < s .count) × Lacks (stepOf j s c .log)))
-jam j s ok bad = go (isOver (s .outcome)) refl (search (λ t. statusAt s t ≡ 3) (λ t. ℕ-discrete (statusAt s t) 3) 32) (search (λ c. onCore s c < none) (λ c. decLt (onCore s c) none) (s .count))
+jam j s ok bad = go (isOver (s .outcome)) refl (search (λ t. statusAt s t ≡ 3) (λ t. ℕ-discrete (statusAt s t) 3) 32)
+    (search (λ c. onCore s c < none) (λ c. decLt (onCore s c) none) (s .count))
   where
     go : (b : Bool) → isOver (s .outcome) ≡ b → ((t : ℕ) × (t < 32) × (statusAt s t ≡ 3)) ⊎ ((t : ℕ) → t < 32 → ¬ (statusAt s t ≡ 3))
         → ((c : ℕ) × (c < s .count) × (onCore s c < none)) ⊎ ((c : ℕ) → c < s .count → ¬ (onCore s c < none))

@@ -1,9 +1,9 @@
 -- A thread that waits, suspends or yields leaves its core, and keeps the threads, cores and queues sound: "A connected thread .. is
 -- disconnected and its parent runs on this core; an unconnected one leaves the core idle". Assumes nothing.
 use mathlib.Core.Bool.{Bool, true, false, cond}
-use mathlib.Core.List.{List, [], _∷_}
+use mathlib.Core.List.{List}
 use mathlib.Core.Logic.{_⊎_, inl, inr, ⊎-elim}
-use mathlib.Core.Path.{_≡_, refl, sym, _∙_, ap, subst}
+use mathlib.Core.Path.{_≡_, refl, sym, _∙_, ap}
 use Prim.Native.Nat.{ℕ, _<_, _≤_}
 use native.Mathlib.Decide.{ℕ-discrete}
 use native.Mathlib.Omega.{arith}
@@ -12,13 +12,12 @@ use lib.Seq.{getD-set-other}
 use Rattle.queue.specs.Contents.{appended, capacity}
 use Rattle.thread.specs.declared.Status.{Status}
 use Rattle.thread.specs.declared.Status.the-variants.{Running}
-use Rattle.thread.specs.declared.Thread.{Thread}
 use Rattle.thread.specs.Thread.{blankThread, withStatus, disconnected, statusNumber, none}
-use Rattle.machine.specs.State.{State, Outcome, threadAt, onCore}
+use Rattle.machine.specs.State.{State, threadAt, onCore}
 use Rattle.machine.specs.Update.{setThread, setCore, enqueueReady}
 use Rattle.machine.specs.Leave.{runs, leaves}
-use Rattle.machine.specs.Sound.{statusAt, Used}
-use Rattle.soundness.proofs.Changes.{standing, connectedAt, parentAt, childrenAt, one-changed, two-changed, used-low, used-below}
+use Rattle.machine.specs.Sound.{statusAt}
+use Rattle.soundness.proofs.Changes.{standing, connectedAt, parentAt, childrenAt, one-changed, two-changed, used-below}
 use Rattle.soundness.proofs.CoreSeats.{Same, same-refl, neither, Seat, came, went, sits, seats-move}
 use Rattle.soundness.proofs.LentThreads.{Bound, bound-refl, not-both, links-same, Cut, off, again, stays, links-cut}
 use Rattle.soundness.proofs.LineNumbers.{Lined, lined-same, lined-gave, turns-lined}
@@ -43,7 +42,8 @@ module _ (s s' : State) (ok : Held s) (c t : ℕ) (status : Status) (l : c < s .
   left : Stays (threadAt s t) (disconnected status (threadAt s t))
   left = let y = was-running in record { parent = refl; result = refl; to = λ h. omega arith; from = λ h. omega arith; waits = wait }
 
-  line : ((u : ℕ) → ¬ (u ≡ t) → Same 2 (threadAt s u) (threadAt s' u)) → statusAt s' t ≡ statusNumber status → (xs : List ℕ) × (s' .ready ≡ xs) × Lined 2 s' xs
+  line : ((u : ℕ) → ¬ (u ≡ t) → Same 2 (threadAt s u) (threadAt s' u)) → statusAt s' t ≡ statusNumber status
+      → (xs : List ℕ) × (s' .ready ≡ xs) × Lined 2 s' xs
   line others own = ⊎-elim stay join ready
     where
       before : Lined 2 s (s .ready)
@@ -65,7 +65,8 @@ module _ (s s' : State) (ok : Held s) (c t : ℕ) (status : Status) (l : c < s .
       )
 
   -- an unconnected thread leaves the core idle
-  module _ (loose : connectedAt s t ≡ false) (threads : s' .threads ≡ set (s .threads) t (disconnected status (threadAt s t))) (cores : s' .cores ≡ set (s .cores) c none) where
+  module _ (loose : connectedAt s t ≡ false) (threads : s' .threads ≡ set (s .threads) t (disconnected status (threadAt s t)))
+      (cores : s' .cores ≡ set (s .cores) c none) where
     pub held-idle : Held s'
     held-idle = held-living s s' ok (rw (threads, length-set) (ok .many)) (rw (count, cores, length-set) (ok .wide)) free over over'
         (seats-move s s' (ok .seats) (ok .wide) c none l cores count
@@ -77,7 +78,8 @@ module _ (s s' : State) (ok : Held s) (c t : ℕ) (status : Status) (l : c < s .
         (one-changed s s' (Lives s) t _ below threads (λ u n. lives-refl s ok u) (record { stays = left; children = refl; pends = inr (λ k e. e) }))
       where
         queue : (xs : List ℕ) × (s' .ready ≡ xs) × Lined 2 s' xs
-        queue = line (one-changed s s' (λ u h h'. ¬ (u ≡ t) → Same 2 h h') t _ below threads (λ u n m. same-refl 2 (threadAt s u)) (λ m. absurd (m refl)))
+        queue = line (one-changed s s' (λ u h h'. ¬ (u ≡ t) → Same 2 h h') t _ below threads (λ u n m. same-refl 2 (threadAt s u))
+            (λ m. absurd (m refl)))
             (one-changed s s' (λ u h h'. u ≡ t → standing h' ≡ statusNumber status) t _ below threads (λ u n e. absurd (n e)) (λ e. refl) t refl)
 
         bound : Bound (threadAt s t) (disconnected status (threadAt s t))
@@ -90,7 +92,8 @@ module _ (s s' : State) (ok : Held s) (c t : ℕ) (status : Status) (l : c < s .
 
   -- a connected one's parent p runs on the core
   module _ (p : ℕ) (parent : parentAt s t ≡ p) (tied : connectedAt s t ≡ true)
-      (threads : s' .threads ≡ set (set (s .threads) t (disconnected status (threadAt s t))) p (withStatus Running (threadAt s p))) (cores : s' .cores ≡ set (s .cores) c p) where
+      (threads : s' .threads ≡ set (set (s .threads) t (disconnected status (threadAt s t))) p (withStatus Running (threadAt s p)))
+      (cores : s' .cores ≡ set (s .cores) c p) where
     p-lent : statusAt s p ≡ 5
     p-lent = rw parent at (ok .links .linked t tied .1)
 
@@ -105,7 +108,8 @@ module _ (s s' : State) (ok : Held s) (c t : ℕ) (status : Status) (l : c < s .
         (seats-move s s' (ok .seats) (ok .wide) c p l cores count
         (two-changed s s' (λ u h h'. Seat (onCore s c) p u h h') t _ p _ below p-below apart threads
         (λ u n m. sits (λ e f. n (f ∙ seat)) (same-refl 1 (threadAt s u))) (went (sym seat) (λ e. omega arith)) (came refl))
-        (λ m. two-changed s s' (λ u h h'. u ≡ p → standing h' ≡ 1) t _ p _ below p-below apart threads (λ u n m e. absurd (m e)) (λ e. absurd (apart e)) (λ e. refl) p refl)
+        (λ m. two-changed s s' (λ u h h'. u ≡ p → standing h' ≡ 1) t _ p _ below p-below apart threads (λ u n m e. absurd (m e))
+        (λ e. absurd (apart e)) (λ e. refl) p refl)
         (λ m e. let y = p-lent in omega arith))
         (links-cut s s' (ok .links) t p was-running tied parent
         (two-changed s s' (λ u h h'. Cut t p u h h') t _ p _ below p-below apart threads
@@ -116,25 +120,39 @@ module _ (s s' : State) (ok : Held s) (c t : ℕ) (status : Status) (l : c < s .
       where
         queue : (xs : List ℕ) × (s' .ready ≡ xs) × Lined 2 s' xs
         queue = line (two-changed s s' (λ u h h'. ¬ (u ≡ t) → Same 2 h h') t _ p _ below p-below apart threads
-            (λ u n m k. same-refl 2 (threadAt s u)) (λ m. absurd (m refl)) (λ m. let y = p-lent in neither 2 (threadAt s p) _ (λ e. omega arith) (λ e. omega arith)))
+            (λ u n m k. same-refl 2 (threadAt s u)) (λ m. absurd (m refl))
+            (λ m. let y = p-lent in neither 2 (threadAt s p) _ (λ e. omega arith) (λ e. omega arith)))
             (two-changed s s' (λ u h h'. u ≡ t → standing h' ≡ statusNumber status) t _ p _ below p-below apart threads
             (λ u n m e. absurd (n e)) (λ e. refl) (λ e. absurd (apart (sym e))) t refl)
 
         back : Stays (threadAt s p) (withStatus Running (threadAt s p))
-        back = let y = p-lent in record { parent = refl; result = refl; to = λ h. omega arith; from = λ h. omega arith; waits = λ e. absurd (omega arith) }
+        back = let y = p-lent in record {
+          parent = refl;
+          result = refl;
+          to = λ h. omega arith;
+          from = λ h. omega arith;
+          waits =
+              λ e. absurd (omega arith);
+        }
 
 -- the two rules of leaving: with waits and suspends the ready queue stays; with a yield the thread joins its tail
 module _ (s : State) (ok : Held s) (c t : ℕ) (status : Status) (l : c < s .count) (seat : onCore s c ≡ t) (low : t < 32) (over : Unfinished s) where
   -- the parent's record, looked up once t's has changed
-  other-record : connectedAt s t ≡ true → getD (set (s .threads) t (disconnected status (threadAt s t))) (parentAt s t) blankThread ≡ threadAt s (parentAt s t)
+  other-record : connectedAt s t ≡ true → getD (set (s .threads) t (disconnected status (threadAt s t))) (parentAt s t) blankThread ≡ threadAt s
+      (parentAt s t)
   other-record e = getD-set-other (s .threads) t (parentAt s t) _ blankThread
-      (λ q. let z : statusAt s t ≡ 1 = rw seat at (ok .seats .runs c l (rw seat low)) in let y = ok .links .linked t e .1 in let x = ap (statusAt s) q in omega arith)
+      (λ q.
+      let z : statusAt s t ≡ 1 = rw seat at (ok .seats .runs c l (rw seat low)) in
+      let y = ok .links .linked t e .1 in
+      let x = ap (statusAt s) q in
+      omega arith)
 
   pub held-leaves : 3 ≤ statusNumber status → statusNumber status ≤ 4 → (statusNumber status ≡ 4 → 0 < childrenAt s t) → Held (leaves c t status s)
   unfolding leaves
   held-leaves k3 k4 wait = go (connectedAt s t) refl
     where
-      go : (b : Bool) → connectedAt s t ≡ b → Held (cond b (runs c (parentAt s t) (setThread t (disconnected status (threadAt s t)) s)) (setCore c none (setThread t (disconnected status (threadAt s t)) s)))
+      go : (b : Bool) → connectedAt s t ≡ b → Held (cond b (runs c (parentAt s t) (setThread t (disconnected status (threadAt s t)) s))
+          (setCore c none (setThread t (disconnected status (threadAt s t)) s)))
       go true e = held-handed s _ ok c t status l seat low (omega arith) k4 wait refl refl (inl ((λ q. omega arith), refl)) over over
           (parentAt s t) refl e (rw (other-record e)) refl
       go false e = held-idle s _ ok c t status l seat low (omega arith) k4 wait refl refl (inl ((λ q. omega arith), refl)) over over e refl refl
@@ -144,7 +162,10 @@ module _ (s : State) (ok : Held s) (c t : ℕ) (status : Status) (l : c < s .cou
   held-yields k2 = go (connectedAt s t) refl
     where
       go : (b : Bool) → connectedAt s t ≡ b
-          → Held (enqueueReady t (cond b (runs c (parentAt s t) (setThread t (disconnected status (threadAt s t)) s)) (setCore c none (setThread t (disconnected status (threadAt s t)) s))))
-      go true e = held-handed s _ ok c t status l seat low (omega arith) (omega arith) (λ q. absurd (omega arith)) refl refl (inr (k2, refl)) over over
+          → Held (enqueueReady t (cond b (runs c (parentAt s t) (setThread t (disconnected status (threadAt s t)) s))
+          (setCore c none (setThread t (disconnected status (threadAt s t)) s))))
+      go true e = held-handed s _ ok c t status l seat low (omega arith) (omega arith) (λ q. absurd (omega arith)) refl refl
+          (inr (k2, refl)) over over
           (parentAt s t) refl e (rw (other-record e)) refl
-      go false e = held-idle s _ ok c t status l seat low (omega arith) (omega arith) (λ q. absurd (omega arith)) refl refl (inr (k2, refl)) over over e refl refl
+      go false e = held-idle s _ ok c t status l seat low (omega arith) (omega arith) (λ q. absurd (omega arith)) refl refl
+          (inr (k2, refl)) over over e refl refl

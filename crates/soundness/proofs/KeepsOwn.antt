@@ -1,13 +1,12 @@
 -- Commands that change only their own thread's position, window and pending slots keep the threads, cores and queues sound; so does a
 -- fault. Assumes nothing.
-use mathlib.Core.List.{List}
 use mathlib.Core.Logic.{_⊎_, inl, inr, ⊎-elim}
-use mathlib.Core.Path.{_≡_, refl, sym, _∙_, ap}
-use Prim.Native.Nat.{ℕ, _<_, _≤_}
+use mathlib.Core.Path.{_≡_, sym, _∙_}
+use Prim.Native.Nat.{ℕ, _<_}
 use native.Mathlib.Omega.{arith}
 use lib.ListN.{length, set, length-set}
 use Rattle.thread.specs.declared.Thread.{Thread}
-use Rattle.machine.specs.State.{State, Outcome, threadAt}
+use Rattle.machine.specs.State.{State, threadAt}
 use Rattle.machine.specs.Sound.{statusAt}
 use Rattle.soundness.proofs.Changes.{standing, none-changed, one-changed}
 use Rattle.soundness.proofs.CoreSeats.{Same, same-refl, seats-same}
@@ -25,19 +24,24 @@ held-same s s' ok threads cores count ready free over over' =
     (seats-same s s' (ok .seats) cores count (none-changed s s' (λ u h h'. Same 1 h h') threads (λ u. same-refl 1 (threadAt s u))))
     (links-same s s' (ok .links) (none-changed s s' (λ u h h'. Bound h h') threads (λ u. bound-refl s (ok .links) u)))
     (s .ready) ready
-    (lined-same 2 s s' (s .ready) (turns-lined s (ok .many) (ok .turns)) (none-changed s s' (λ u h h'. Same 2 h h') threads (λ u. same-refl 2 (threadAt s u))))
+    (lined-same 2 s s' (s .ready) (turns-lined s (ok .many) (ok .turns))
+    (none-changed s s' (λ u h h'. Same 2 h h') threads (λ u. same-refl 2 (threadAt s u))))
     (none-changed s s' (Lives s) threads (lives-refl s ok))
 
 -- thread t's record becomes H, which is about the same as before
-module _ (s s' : State) (ok : Held s) (t : ℕ) (H : Thread) (low : t < 32) (threads : s' .threads ≡ set (s .threads) t H) (cores : s' .cores ≡ s .cores)
-    (count : s' .count ≡ s .count) (ready : s' .ready ≡ s .ready) (free : s' .freeThreads ≡ s .freeThreads) (over : Unfinished s) (over' : Unfinished s')
+module _ (s s' : State) (ok : Held s) (t : ℕ) (H : Thread) (low : t < 32) (threads : s' .threads ≡ set (s .threads) t H)
+    (cores : s' .cores ≡ s .cores)
+    (count : s' .count ≡ s .count) (ready : s' .ready ≡ s .ready) (free : s' .freeThreads ≡ s .freeThreads) (over : Unfinished s)
+    (over' : Unfinished s')
     (status : standing H ≡ statusAt s t) (connected : H .connected ≡ threadAt s t .connected) (parent : H .parent ≡ threadAt s t .parent)
-    (result : H .result ≡ threadAt s t .result) (children : H .children ≡ threadAt s t .children) (pends : Childless s t ⊎ Pends (threadAt s t) H) where
+    (result : H .result ≡ threadAt s t .result) (children : H .children ≡ threadAt s t .children)
+    (pends : Childless s t ⊎ Pends (threadAt s t) H) where
   below : t < length (s .threads)
   below = let m = ok .many in omega arith
 
   same : (k : ℕ) (u : ℕ) → Same k (threadAt s u) (threadAt s' u)
-  same k = one-changed s s' (λ u h h'. Same k h h') t H below threads (λ u n. same-refl k (threadAt s u)) (record { to = λ e. status ∙ e; from = λ e. sym status ∙ e })
+  same k = one-changed s s' (λ u h h'. Same k h h') t H below threads (λ u n. same-refl k (threadAt s u))
+      (record { to = λ e. status ∙ e; from = λ e. sym status ∙ e })
 
   pub held-own : Held s'
   held-own = held-living s s' ok (rw (threads, length-set) (ok .many)) (rw (count, cores) (ok .wide)) free over over'
@@ -56,4 +60,11 @@ module _ (s s' : State) (ok : Held s) (t : ℕ) (H : Thread) (low : t < 32) (thr
       }
 
       stays : Stays (threadAt s t) H
-      stays = record { parent = parent; result = result; to = λ h. (omega arith); from = λ h. (omega arith); waits = λ e. rw children (ok .tree .waits t (sym status ∙ e)) }
+      stays = record {
+        parent = parent;
+        result = result;
+        to = λ h. (omega arith);
+        from = λ h. (omega arith);
+        waits =
+            λ e. rw children (ok .tree .waits t (sym status ∙ e));
+      }

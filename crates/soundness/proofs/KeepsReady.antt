@@ -1,31 +1,28 @@
 -- A take, by which the ready queue's head runs on an idle core, and an enable, by which a suspended thread becomes ready, keep the
 -- threads, cores and queues sound. Assumes nothing.
-use mathlib.Core.Bool.{Bool, true, false}
-use mathlib.Core.List.{List, [], _∷_}
-use mathlib.Core.Logic.{_⊎_, inl, inr, ⊎-elim}
-use mathlib.Core.Path.{_≡_, refl, sym, _∙_, ap, subst}
+use mathlib.Core.Bool.{false}
+use mathlib.Core.List.{List, _∷_}
+use mathlib.Core.Logic.{inl, inr}
+use mathlib.Core.Path.{_≡_, refl, subst}
 use Prim.Native.Nat.{ℕ, _<_, _≤_}
 use native.Mathlib.Omega.{arith}
 use lib.ListN.{length, set, length-set}
-use lib.Seq.{getD-set-same}
 use Rattle.queue.specs.Contents.{appended, capacity}
 use Rattle.thread.specs.declared.Status.the-variants.{Running, Ready}
-use Rattle.thread.specs.declared.Thread.{Thread}
-use Rattle.thread.specs.Thread.{blankThread, withStatus, none}
-use Rattle.machine.specs.Lists.{Every}
-use Rattle.machine.specs.State.{State, Outcome, threadAt, onCore}
+use Rattle.thread.specs.Thread.{withStatus, none}
+use Rattle.machine.specs.State.{State, threadAt, onCore}
 use Rattle.machine.specs.Sound.{statusAt}
 use Rattle.soundness.proofs.Changes.{standing, connectedAt, one-changed, used-low}
-use Rattle.soundness.proofs.CoreSeats.{Same, same-refl, neither, Seat, came, went, sits, seats-move, seats-same}
+use Rattle.soundness.proofs.CoreSeats.{Same, same-refl, neither, Seat, came, sits, seats-move, seats-same}
 use Rattle.soundness.proofs.LentThreads.{Bound, bound-refl, untied, not-both, links-same}
 use Rattle.soundness.proofs.LineNumbers.{Lined, lined-took, lined-gave, turns-lined}
-use Rattle.soundness.proofs.ForkTree.{Unfinished, Childless, Stays}
-use Rattle.soundness.proofs.ResultSlots.{Pends}
+use Rattle.soundness.proofs.ForkTree.{Unfinished, Stays}
 use Rattle.soundness.proofs.Held.{Held, Lives, lives-refl, held-living}
 
 -- TAKE
 module _ (s s' : State) (ok : Held s) (c t : ℕ) (ts : List ℕ) (l : c < s .count) (idle : none ≤ onCore s c) (head : s .ready ≡ t ∷ ts)
-    (threads : s' .threads ≡ set (s .threads) t (withStatus Running (threadAt s t))) (cores : s' .cores ≡ set (s .cores) c t) (count : s' .count ≡ s .count)
+    (threads : s' .threads ≡ set (s .threads) t (withStatus Running (threadAt s t))) (cores : s' .cores ≡ set (s .cores) c t)
+    (count : s' .count ≡ s .count)
     (ready : s' .ready ≡ ts) (free : s' .freeThreads ≡ s .freeThreads) (over : Unfinished s) (over' : Unfinished s') where
   lined : Lined 2 s (t ∷ ts)
   lined = subst (λ xs. Lined 2 s xs) head (turns-lined s (ok .many) (ok .turns))
@@ -42,7 +39,8 @@ module _ (s s' : State) (ok : Held s) (c t : ℕ) (ts : List ℕ) (l : c < s .co
   pub held-took : Held s'
   held-took = held-living s s' ok (rw (threads, length-set) (ok .many)) (rw (count, cores, length-set) (ok .wide)) free over over'
       (seats-move s s' (ok .seats) (ok .wide) c t l cores count
-      (one-changed s s' (λ u h h'. Seat (onCore s c) t u h h') t _ below threads (λ u n. sits (λ e f. not-idle u e f) (same-refl 1 (threadAt s u))) (came refl))
+      (one-changed s s' (λ u h h'. Seat (onCore s c) t u h h') t _ below threads
+      (λ u n. sits (λ e f. not-idle u e f) (same-refl 1 (threadAt s u))) (came refl))
       (λ m. runs) (λ m e. let y = was-ready in omega arith))
       (links-same s s' (ok .links) (one-changed s s' (λ u h h'. Bound h h') t _ below threads (λ u n. bound-refl s (ok .links) u) bound))
       ts ready
@@ -62,12 +60,20 @@ module _ (s s' : State) (ok : Held s) (c t : ℕ) (ts : List ℕ) (l : c < s .co
       }
 
       stays : Stays (threadAt s t) (withStatus Running (threadAt s t))
-      stays = let y = was-ready in record { parent = refl; result = refl; to = λ h. omega arith; from = λ h. omega arith; waits = λ e. absurd (omega arith) }
+      stays = let y = was-ready in record {
+        parent = refl;
+        result = refl;
+        to = λ h. omega arith;
+        from = λ h. omega arith;
+        waits =
+            λ e. absurd (omega arith);
+      }
 
 -- ENABLE
 module _ (s s' : State) (ok : Held s) (t : ℕ) (suspended : statusAt s t ≡ 3)
     (threads : s' .threads ≡ set (s .threads) t (withStatus Ready (threadAt s t))) (cores : s' .cores ≡ s .cores) (count : s' .count ≡ s .count)
-    (ready : s' .ready ≡ appended capacity (s .ready) t) (free : s' .freeThreads ≡ s .freeThreads) (over : Unfinished s) (over' : Unfinished s') where
+    (ready : s' .ready ≡ appended capacity (s .ready) t) (free : s' .freeThreads ≡ s .freeThreads) (over : Unfinished s)
+    (over' : Unfinished s') where
   low : t < 32
   low = used-low s (ok .many) t (omega arith)
 
@@ -80,7 +86,8 @@ module _ (s s' : State) (ok : Held s) (t : ℕ) (suspended : statusAt s t ≡ 3)
   pub held-enabled : Held s'
   held-enabled = held-living s s' ok (rw (threads, length-set) (ok .many)) (rw (count, cores) (ok .wide)) free over over'
       (seats-same s s' (ok .seats) cores count
-      (one-changed s s' (λ u h h'. Same 1 h h') t _ inside threads (λ u n. same-refl 1 (threadAt s u)) (neither 1 (threadAt s t) _ (λ e. omega arith) (λ e. omega arith))))
+      (one-changed s s' (λ u h h'. Same 1 h h') t _ inside threads (λ u n. same-refl 1 (threadAt s u))
+      (neither 1 (threadAt s t) _ (λ e. omega arith) (λ e. omega arith))))
       (links-same s s' (ok .links) (one-changed s s' (λ u h h'. Bound h h') t _ inside threads (λ u n. bound-refl s (ok .links) u) bound))
       (appended capacity (s .ready) t) ready
       (lined-gave 2 s s' t (s .ready) (turns-lined s (ok .many) (ok .turns)) low (λ e. omega arith) stands

@@ -1,11 +1,10 @@
 -- A return keeps the threads, cores and queues sound: a connected child's, an unconnected child's (whose parent may wake), and the
 -- root's, after which no thread is left. Assumes nothing.
 use mathlib.Core.Bool.{Bool, true, false, cond, _&&_, not}
-use mathlib.Core.List.{List, [], _∷_}
+use mathlib.Core.List.{List}
 use mathlib.Core.Logic.{_⊎_, inl, inr, ⊎-elim}
-use mathlib.Core.Path.{_≡_, refl, sym, _∙_, ap, subst}
-use Prim.Native.Nat.{ℕ, _+_, _-_, _<_, _≤_}
-use native.Mathlib.Decide.{ℕ-discrete}
+use mathlib.Core.Path.{_≡_, refl, sym, _∙_, ap}
+use Prim.Native.Nat.{ℕ, _-_, _<_, _≤_}
 use native.Mathlib.Omega.{arith}
 use lib.Dec.{eqb, leb}
 use lib.ListN.{length, set, length-set}
@@ -14,14 +13,14 @@ use Rattle.queue.specs.Contents.{appended, capacity}
 use Rattle.thread.specs.declared.Status.{Status}
 use Rattle.thread.specs.declared.Status.the-variants.{Running, Ready, Waiting}
 use Rattle.thread.specs.declared.Thread.{Thread}
-use Rattle.thread.specs.Thread.{blankThread, withoutChild, statusNumber, isRoot, none, _is_}
-use Rattle.machine.specs.State.{Job, State, Outcome, finished, threadAt, onCore}
+use Rattle.thread.specs.Thread.{blankThread, withoutChild, statusNumber, none, _is_}
+use Rattle.machine.specs.State.{Job, State, finished, threadAt, onCore}
 use Rattle.machine.specs.Update.{setThread, setCore, setReady, setSlot}
-use Rattle.machine.specs.Turn.{Turn, turnAt}
+use Rattle.machine.specs.Turn.{turnAt}
 use Rattle.machine.specs.Return.{freed, wakes, statusAfter, readyAfter, returnToParent, returnOf}
 use Rattle.machine.specs.Sound.{statusAt, Used, Seats, Links}
 use Rattle.soundness.proofs.Entries.{and-true}
-use Rattle.soundness.proofs.Changes.{standing, connectedAt, parentAt, childrenAt, pendingAt, one-changed, two-changed, used-low, used-below}
+use Rattle.soundness.proofs.Changes.{standing, connectedAt, parentAt, childrenAt, one-changed, two-changed, used-low, used-below}
 use Rattle.soundness.proofs.CoreSeats.{Same, same-refl, neither, Seat, came, went, sits, seats-move}
 use Rattle.soundness.proofs.LentThreads.{Bound, bound-refl, not-both, links-same, Cut, off, again, stays, links-cut}
 use Rattle.soundness.proofs.LineNumbers.{Lined, lined-same, lined-gave, lined-turns, turns-lined, lined-free, free-lined}
@@ -30,8 +29,10 @@ use Rattle.soundness.proofs.ResultSlots.{Pends, results-living}
 use Rattle.soundness.proofs.Held.{Held, same-free}
 
 -- TO A PARENT. Thread t, on core c, ends; its parent p has one child less and a status
-module _ (s s' : State) (ok : Held s) (c t p : ℕ) (status : Status) (l : c < s .count) (seat : onCore s c ≡ t) (low : t < 32) (parent : parentAt s t ≡ p) (used-p : Used s p)
-    (childless : Childless s t) (over : Unfinished s) (over' : Unfinished s') (count : s' .count ≡ s .count) (free : s' .freeThreads ≡ appended capacity (s .freeThreads) t)
+module _ (s s' : State) (ok : Held s) (c t p : ℕ) (status : Status) (l : c < s .count) (seat : onCore s c ≡ t) (low : t < 32)
+    (parent : parentAt s t ≡ p) (used-p : Used s p)
+    (childless : Childless s t) (over : Unfinished s) (over' : Unfinished s') (count : s' .count ≡ s .count)
+    (free : s' .freeThreads ≡ appended capacity (s .freeThreads) t)
     (threads : s' .threads ≡ set (set (s .threads) t blankThread) p (withoutChild status (threadAt s p)))
     (active : 0 < statusNumber status) (wait : statusNumber status ≡ 4 → 1 < childrenAt s p) where
   was-running : statusAt s t ≡ 1
@@ -57,7 +58,8 @@ module _ (s s' : State) (ok : Held s) (c t p : ℕ) (status : Status) (l : c < s
   gone = changed (λ u h h'. u ≡ t → standing h' ≡ 0) (λ u a b e. absurd (a e)) (λ e. refl) (λ e. absurd (apart (sym e))) t refl
 
   parent-record : threadAt s' p ≡ withoutChild status (threadAt s p)
-  parent-record = changed (λ u h h'. u ≡ p → h' ≡ withoutChild status (threadAt s p)) (λ u a b e. absurd (b e)) (λ e. absurd (apart e)) (λ e. refl) p refl
+  parent-record = changed (λ u h h'. u ≡ p → h' ≡ withoutChild status (threadAt s p)) (λ u a b e. absurd (b e)) (λ e. absurd (apart e))
+      (λ e. refl) p refl
 
   some : 0 < childrenAt s p
   some = rw parent at (parent-counts s (ok .many) (ok .tree) t used-t (rw parent used-p))
@@ -87,16 +89,19 @@ module _ (s s' : State) (ok : Held s) (c t p : ℕ) (status : Status) (l : c < s
   -- the ready queue, where the parent was not ready and is not now
   still-lined : ¬ (statusAt s p ≡ 2) → ¬ (statusNumber status ≡ 2) → Lined 2 s' (s .ready)
   still-lined a b = lined-same 2 s s' (s .ready) (turns-lined s (ok .many) (ok .turns))
-      (changed (λ u h h'. Same 2 h h') (λ u x y. same-refl 2 (threadAt s u)) (let z = was-running in neither 2 (threadAt s t) _ (λ e. omega arith) (λ e. omega arith)) (neither 2 (threadAt s p) _ a b))
+      (changed (λ u h h'. Same 2 h h') (λ u x y. same-refl 2 (threadAt s u))
+      (let z = was-running in neither 2 (threadAt s t) _ (λ e. omega arith) (λ e. omega arith)) (neither 2 (threadAt s p) _ a b))
 
   -- "A connected child's parent runs on"
   pub held-back : connectedAt s t ≡ true → statusNumber status ≡ 1 → s' .cores ≡ set (s .cores) c p → s' .ready ≡ s .ready → Held s'
   held-back tied runs cores ready = held-ends
       (seats-move s s' (ok .seats) (ok .wide) c p l cores count
-      (changed (λ u h h'. Seat (onCore s c) p u h h') (λ u a b. sits (λ e f. a (f ∙ seat)) (same-refl 1 (threadAt s u))) (went (sym seat) (λ e. omega arith)) (came refl))
+      (changed (λ u h h'. Seat (onCore s c) p u h h') (λ u a b. sits (λ e f. a (f ∙ seat)) (same-refl 1 (threadAt s u)))
+      (went (sym seat) (λ e. omega arith)) (came refl))
       (λ m. ap standing parent-record ∙ runs) (λ m e. let z = p-lent in omega arith))
       (links-cut s s' (ok .links) t p was-running tied parent
-      (changed (λ u h h'. Cut t p u h h') (λ u a b. stays a b (bound-refl s (ok .links) u)) (off refl refl (λ e. omega arith)) (again refl runs refl refl)))
+      (changed (λ u h h'. Cut t p u h h') (λ u a b. stays a b (bound-refl s (ok .links) u)) (off refl refl (λ e. omega arith))
+      (again refl runs refl refl)))
       (rw (count, cores, length-set) (ok .wide)) (s .ready) ready
       (still-lined (λ e. let z = p-lent in omega arith) (λ e. omega arith))
     where
@@ -105,10 +110,12 @@ module _ (s s' : State) (ok : Held s) (c t p : ℕ) (status : Status) (l : c < s
 
   -- "otherwise the core is idle"
   module _ (loose : connectedAt s t ≡ false) (cores : s' .cores ≡ set (s .cores) c none)
-      (same1 : Same 1 (threadAt s p) (withoutChild status (threadAt s p))) (same5 : Same 5 (threadAt s p) (withoutChild status (threadAt s p))) where
+      (same1 : Same 1 (threadAt s p) (withoutChild status (threadAt s p)))
+      (same5 : Same 5 (threadAt s p) (withoutChild status (threadAt s p))) where
     idle-seats : Seats s'
     idle-seats = seats-move s s' (ok .seats) (ok .wide) c none l cores count
-        (changed (λ u h h'. Seat (onCore s c) none u h h') (λ u a b. sits (λ e f. a (f ∙ seat)) (same-refl 1 (threadAt s u))) (went (sym seat) (λ e. omega arith))
+        (changed (λ u h h'. Seat (onCore s c) none u h h') (λ u a b. sits (λ e f. a (f ∙ seat)) (same-refl 1 (threadAt s u)))
+        (went (sym seat) (λ e. omega arith))
         (sits (λ e f. apart (sym (f ∙ seat))) same1))
         (λ m. absurd (omega arith)) (λ m. absurd (omega arith))
 
@@ -131,19 +138,25 @@ module _ (s s' : State) (ok : Held s) (c t p : ℕ) (status : Status) (l : c < s
     pub held-ended : statusNumber status ≡ statusAt s p → s' .ready ≡ s .ready → Held s'
     held-ended same ready = held-ends idle-seats idle-links (rw (count, cores, length-set) (ok .wide)) (s .ready) ready
         (lined-same 2 s s' (s .ready) (turns-lined s (ok .many) (ok .turns))
-        (changed (λ u h h'. Same 2 h h') (λ u x y. same-refl 2 (threadAt s u)) (let z = was-running in neither 2 (threadAt s t) _ (λ e. omega arith) (λ e. omega arith))
+        (changed (λ u h h'. Same 2 h h') (λ u x y. same-refl 2 (threadAt s u))
+        (let z = was-running in neither 2 (threadAt s t) _ (λ e. omega arith) (λ e. omega arith))
         (record { to = λ e. same ∙ e; from = λ e. sym same ∙ e })))
 
     -- "a waiting parent whose children have all ended joins the ready line and is ready"
     pub held-woken : statusAt s p ≡ 4 → statusNumber status ≡ 2 → s' .ready ≡ appended capacity (s .ready) p → Held s'
-    held-woken waited woken ready = held-ends idle-seats idle-links (rw (count, cores, length-set) (ok .wide)) (appended capacity (s .ready) p) ready
-        (lined-gave 2 s s' p (s .ready) (turns-lined s (ok .many) (ok .turns)) (used-low s (ok .many) p used-p) (λ e. omega arith) (ap standing parent-record ∙ woken)
-        (changed (λ u h h'. ¬ (u ≡ p) → Same 2 h h') (λ u x y m. same-refl 2 (threadAt s u)) (λ m. let z = was-running in neither 2 (threadAt s t) _ (λ e. omega arith) (λ e. omega arith))
+    held-woken waited woken ready = held-ends idle-seats idle-links (rw (count, cores, length-set) (ok .wide))
+        (appended capacity (s .ready) p) ready
+        (lined-gave 2 s s' p (s .ready) (turns-lined s (ok .many) (ok .turns)) (used-low s (ok .many) p used-p) (λ e. omega arith)
+        (ap standing parent-record ∙ woken)
+        (changed (λ u h h'. ¬ (u ≡ p) → Same 2 h h') (λ u x y m. same-refl 2 (threadAt s u))
+        (λ m. let z = was-running in neither 2 (threadAt s t) _ (λ e. omega arith) (λ e. omega arith))
         (λ m. absurd (m refl))))
 
 -- THE ROOT'S: "gives the result and finishes the machine"
-module _ (s s' : State) (ok : Held s) (c v : ℕ) (l : c < s .count) (seat : onCore s c ≡ 0) (childless : Childless s 0) (over' : s' .outcome ≡ finished v) (count : s' .count ≡ s .count)
-    (free : s' .freeThreads ≡ appended capacity (s .freeThreads) 0) (threads : s' .threads ≡ set (s .threads) 0 blankThread) (cores : s' .cores ≡ set (s .cores) c none)
+module _ (s s' : State) (ok : Held s) (c v : ℕ) (l : c < s .count) (seat : onCore s c ≡ 0) (childless : Childless s 0)
+    (over' : s' .outcome ≡ finished v) (count : s' .count ≡ s .count)
+    (free : s' .freeThreads ≡ appended capacity (s .freeThreads) 0) (threads : s' .threads ≡ set (s .threads) 0 blankThread)
+    (cores : s' .cores ≡ set (s .cores) c none)
     (ready : s' .ready ≡ s .ready) where
   root-running : statusAt s 0 ≡ 1
   root-running = rw seat at (ok .seats .runs c l (rw seat (omega arith)))
@@ -189,7 +202,8 @@ module _ (s s' : State) (ok : Held s) (c v : ℕ) (l : c < s .count) (seat : onC
     where
       -- a connected thread would be in use
       tied-before : (u : ℕ) → connectedAt s' u ≡ true → (connectedAt s u ≡ true) × (¬ (u ≡ 0))
-      tied-before = one-changed s s' (λ u h h'. h' .connected ≡ true → (h .connected ≡ true) × (¬ (u ≡ 0))) 0 _ root-below threads (λ u n e. (e, n)) (λ e. absurd (not-both _ e refl))
+      tied-before = one-changed s s' (λ u h h'. h' .connected ≡ true → (h .connected ≡ true) × (¬ (u ≡ 0))) 0 _ root-below threads
+          (λ u n e. (e, n)) (λ e. absurd (not-both _ e refl))
 
       no-tie : (u : ℕ) → connectedAt s' u ≡ true → ⊥
       no-tie u e =
@@ -199,7 +213,8 @@ module _ (s s' : State) (ok : Held s) (c v : ℕ) (l : c < s .count) (seat : onC
           ⊎-elim (λ z. omega arith) (λ z. omega arith) (ok .links .linked u f .0)
 
 -- THE RULE
-pub held-returns : (j : Job) (s : State) → Held s → (c t v : ℕ) → c < s .count → onCore s c ≡ t → t < 32 → Unfinished s → Childless s t → Held (returnOf s (turnAt j s c t) v)
+pub held-returns : (j : Job) (s : State) → Held s → (c t v : ℕ) → c < s .count → onCore s c ≡ t → t < 32 → Unfinished s → Childless s t
+    → Held (returnOf s (turnAt j s c t) v)
 unfolding returnOf returnToParent statusAfter readyAfter wakes
 held-returns j s ok c t v l seat low over childless = ⊎-elim at-root inside (ok .tree .tree t used-t)
   where
@@ -223,19 +238,29 @@ held-returns j s ok c t v l seat low over childless = ⊎-elim at-root inside (o
         some-child : 0 < childrenAt s (parentAt s t)
         some-child = parent-counts s (ok .many) (ok .tree) t used-t (z .1)
 
-        go : (b : Bool) → connectedAt s t ≡ b → (w : Bool) → (threadAt s (parentAt s t) .status is Waiting && eqb (childrenAt s (parentAt s t)) 1) ≡ w
+        go : (b : Bool) → connectedAt s t ≡ b → (w : Bool) →
+            (threadAt s (parentAt s t) .status is Waiting && eqb (childrenAt s (parentAt s t)) 1) ≡ w
             → Held (setCore c (cond b (parentAt s t) none) (setReady (cond (not b && w) (appended capacity (s .ready) (parentAt s t)) (s .ready))
-            (setThread (parentAt s t) (withoutChild (cond b Running (cond (not b && w) Ready (threadAt s (parentAt s t) .status))) (threadAt s (parentAt s t)))
+            (setThread (parentAt s t) (withoutChild (cond b Running (cond (not b && w) Ready (threadAt s (parentAt s t) .status)))
+            (threadAt s (parentAt s t)))
             (setSlot (threadAt s (parentAt s t)) (threadAt s t .result) v (freed (turnAt j s c t) s)))))
-        go true e w f = held-back s _ ok c t (parentAt s t) Running l seat low refl (z .1) childless over over refl refl refl (omega arith) (λ x. absurd (omega arith)) e refl refl refl
+        go true e w f = held-back s _ ok c t (parentAt s t) Running l seat low refl (z .1) childless over over refl refl refl (omega arith)
+            (λ x. absurd (omega arith)) e refl refl refl
         go false e true f =
             let (a, b) = and-true (threadAt s (parentAt s t) .status is Waiting) (eqb (childrenAt s (parentAt s t)) 1) f in
             let x = eqb-true (statusAt s (parentAt s t)) 4 a in
-            held-woken s _ ok c t (parentAt s t) Ready l seat low refl (z .1) childless over over refl refl refl (omega arith) (λ y. absurd (omega arith)) e refl
-            (neither 1 (threadAt s (parentAt s t)) _ (λ y. omega arith) (λ y. omega arith)) (neither 5 (threadAt s (parentAt s t)) _ (λ y. omega arith) (λ y. omega arith)) x refl refl
+            held-woken s _ ok c t (parentAt s t) Ready l seat low refl (z .1) childless over over refl refl refl (omega arith)
+            (λ y. absurd (omega arith)) e refl
+            (neither 1 (threadAt s (parentAt s t)) _ (λ y. omega arith) (λ y. omega arith))
+            (neither 5 (threadAt s (parentAt s t)) _ (λ y. omega arith) (λ y. omega arith)) x refl refl
         go false e false f =
-            held-ended s _ ok c t (parentAt s t) (threadAt s (parentAt s t) .status) l seat low refl (z .1) childless over over refl refl refl (z .1) (more-children f) e refl
+            held-ended s _ ok c t (parentAt s t) (threadAt s (parentAt s t) .status) l seat low refl (z .1) childless over over refl refl refl
+            (z .1) (more-children f) e refl
             (record { to = λ y. y; from = λ y. y }) (record { to = λ y. y; from = λ y. y }) refl refl
           where
-            more-children : (threadAt s (parentAt s t) .status is Waiting && eqb (childrenAt s (parentAt s t)) 1) ≡ false → statusAt s (parentAt s t) ≡ 4 → 1 < childrenAt s (parentAt s t)
-            more-children f x = let n = eqb-false (childrenAt s (parentAt s t)) 1 (rw (eq-eqb (statusAt s (parentAt s t)) 4 x) at f) in let k = some-child in omega arith
+            more-children : (threadAt s (parentAt s t) .status is Waiting && eqb (childrenAt s (parentAt s t)) 1) ≡ false
+                → statusAt s (parentAt s t) ≡ 4 → 1 < childrenAt s (parentAt s t)
+            more-children f x =
+                let n = eqb-false (childrenAt s (parentAt s t)) 1 (rw (eq-eqb (statusAt s (parentAt s t)) 4 x) at f) in
+                let k = some-child in
+                omega arith

@@ -3,7 +3,7 @@
 use mathlib.Core.Bool.{Bool, true, false}
 use mathlib.Core.Logic.{_⊎_, inl, inr, ⊎-elim}
 use mathlib.Core.Path.{_≡_, refl, sym, _∙_, ap}
-use Prim.Native.Nat.{ℕ, _<_}
+use Prim.Native.Nat.{ℕ}
 use native.Mathlib.Omega.{arith}
 use Rattle.thread.specs.declared.Thread.{Thread}
 use Rattle.machine.specs.State.{State, threadAt}
@@ -61,7 +61,12 @@ module _ (s s' : State) (ok : Links s) (t p : ℕ) (running : statusAt s t ≡ 1
       go : Cut t p u (threadAt s u) (threadAt s' u)
           → (connectedAt s u ≡ true) × (parentAt s' u ≡ parentAt s u) × (¬ (u ≡ t)) × ((statusAt s' u ≡ 1) ⊎ (statusAt s' u ≡ 5))
       go (off _ f _) = absurd (not-both _ e f)
-      go (again q a b c) = (sym b ∙ e, c, (λ r. let y = p-lent in let z : statusAt s p ≡ statusAt s t = ap (statusAt s) (sym q ∙ r) in omega arith), inl a)
+      go (again q a b c) = (
+        sym b ∙ e,
+        c,
+        (λ r. let y = p-lent in let z = ap (statusAt s) (sym q ∙ r) in omega arith),
+        inl a,
+      )
       go (stays m n b) = let f = sym (b .tied) ∙ e in (f, b .parent f, m, b .active f)
 
   pub links-cut : Links s'
@@ -71,12 +76,14 @@ module _ (s s' : State) (ok : Links s) (t p : ℕ) (running : statusAt s t ≡ 1
     only = λ u v e f g. let w = was-tied u e in let x = was-tied v f in ok .only u v (w .0) (x .0) (sym (w .1) ∙ g ∙ x .1);
   }
     where
-      linked : (u : ℕ) → connectedAt s u ≡ true → ¬ (u ≡ t) → Cut t p (parentAt s u) (threadAt s (parentAt s u)) (threadAt s' (parentAt s u)) → statusAt s' (parentAt s u) ≡ 5
-      linked u e m (off f _ _) = absurd (let z = ok .linked u e .1 in let y : statusAt s (parentAt s u) ≡ statusAt s t = ap (statusAt s) f in omega arith)
+      linked : (u : ℕ) → connectedAt s u ≡ true → ¬ (u ≡ t) → Cut t p (parentAt s u) (threadAt s (parentAt s u)) (threadAt s' (parentAt s u))
+          → statusAt s' (parentAt s u) ≡ 5
+      linked u e m (off f _ _) = absurd (let z = ok .linked u e .1 in let y = ap (statusAt s) f in omega arith)
       linked u e m (again f _ _ _) = absurd (m (ok .only u t e tied (f ∙ sym mother)))
       linked u e m (stays _ _ b) = b .lent .to (ok .linked u e .1)
 
-      keeps : (q u : ℕ) → ¬ (q ≡ p) → connectedAt s u ≡ true → parentAt s u ≡ q → Cut t p u (threadAt s u) (threadAt s' u) → (connectedAt s' u ≡ true) × (parentAt s' u ≡ q)
+      keeps : (q u : ℕ) → ¬ (q ≡ p) → connectedAt s u ≡ true → parentAt s u ≡ q → Cut t p u (threadAt s u) (threadAt s' u)
+          → (connectedAt s' u ≡ true) × (parentAt s' u ≡ q)
       keeps q u n e f (off g _ _) = absurd (n (sym f ∙ ap (parentAt s) g ∙ mother))
       keeps q u n e f (again _ _ b c) = (b ∙ e, c ∙ f)
       keeps q u n e f (stays _ _ b) = (b .tied ∙ e, b .parent e ∙ f)
@@ -145,7 +152,8 @@ module _ (s s' : State) (ok : Links s) (t n : ℕ) (running : statusAt s t ≡ 1
       born (lends a _ _ _) = absurd (apart a)
       born (remains a _ _) = absurd (a refl)
 
-      keeps : (q u : ℕ) → connectedAt s u ≡ true → parentAt s u ≡ q → Made t n u (threadAt s u) (threadAt s' u) → (connectedAt s' u ≡ true) × (parentAt s' u ≡ q)
+      keeps : (q u : ℕ) → connectedAt s u ≡ true → parentAt s u ≡ q → Made t n u (threadAt s u) (threadAt s' u)
+          → (connectedAt s' u ≡ true) × (parentAt s' u ≡ q)
       keeps q u e f (fresh a _ _ _) =
           absurd (⊎-elim (λ z. let y = ap (statusAt s) a in omega arith) (λ z. let y = ap (statusAt s) a in omega arith) (ok .linked u e .0))
       keeps q u e f (lends _ _ b c) = (b ∙ e, c ∙ f)

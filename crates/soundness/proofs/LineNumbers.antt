@@ -2,8 +2,8 @@
 -- Said once of a status k and a queue; `Turns` and `FreeThreads` follow. A change leaves the queue alone, takes its head, or adds at
 -- its tail, where there is room by `appended-new`. Assumes nothing.
 use mathlib.Core.List.{List, [], _∷_, _++_}
-use mathlib.Core.Logic.{_⊎_, inl, inr, ⊎-elim}
-use mathlib.Core.Path.{_≡_, refl, sym, _∙_, ap}
+use mathlib.Core.Logic.{_⊎_, ⊎-elim}
+use mathlib.Core.Path.{_≡_, sym, _∙_, ap}
 use Prim.Native.Nat.{ℕ, _<_}
 use native.Mathlib.Decide.{ℕ-discrete}
 use native.Mathlib.Omega.{arith}
@@ -13,7 +13,7 @@ use Rattle.machine.specs.Lists.{Every, Member, Distinct}
 use Rattle.machine.specs.State.{State, threadAt}
 use Rattle.machine.specs.Sound.{statusAt, Turns, FreeThreads}
 use Rattle.soundness.proofs.Queues.{every-map, every-member, member-every, every-last, member-left, member-last, distinct-last, appended-new}
-use Rattle.soundness.proofs.Changes.{standing, used-low}
+use Rattle.soundness.proofs.Changes.{used-low}
 use Rattle.soundness.proofs.CoreSeats.{Same}
 
 -- the queue xs holds the numbers below 32 of threads of status k, each once
@@ -34,9 +34,11 @@ lined-same k s s' xs ok view = record {
 pub lined-took : (k : ℕ) (s s' : State) (t : ℕ) (ts : List ℕ) → Lined k s (t ∷ ts) → ¬ (statusAt s' t ≡ k)
     → ((u : ℕ) → ¬ (u ≡ t) → Same k (threadAt s u) (threadAt s' u)) → Lined k s' ts
 lined-took k s s' t ts ok gone view = record {
-  only = member-every ts (λ u m. let h = every-member (λ v. (v < 32) × (statusAt s v ≡ k)) ts (ok .only .1) u m in (h .0, view u (other u m) .to (h .1)));
+  only = member-every ts (λ u m. let h = every-member (λ v. (v < 32) × (statusAt s v ≡ k)) ts (ok .only .1) u m in
+      (h .0, view u (other u m) .to (h .1)));
   once = ok .once .1;
-  stands = λ u l e. let n : ¬ (u ≡ t) = λ f. gone (sym (ap (statusAt s') f) ∙ e) in ⊎-elim (λ z. absurd (n z)) (λ z. z) (ok .stands u l (view u n .from e));
+  stands = λ u l e. let n : ¬ (u ≡ t) = λ f. gone (sym (ap (statusAt s') f) ∙ e) in
+      ⊎-elim (λ z. absurd (n z)) (λ z. z) (ok .stands u l (view u n .from e));
 }
   where
     other : (u : ℕ) → Member u ts → ¬ (u ≡ t)
@@ -46,7 +48,8 @@ lined-took k s s' t ts ok gone view = record {
 pub lined-gave : (k : ℕ) (s s' : State) (n : ℕ) (xs : List ℕ) → Lined k s xs → n < 32 → ¬ (statusAt s n ≡ k) → statusAt s' n ≡ k
     → ((u : ℕ) → ¬ (u ≡ n) → Same k (threadAt s u) (threadAt s' u)) → Lined k s' (appended capacity xs n)
 lined-gave k s s' n xs ok low was is view = rw (appended-new xs n (ok .once) (every-map (λ u h. h .0) xs (ok .only)) low absent) (record {
-  only = every-last (λ t. (t < 32) × (statusAt s' t ≡ k)) xs n (every-map (λ u h. (h .0, view u (other u (h .1)) .to (h .1))) xs (ok .only)) (low, is);
+  only = every-last (λ t. (t < 32) × (statusAt s' t ≡ k)) xs n (every-map (λ u h. (h .0, view u (other u (h .1)) .to (h .1))) xs (ok .only))
+      (low, is);
   once = distinct-last xs n (ok .once) absent;
   stands = λ u l e. stands u l e (ℕ-discrete u n);
 })

@@ -3,13 +3,11 @@
 use mathlib.Core.Bool.{Bool, true, false, cond, _&&_, _||_, not}
 use mathlib.Core.List.{List, [], _∷_}
 use mathlib.Core.Logic.{_⊎_, inl, inr, ⊎-elim}
-use mathlib.Core.Path.{_≡_, refl, sym, _∙_, ap}
+use mathlib.Core.Path.{_≡_, refl}
 use Prim.Native.Nat.{ℕ, _+_, _-_, _/_, _<_, _≤_}
 use native.Mathlib.Omega.{arith}
 use lib.Dec.{ltb, leb, eqb}
-use borrow.Author.Tests.{eqb-true, eqb-false, eq-eqb, ne-eqb, ltb-true, ltb-false, lt-ltb, leb-true, leb-false}
-use Rattle.command.specs.Command.{decoded, decodedAt, pair}
-use Rattle.command.specs.declared.Command.{Command}
+use borrow.Author.Tests.{eqb-true, eq-eqb, ne-eqb, ltb-true, ltb-false, lt-ltb, leb-true, leb-false}
 use Rattle.thread.specs.declared.Effect.{Effect}
 use Rattle.thread.specs.declared.Effect.the-variants.{Faults, Sets, Loads, Stores, Goes, Continues, Lforks, Forks, Joins, Suspends, Yields, Returns}
 use Rattle.thread.specs.declared.Status.the-variants.{Ready, Suspended, Waiting, Lent}
@@ -17,15 +15,14 @@ use Rattle.thread.specs.declared.Thread.{Thread}
 use Rattle.thread.specs.Thread.{none, withStatus, _is_}
 use Rattle.machine.specs.declared.ForkKind.{ForkKind}
 use Rattle.machine.specs.declared.ForkKind.the-variants.{Called, Queued, Stolen}
-use Rattle.machine.specs.State.{Job, State, After, Outcome, going, isOver, threadAt, onCore, isBusy}
+use Rattle.machine.specs.State.{Job, State, going, isOver, threadAt, onCore, isBusy}
 use Rattle.machine.specs.Update.{accepted, refused, setThread, enqueueReady}
 use Rattle.machine.specs.Turn.{Turn, turnAt, byteOf, effectAt, tooDear, waits}
 use Rattle.machine.specs.Leave.{leaves}
 use Rattle.machine.specs.Fork.{Asked, asked, goesAbove, placeOf, forkOn, forkWith, forkOf}
-use Rattle.machine.specs.Return.{returnOf}
 use Rattle.machine.specs.Rules.{carriedOf, turnOf, stepOf, takeInto, takeOf, isSeed, stolenOf, stealOf, enableOf}
 use Rattle.machine.specs.Sound.{statusAt, Sound}
-use Rattle.soundness.proofs.Entries.{Stepped, Seeded, not-over, and-true, or-true}
+use Rattle.soundness.proofs.Entries.{Stepped, Seed, Seeded, seed-true, not-over}
 use Rattle.soundness.proofs.LentThreads.{not-both}
 use Rattle.soundness.proofs.Tested.{SeedEffect, seed-effect}
 
@@ -54,7 +51,8 @@ unfolding forkOf forkWith forkOn placeOf
 fork-log j s kind o f = with-number (s .freeThreads) refl
   where
     on-place : (n : ℕ) (ns : List ℕ) → s .freeThreads ≡ n ∷ ns → (b : Bool) → goesAbove j s kind (o .thread) (f .routine) ≡ b
-        → (ys : List ℕ) → s .freeStacklets ≡ ys → ForkLog j s kind (o .thread) (f .routine) (forkOn j s kind o f n ns (placeOf b (o .thread .base / 64) ys) .log)
+        → (ys : List ℕ) → s .freeStacklets ≡ ys → ForkLog j s kind (o .thread) (f .routine)
+        (forkOn j s kind o f n ns (placeOf b (o .thread .base / 64) ys) .log)
     on-place n ns e true g ys q = hasBoth refl
     on-place n ns e false g [] q = fewStacklets refl (λ z. let y : _≡_ {A = ℕ} 0 1 = cc in omega arith) g q
     on-place n ns e false g (y ∷ ys) q = hasBoth refl
@@ -70,7 +68,8 @@ pub data StepLog (j : Job) (s : State) (c n : ℕ) : Type 0 where
   stepIdle : n ≡ 15 → s .outcome ≡ going → c < s .count → none ≤ onCore s c → StepLog j s c n
   stepDear : n ≡ 22 → Dear j s c (onCore s c) → StepLog j s c n
   stepFaults : Stepped j s c (onCore s c) → effectAt j s (threadAt s (onCore s c)) ≡ Faults n → StepLog j s c n
-  stepFewThreads : n ≡ 20 → Stepped j s c (onCore s c) → (kind : ForkKind) (r : ℕ) → StepForks j s (onCore s c) kind r → s .freeThreads ≡ [] → StepLog j s c n
+  stepFewThreads : n ≡ 20 → Stepped j s c (onCore s c) → (kind : ForkKind) (r : ℕ) → StepForks j s (onCore s c) kind r → s .freeThreads ≡ []
+      → StepLog j s c n
   stepFewStacklets : n ≡ 21 → Stepped j s c (onCore s c) → (kind : ForkKind) (r : ℕ) → StepForks j s (onCore s c) kind r → ¬ (s .freeThreads ≡ [])
       → goesAbove j s kind (threadAt s (onCore s c)) r ≡ false → s .freeStacklets ≡ [] → StepLog j s c n
   stepAccepted : n ≡ 0 → StepLog j s c n
@@ -124,7 +123,15 @@ step-log j s sound c = go (isOver (s .outcome)) refl (leb (s .count) c) refl (is
       dear = (let a = ltb-true (j .allowance - s .units) (turnAt j s c (onCore s c) .weight) k in let b = sound .sized .units in omega arith);
     })
     go false e false f true g false h false k =
-        carried-log j s c (record { ongoing = not-over _ e; core = leb-false _ _ f; seat = refl; low = ltb-true _ _ g; passes = h; paid = ltb-false _ _ k }) _ refl
+        carried-log j s c (record {
+          ongoing = not-over _ e;
+          core = leb-false _ _ f;
+          seat = refl;
+          low = ltb-true _ _ g;
+          passes = h;
+          paid =
+              ltb-false _ _ k;
+        }) _ refl
 
 -- TAKE. Why a take for core c is logged n
 pub data TakeLog (s : State) (c n : ℕ) : Type 0 where
@@ -149,11 +156,7 @@ take-log s c = go (isOver (s .outcome)) refl (leb (s .count) c) refl (isBusy s c
     go false e false f true g = takeBusy refl (not-over _ e) (leb-false _ _ f) (ltb-true _ _ g)
     go false e false f false g = into (not-over _ e) (leb-false _ _ f) (ltb-false _ _ g) (s .ready) refl
 
--- STEAL. Thread t's next command is a seed: "18 thread above 31, not lent, or its next command not 08 or 09"
-abbrev pub Seed : Job → State → ℕ → Type 0
-Seed j s t = (t < 32) × (statusAt s t ≡ 5) × ((byteOf j (threadAt s t) ≡ 8) ⊎ (byteOf j (threadAt s t) ≡ 9))
-
--- a seed is met that the allowance does not pay for
+-- STEAL. A seed is met that the allowance does not pay for
 pub record DearSeed (j : Job) (s : State) (c t : ℕ) : Type 0 where
   pub ongoing : s .outcome ≡ going
   pub core : c < s .count
@@ -204,25 +207,20 @@ stolen-log j s c t k Yields q i = absurd i
 stolen-log j s c t k (Returns v) q i = absurd i
 
 -- the test of a seed
-pub seed-true : (j : Job) (s : State) (t : ℕ) → isSeed j s t ≡ true → Seed j s t
-unfolding isSeed
-seed-true j s t h =
-    let (a, b) = and-true (ltb t 32) (threadAt s t .status is Lent && (eqb (byteOf j (threadAt s t)) 8 || eqb (byteOf j (threadAt s t)) 9)) h in
-    let (d, e) = and-true (threadAt s t .status is Lent) (eqb (byteOf j (threadAt s t)) 8 || eqb (byteOf j (threadAt s t)) 9) b in
-    (ltb-true _ _ a, eqb-true _ _ d, ⊎-elim (λ z. inl (eqb-true _ _ z)) (λ z. inr (eqb-true _ _ z)) (or-true _ _ e))
-
 pub true-seed : (j : Job) (s : State) (t : ℕ) → Seed j s t → isSeed j s t ≡ true
 unfolding isSeed
 true-seed j s t (l, e, b) =
     rw (lt-ltb t 32 l, eq-eqb (statusAt s t) 5 e)
-    (⊎-elim (λ z. rw (eq-eqb (byteOf j (threadAt s t)) 8 z)) (λ z. rw (ne-eqb (byteOf j (threadAt s t)) 8 (λ y. omega arith), eq-eqb (byteOf j (threadAt s t)) 9 z)) b)
+    (⊎-elim (λ z. rw (eq-eqb (byteOf j (threadAt s t)) 8 z))
+    (λ z. rw (ne-eqb (byteOf j (threadAt s t)) 8 (λ y. omega arith), eq-eqb (byteOf j (threadAt s t)) 9 z)) b)
 
 pub seed-false : (j : Job) (s : State) (t : ℕ) → isSeed j s t ≡ false → ¬ (Seed j s t)
 seed-false j s t h k = not-both (isSeed j s t) (true-seed j s t k) h
 
 pub steal-log : (j : Job) (s : State) → Sound j s → (c t : ℕ) → StealLog j s c t (stealOf j s c t .log)
 unfolding stealOf
-steal-log j s sound c t = go (isOver (s .outcome)) refl (leb (s .count) c) refl (isBusy s c) refl (isSeed j s t) refl (tooDear j s (turnAt j s c t)) refl
+steal-log j s sound c t = go (isOver (s .outcome)) refl (leb (s .count) c) refl (isBusy s c) refl (isSeed j s t) refl
+    (tooDear j s (turnAt j s c t)) refl
   where
     go : (x : Bool) → isOver (s .outcome) ≡ x → (y : Bool) → leb (s .count) c ≡ y → (z : Bool) → isBusy s c ≡ z
         → (v : Bool) → isSeed j s t ≡ v → (b : Bool) → tooDear j s (turnAt j s c t) ≡ b
@@ -262,7 +260,8 @@ unfolding enableOf
 enable-log s t = go (isOver (s .outcome)) refl (ltb t 32 && threadAt s t .status is Suspended) refl
   where
     go : (x : Bool) → isOver (s .outcome) ≡ x → (y : Bool) → (ltb t 32 && threadAt s t .status is Suspended) ≡ y
-        → EnableLog s t (cond x (refused 19 s) (cond (not y) (refused 17 s) (accepted (enqueueReady t (setThread t (withStatus Ready (threadAt s t)) s)))) .log)
+        → EnableLog s t (cond x (refused 19 s) (cond (not y) (refused 17 s)
+        (accepted (enqueueReady t (setThread t (withStatus Ready (threadAt s t)) s)))) .log)
     go true e y _ = enableOver refl e
     go false e false f = enableAwake refl (not-over _ e)
         (λ k. not-both (ltb t 32 && threadAt s t .status is Suspended) (rw (lt-ltb t 32 (k .0), eq-eqb (statusAt s t) 3 (k .1))) f)

@@ -1,24 +1,23 @@
 -- Every entry keeps the six parts of soundness that are about threads, cores and queues, whatever its log byte. Assumes nothing but
 -- that the state before is sound.
-use mathlib.Core.Bool.{Bool, true, false, _&&_}
+use mathlib.Core.Bool.{false}
 use mathlib.Core.Logic.{_⊎_, inl, inr, ⊎-elim}
-use mathlib.Core.Path.{_≡_, refl, sym, _∙_, ap}
-use Prim.Native.Nat.{ℕ, _<_, _≤_}
+use mathlib.Core.Path.{_≡_, refl, _∙_}
+use Prim.Native.Nat.{ℕ, _<_}
 use native.Mathlib.Omega.{arith}
-use lib.Dec.{eqb, ltb}
+use lib.Dec.{ltb}
 use lib.ListN.{set}
 use borrow.Author.Tests.{eq-eqb, ltb-false}
 use Rattle.schedule.specs.declared.Entry.{Entry}
-use Rattle.thread.specs.declared.Effect.the-variants.{Joins, Lforks, Forks, Returns}
+use Rattle.thread.specs.declared.Effect.the-variants.{Joins, Returns}
 use Rattle.thread.specs.declared.Status.the-variants.{Ready, Suspended, Waiting}
-use Rattle.thread.specs.declared.Thread.{Thread}
-use Rattle.thread.specs.Thread.{isPending, joinedAt, movedTo, withStatus}
-use Rattle.machine.specs.State.{Job, State, Outcome, going, finished, threadAt, onCore}
-use Rattle.machine.specs.Turn.{turnAt, byteOf, effectAt, waits, goesOn}
+use Rattle.thread.specs.Thread.{joinedAt, movedTo}
+use Rattle.machine.specs.State.{Job, State, going, threadAt, onCore}
+use Rattle.machine.specs.Turn.{turnAt, byteOf, effectAt, goesOn}
 use Rattle.machine.specs.Rules.{entryOf}
-use Rattle.machine.specs.Sound.{statusAt, Used, Seats, Links, Turns, Tree, Results, FreeThreads, Sound}
-use Rattle.soundness.proofs.Entries.{Waits, Stepped, Seeded, Forked, Taken, Enabled, Kept, entry-by}
-use Rattle.soundness.proofs.Changes.{childrenAt, pendingAt}
+use Rattle.machine.specs.Sound.{statusAt, Seats, Links, Turns, Tree, Results, FreeThreads, Sound}
+use Rattle.soundness.proofs.Entries.{Stepped, Kept, entry-by}
+use Rattle.soundness.proofs.Changes.{childrenAt}
 use Rattle.soundness.proofs.ForkTree.{Unfinished, Childless, none-counted}
 use Rattle.soundness.proofs.ResultSlots.{clear-childless}
 use Rattle.soundness.proofs.Tested.{lfork-tested, fork-tested, join-tested, return-tested}
@@ -49,7 +48,8 @@ module _ (j : Job) (s : State) (sound : Sound j s) where
 
   -- a thread whose join passes has none either
   pub join-childless : (c t : ℕ) → Stepped j s c t → effectAt j s (threadAt s t) ≡ Joins → Childless s t
-  join-childless c t k q = none-counted s (sound .sized .threads) (sound .tree) t (let z = runs c t (k .core) (k .seat) (k .low) in omega arith) none-left
+  join-childless c t k q = none-counted s (sound .sized .threads) (sound .tree) t
+      (let z = runs c t (k .core) (k .seat) (k .low) in omega arith) none-left
     where
       none-left : childrenAt s t ≡ 0
       none-left =
@@ -58,40 +58,51 @@ module _ (j : Job) (s : State) (sound : Sound j s) where
           omega arith
 
   -- a command after which the thread goes to p
-  moved : (c t p : ℕ) → Stepped j s c t → (s' : State) → s' .threads ≡ set (s .threads) t (movedTo p (threadAt s t)) → s' .cores ≡ s .cores → s' .count ≡ s .count
+  moved : (c t p : ℕ) → Stepped j s c t → (s' : State) → s' .threads ≡ set (s .threads) t (movedTo p (threadAt s t)) → s' .cores ≡ s .cores
+      → s' .count ≡ s .count
       → s' .ready ≡ s .ready → s' .freeThreads ≡ s .freeThreads → s' .outcome ≡ s .outcome → Held s'
   moved c t p k s' threads cores count ready free outcome =
-      held-own s s' held t (movedTo p (threadAt s t)) (k .low) threads cores count ready free (going-unfinished s (k .ongoing)) (going-unfinished s' (outcome ∙ k .ongoing))
+      held-own s s' held t (movedTo p (threadAt s t)) (k .low) threads cores count ready free (going-unfinished s (k .ongoing))
+      (going-unfinished s' (outcome ∙ k .ongoing))
       refl refl refl refl refl (inr (λ i e. e))
 
   kept : Kept Held j s
   kept = record {
     unchanged = held;
     fault = λ t n o low q. held-same s _ held refl refl refl refl refl (going-unfinished s o) (λ v e. let z : _≡_ {A = ℕ} 0 1 = cc in omega arith);
-    waiting = λ c t k. held-leaves s held c t Waiting (k .core) (k .seat) (k .low) (going-unfinished s (k .ongoing)) (omega arith) (omega arith) (λ e. k .children);
+    waiting = λ c t k. held-leaves s held c t Waiting (k .core) (k .seat) (k .low) (going-unfinished s (k .ongoing)) (omega arith) (omega arith)
+        (λ e. k .children);
     sets = λ c t k d v q. moved c t _ k _ refl refl refl refl refl refl;
     loads = λ c t k d a q. moved c t _ k _ refl refl refl refl refl refl;
     stores = λ c t k a v q. moved c t _ k _ refl refl refl refl refl refl;
     goes = λ c t k p q. moved c t p k _ refl refl refl refl refl refl;
     continues = λ c t k q. moved c t _ k _ refl refl refl refl refl refl;
     lforks = λ c t k r d a e q n ns x xs f.
-        held-lforks j s held c t r d a e n ns x xs (going-unfinished s (k .ongoing)) (f .number) (lfork-tested j s t r d a e q) (k .core) (k .seat) (runs c t (k .core) (k .seat) (k .low));
+        held-lforks j s held c t r d a e n ns x xs (going-unfinished s (k .ongoing)) (f .number) (lfork-tested j s t r d a e q) (k .core)
+        (k .seat) (runs c t (k .core) (k .seat) (k .low));
     forks = λ c t k r d a e q n ns x xs f.
-        held-forks j s held c t r d a e n ns x xs (going-unfinished s (k .ongoing)) (f .number) (fork-tested j s t r d a e q) (runs c t (k .core) (k .seat) (k .low));
+        held-forks j s held c t r d a e n ns x xs (going-unfinished s (k .ongoing)) (f .number) (fork-tested j s t r d a e q)
+        (runs c t (k .core) (k .seat) (k .low));
     joins = λ c t k q.
-        held-own s _ held t (joinedAt (turnAt j s c t .next) (threadAt s t)) (k .low) refl refl refl refl refl (going-unfinished s (k .ongoing)) (going-unfinished s (k .ongoing))
+        held-own s _ held t (joinedAt (turnAt j s c t .next) (threadAt s t)) (k .low) refl refl refl refl refl (going-unfinished s (k .ongoing))
+        (going-unfinished s (k .ongoing))
         refl refl refl refl refl (inl (join-childless c t k q));
     suspends = λ c t k q.
-        held-leaves (goesOn (turnAt j s c t) s) (moved c t _ k _ refl refl refl refl refl refl) c t Suspended (k .core) (k .seat) (k .low) (going-unfinished s (k .ongoing))
+        held-leaves (goesOn (turnAt j s c t) s) (moved c t _ k _ refl refl refl refl refl refl) c t Suspended (k .core) (k .seat) (k .low)
+        (going-unfinished s (k .ongoing))
         (omega arith) (omega arith) (λ e. absurd (omega arith));
     yields = λ c t k q.
-        held-yields (goesOn (turnAt j s c t) s) (moved c t _ k _ refl refl refl refl refl refl) c t Ready (k .core) (k .seat) (k .low) (going-unfinished s (k .ongoing)) refl;
+        held-yields (goesOn (turnAt j s c t) s) (moved c t _ k _ refl refl refl refl refl refl) c t Ready (k .core) (k .seat) (k .low)
+        (going-unfinished s (k .ongoing)) refl;
     returns = λ c t k v q. held-returns j s held c t v (k .core) (k .seat) (k .low) (going-unfinished s (k .ongoing)) (return-childless c t v k q);
     takes = λ c t ts k.
-        held-took s _ held c t ts (k .core) (k .idle) (k .head) refl refl refl refl refl (going-unfinished s (k .ongoing)) (going-unfinished s (k .ongoing));
+        held-took s _ held c t ts (k .core) (k .idle) (k .head) refl refl refl refl refl (going-unfinished s (k .ongoing))
+        (going-unfinished s (k .ongoing));
     steals = λ c t k r d a e q n ns x xs f.
-        held-steals j s held c t r d a e n ns x xs (going-unfinished s (k .ongoing)) (f .number) (⊎-elim (lfork-tested j s t r d a e) (fork-tested j s t r d a e) q) (k .core) (k .idle) (k .lent);
-    enables = λ t k. held-enabled s _ held t (k .suspended) refl refl refl refl refl (going-unfinished s (k .ongoing)) (going-unfinished s (k .ongoing));
+        held-steals j s held c t r d a e n ns x xs (going-unfinished s (k .ongoing)) (f .number)
+        (⊎-elim (lfork-tested j s t r d a e) (fork-tested j s t r d a e) q) (k .core) (k .idle) (k .lent);
+    enables = λ t k. held-enabled s _ held t (k .suspended) refl refl refl refl refl (going-unfinished s (k .ongoing))
+        (going-unfinished s (k .ongoing));
   }
 
   -- EVERY ENTRY keeps them

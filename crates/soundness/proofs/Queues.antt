@@ -65,7 +65,10 @@ fewer k (x ∷ xs) d l = go (ℕ-discrete x k) (fewer k xs (d .1) (l .1))
     go : Dec (x ≡ k) → Fewer k xs → Fewer k (x ∷ xs)
     go (yes e) f = record {
       others = xs;
-      below = member-every xs (λ y m. let a = every-member (λ z. z < suc k) xs (l .1) y m in let b : ¬ (y ≡ k) = λ q. d .0 (subst (λ z. Member z xs) (q ∙ sym e) m) in omega arith);
+      below = member-every xs (λ y m.
+          let a = every-member (λ z. z < suc k) xs (l .1) y m in
+          let b : ¬ (y ≡ k) = λ q. d .0 (subst (λ z. Member z xs) (q ∙ sym e) m) in
+          omega arith);
       distinct = d .1;
       long = omega arith;
       among = λ y m. inr m;
@@ -88,7 +91,8 @@ at-most (suc k) xs d l =
     omega arith
 
 -- a queue of different numbers below 32 takes one more of them
-pub appended-new : (xs : List ℕ) (n : ℕ) → Distinct xs → Every (λ x. x < 32) xs → n < 32 → (Member n xs → ⊥) → appended capacity xs n ≡ xs ++ (n ∷ [])
+pub appended-new : (xs : List ℕ) (n : ℕ) → Distinct xs → Every (λ x. x < 32) xs → n < 32 → (Member n xs → ⊥)
+    → appended capacity xs n ≡ xs ++ (n ∷ [])
 appended-new xs n d l low f = appended-room 32 xs n (at-most 32 (n ∷ xs) (f, d) (low, l))
 
 -- ALL NUMBERS BELOW k. A list without one occurrence of n
@@ -108,7 +112,8 @@ without-shorter : (n : ℕ) (xs : List ℕ) → Member n xs → suc (length (wit
 unfolding without
 without-shorter n (y ∷ ys) m = go (eqb n y) refl (λ k. without-shorter n ys k)
   where
-    go : (b : Bool) → eqb n y ≡ b → (Member n ys → suc (length (without n ys)) ≡ length ys) → suc (length (cond b ys (y ∷ without n ys))) ≡ suc (length ys)
+    go : (b : Bool) → eqb n y ≡ b → (Member n ys → suc (length (without n ys)) ≡ length ys)
+        → suc (length (cond b ys (y ∷ without n ys))) ≡ suc (length ys)
     go true e rec = refl
     go false e rec = ⊎-elim (λ q. absurd (eqb-false _ _ e q)) (λ k. ap suc (rec k)) m
 

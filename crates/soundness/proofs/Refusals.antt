@@ -1,30 +1,28 @@
 -- Each entry's number is logged exactly under its condition, in every sound state: document 01, "Who can cause which number", 9 to 12 and
 -- 14 to 22 of a step, take, steal and enable. So none is logged with what it needs at hand, and the order of the tests is seen in the
 -- conditions. Assumes nothing but that the state is sound.
-use mathlib.Core.Bool.{Bool, true, false, cond, _&&_, not}
+use mathlib.Core.Bool.{Bool, true, false, _&&_}
 use mathlib.Core.List.{List, [], _∷_}
-use mathlib.Core.Logic.{_⊎_, inl, inr, ⊎-elim}
+use mathlib.Core.Logic.{_⊎_, ⊎-elim}
 use mathlib.Core.Path.{_≡_, refl, sym, _∙_, ap}
-use Prim.Native.Nat.{ℕ, _+_, _-_, _/_, _<_, _≤_}
+use Prim.Native.Nat.{ℕ, _-_, _/_, _<_, _≤_}
 use native.Mathlib.Omega.{arith}
-use lib.Dec.{ltb, leb, eqb}
+use lib.Dec.{ltb}
 use borrow.Author.Tests.{lt-ltb, le-ltb, lt-leb, le-leb, ltb-true, eqb-true}
-use Rattle.thread.specs.declared.Effect.{Effect}
-use Rattle.thread.specs.declared.Effect.the-variants.{Faults, Lforks, Forks}
+use Rattle.thread.specs.declared.Effect.the-variants.{Faults}
 use Rattle.thread.specs.declared.Status.the-variants.{Suspended}
 use Rattle.thread.specs.declared.Thread.{Thread}
 use Rattle.thread.specs.Thread.{none, _is_}
 use Rattle.machine.specs.declared.ForkKind.{ForkKind}
-use Rattle.machine.specs.declared.ForkKind.the-variants.{Called, Queued, Stolen}
-use Rattle.machine.specs.State.{Job, State, After, Outcome, going, isOver, threadAt, onCore, isBusy}
-use Rattle.machine.specs.Turn.{Turn, turnAt, byteOf, effectAt, tooDear, waits}
+use Rattle.machine.specs.declared.ForkKind.the-variants.{Stolen}
+use Rattle.machine.specs.State.{Job, State, going, isOver, threadAt, onCore}
+use Rattle.machine.specs.Turn.{Turn, turnAt, effectAt}
 use Rattle.machine.specs.Fork.{Asked, asked, goesAbove, placeOf, forkOn, forkWith, forkOf}
 use Rattle.machine.specs.Rules.{carriedOf, turnOf, stepOf, takeInto, takeOf, isSeed, stolenOf, stealOf, enableOf}
 use Rattle.machine.specs.Sound.{statusAt, Sound}
-use Rattle.soundness.proofs.Entries.{Stepped, Seeded, and-true}
-use Rattle.soundness.proofs.LentThreads.{not-both}
+use Rattle.soundness.proofs.Entries.{Stepped, Seed, Seeded, seed-true, and-true}
 use Rattle.soundness.proofs.Tested.{fault-tested}
-use Rattle.soundness.proofs.Logs.{Dear, StepForks, isLfork, isFork, StepLog, stepOver, stepNoCore, stepIdle, stepDear, stepFaults, stepFewThreads, stepFewStacklets, stepAccepted, step-log, TakeLog, takeOver, takeNoCore, takeBusy, takeEmpty, takeAccepted, take-log, Seed, DearSeed, SeedForks, true-seed, seed-true, StealLog, stealOver, stealNoCore, stealBusy, stealNoSeed, stealDear, stealFaults, stealFewThreads, stealFewStacklets, stealAccepted, steal-log, EnableLog, enableOver, enableAwake, enableAccepted, enable-log}
+use Rattle.soundness.proofs.Logs.{Dear, StepForks, isLfork, isFork, StepLog, stepOver, stepNoCore, stepIdle, stepDear, stepFaults, stepFewThreads, stepFewStacklets, stepAccepted, step-log, TakeLog, takeOver, takeNoCore, takeBusy, takeEmpty, takeAccepted, take-log, DearSeed, SeedForks, true-seed, StealLog, stealOver, stealNoCore, stealBusy, stealNoSeed, stealDear, stealFaults, stealFewThreads, stealFewStacklets, stealAccepted, steal-log, EnableLog, enableOver, enableAwake, enableAccepted, enable-log}
 
 -- a log byte and its condition: each where the other
 abbrev pub Exactly : Type 0 → Type 0 → Type 0
@@ -35,7 +33,8 @@ few-threads : (j : Job) (s : State) (kind : ForkKind) (o : Turn) (f : Asked) →
 unfolding forkOf forkWith
 few-threads j s kind o f e = ap (λ ns. forkWith j s kind o f ns .log) e
 
-few-stacklets : (j : Job) (s : State) (kind : ForkKind) (o : Turn) (f : Asked) → ¬ (s .freeThreads ≡ []) → goesAbove j s kind (o .thread) (f .routine) ≡ false
+few-stacklets : (j : Job) (s : State) (kind : ForkKind) (o : Turn) (f : Asked) → ¬ (s .freeThreads ≡ [])
+    → goesAbove j s kind (o .thread) (f .routine) ≡ false
     → s .freeStacklets ≡ [] → forkOf j s kind o f .log ≡ 21
 unfolding forkOf forkWith forkOn placeOf
 few-stacklets j s kind o f some above none = go (s .freeThreads) some
@@ -198,7 +197,8 @@ module _ (j : Job) (s : State) (sound : Sound j s) (c : ℕ) where
   )
 
   -- "12, 9, 10 or 11": the faults
-  pub step-fault : (n : ℕ) → 9 ≤ n → n ≤ 12 → Exactly (stepOf j s c .log ≡ n) (Stepped j s c (onCore s c) × (effectAt j s (threadAt s (onCore s c)) ≡ Faults n))
+  pub step-fault : (n : ℕ) → 9 ≤ n → n ≤ 12 → Exactly (stepOf j s c .log ≡ n)
+      (Stepped j s c (onCore s c) × (effectAt j s (threadAt s (onCore s c)) ≡ Faults n))
   unfolding carriedOf
   step-fault n l m = (
     λ e. rw e at (means .fault (rw e l) (rw e m)),
@@ -211,9 +211,11 @@ module _ (j : Job) (s : State) (sound : Sound j s) (c : ℕ) where
       → carriedOf j s (turnAt j s c (onCore s c)) (effectAt j s (threadAt s (onCore s c))) .log ≡ n
   unfolding carriedOf
   fork-at kind r (isLfork k d a e q) n make =
-      ap (λ x. carriedOf j s (turnAt j s c (onCore s c)) x .log) q ∙ ap (λ x. forkOf j s x (turnAt j s c (onCore s c)) (asked r d a e) .log) (sym k) ∙ make (asked r d a e) refl
+      ap (λ x. carriedOf j s (turnAt j s c (onCore s c)) x .log) q
+      ∙ ap (λ x. forkOf j s x (turnAt j s c (onCore s c)) (asked r d a e) .log) (sym k) ∙ make (asked r d a e) refl
   fork-at kind r (isFork k d a e q) n make =
-      ap (λ x. carriedOf j s (turnAt j s c (onCore s c)) x .log) q ∙ ap (λ x. forkOf j s x (turnAt j s c (onCore s c)) (asked r d a e) .log) (sym k) ∙ make (asked r d a e) refl
+      ap (λ x. carriedOf j s (turnAt j s c (onCore s c)) x .log) q
+      ∙ ap (λ x. forkOf j s x (turnAt j s c (onCore s c)) (asked r d a e) .log) (sym k) ∙ make (asked r d a e) refl
 
   -- "20: no free thread number"
   pub step-20 : Exactly (stepOf j s c .log ≡ 20) FewThreads
@@ -459,7 +461,8 @@ module _ (j : Job) (s : State) (sound : Sound j s) (c t : ℕ) where
       → stolenOf j s (turnAt j s c t) (effectAt j s (threadAt s t)) .log ≡ n
   unfolding stolenOf
   seed-at r (d, a, e, q) n make =
-      ⊎-elim (λ z. ap (λ x. stolenOf j s (turnAt j s c t) x .log) z ∙ make (asked r d a e)) (λ z. ap (λ x. stolenOf j s (turnAt j s c t) x .log) z ∙ make (asked r d a e)) q
+      ⊎-elim (λ z. ap (λ x. stolenOf j s (turnAt j s c t) x .log) z ∙ make (asked r d a e))
+      (λ z. ap (λ x. stolenOf j s (turnAt j s c t) x .log) z ∙ make (asked r d a e)) q
 
   pub steal-20 : Exactly (stealOf j s c t .log ≡ 20) (Seeded j s c t × (r : ℕ) × SeedForks j s t r × (s .freeThreads ≡ []))
   steal-20 = (
@@ -468,11 +471,13 @@ module _ (j : Job) (s : State) (sound : Sound j s) (c t : ℕ) where
         ap (λ a. a .log) (steal-carried k) ∙ seed-at r f 20 (λ g. few-threads j s Stolen (turnAt j s c t) g u),
   )
 
-  pub steal-21 : Exactly (stealOf j s c t .log ≡ 21) (Seeded j s c t × (r : ℕ) × SeedForks j s t r × (¬ (s .freeThreads ≡ [])) × (s .freeStacklets ≡ []))
+  pub steal-21 : Exactly (stealOf j s c t .log ≡ 21) (Seeded j s c t × (r : ℕ) × SeedForks j s t r × (¬ (s .freeThreads ≡ [])) ×
+      (s .freeStacklets ≡ []))
   steal-21 = (
     stolen .number21,
     λ (k, r, f, u, w).
-        ap (λ a. a .log) (steal-carried k) ∙ seed-at r f 21 (λ g. few-stacklets j s Stolen (turnAt j s c t) g u (stolen-above j s (threadAt s t) (g .routine)) w),
+        ap (λ a. a .log) (steal-carried k) ∙ seed-at r f 21
+        (λ g. few-stacklets j s Stolen (turnAt j s c t) g u (stolen-above j s (threadAt s t) (g .routine)) w),
   )
 
 -- ENABLE

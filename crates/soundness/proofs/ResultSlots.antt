@@ -1,9 +1,9 @@
 -- `Results`, "unended children's result slots are pending and distinct": so a thread that may return has no children (`clear-childless`),
 -- and a fork, whose result slot is not pending, makes no second child for it (`results-born`). Assumes nothing.
-use mathlib.Core.Bool.{Bool, true, false}
-use mathlib.Core.Logic.{_⊎_, inl, inr, ⊎-elim}
+use mathlib.Core.Bool.{true, false}
+use mathlib.Core.Logic.{_⊎_, ⊎-elim}
 use mathlib.Core.Path.{_≡_, refl, sym, _∙_, ap}
-use Prim.Native.Nat.{ℕ, _<_, _≤_}
+use Prim.Native.Nat.{ℕ, _<_}
 use native.Mathlib.Decide.{ℕ-discrete}
 use native.Mathlib.Omega.{arith}
 use lib.ListN.{length}
@@ -11,7 +11,7 @@ use Rattle.thread.specs.declared.Thread.{Thread}
 use Rattle.thread.specs.Thread.{isPending}
 use Rattle.machine.specs.State.{State, threadAt}
 use Rattle.machine.specs.Sound.{statusAt, Used, Tree, Results}
-use Rattle.soundness.proofs.Changes.{standing, parentAt, pendingAt, resultAt, used-low}
+use Rattle.soundness.proofs.Changes.{parentAt, pendingAt, resultAt, used-low}
 use Rattle.soundness.proofs.LentThreads.{not-both}
 use Rattle.soundness.proofs.ForkTree.{Stays, Childless}
 
@@ -23,7 +23,8 @@ not-root s many tree t h u k e z = ⊎-elim (λ y. let a = y .1 in let b = used-
 pub clear-childless : (s : State) → length (s .threads) ≡ 32 → Tree s → Results s → ((u : ℕ) → Used s u → resultAt s u < 16)
     → (t : ℕ) → Used s t → ((k : ℕ) → k < 16 → isPending (pendingAt s t) k ≡ false) → Childless s t
 clear-childless s many tree ok ranged t h clear u k e =
-    not-both _ (ap (λ p. isPending (pendingAt s p) (resultAt s u)) (sym e) ∙ ok .pending u k (not-root s many tree t h u k e)) (clear (resultAt s u) (ranged u k))
+    not-both _ (ap (λ p. isPending (pendingAt s p) (resultAt s u)) (sym e) ∙ ok .pending u k (not-root s many tree t h u k e))
+    (clear (resultAt s u) (ranged u k))
 
 -- slots pending in a record stay pending in the other
 abbrev pub Pends : Thread → Thread → Type 0
@@ -74,11 +75,13 @@ module _ (s s' : State) (many : length (s .threads) ≡ 32) (tree : Tree s) (ok 
           let g = k .from h in
           rw (k .parent, k .result) (pends (parentAt s u) (parent-old u g m) (resultAt s u) (ok .pending u g m))
 
-      distinct : (u v : ℕ) → Used s' u → Used s' v → parentAt s' u ≡ parentAt s' v → resultAt s' u ≡ resultAt s' v → Dec (u ≡ n) → Dec (v ≡ n) → u ≡ v
+      distinct : (u v : ℕ) → Used s' u → Used s' v → parentAt s' u ≡ parentAt s' v → resultAt s' u ≡ resultAt s' v → Dec (u ≡ n) → Dec (v ≡ n)
+          → u ≡ v
       distinct u v h i p r (yes e) (yes f) = e ∙ sym f
       distinct u v h i p r (yes e) (no n') =
           let l = view v n' in
-          absurd (lone v (l .from i) (sym (l .parent) ∙ sym p ∙ ap (parentAt s') e ∙ parent-n) (sym (l .result) ∙ sym r ∙ ap (resultAt s') e ∙ result-n))
+          absurd (lone v (l .from i) (sym (l .parent) ∙ sym p ∙ ap (parentAt s') e ∙ parent-n)
+          (sym (l .result) ∙ sym r ∙ ap (resultAt s') e ∙ result-n))
       distinct u v h i p r (no n') (yes f) =
           let l = view u n' in
           absurd (lone u (l .from h) (sym (l .parent) ∙ p ∙ ap (parentAt s') f ∙ parent-n) (sym (l .result) ∙ r ∙ ap (resultAt s') f ∙ result-n))

@@ -1,13 +1,12 @@
 -- What a command has been tested for where it has an effect (`tested`): a fault's number is 9 to 12, a fork's result slot is not pending,
 -- a return leaves nothing pending, and joins, suspends and yields are these commands. And the first byte of a join. Assumes nothing.
-use mathlib.Core.Bool.{Bool, true, false, cond, _||_}
-use mathlib.Core.List.{List, [], _∷_}
+use mathlib.Core.Bool.{Bool, true, false, cond}
+use mathlib.Core.List.{List, _∷_}
 use mathlib.Core.Logic.{_⊎_, ⊎-elim}
-use mathlib.Core.Path.{_≡_, refl, sym, _∙_, ap, subst}
-use Prim.Native.Nat.{ℕ, _+_, _≤_, _<_}
+use mathlib.Core.Path.{_≡_, refl, ap, subst}
+use Prim.Native.Nat.{ℕ, _≤_, _<_}
 use native.Mathlib.Omega.{arith}
 use lib.Dec.{eqb}
-use lib.ListN.{getD}
 use borrow.Author.Tests.{eqb-true}
 use Rattle.command.specs.Command.{decoded, decodedAt, pair}
 use Rattle.command.specs.declared.Command.{Command}
@@ -77,7 +76,8 @@ module _ (arguments : ℕ → ℕ) (own : Own) where
   tested (Store a b) =
       tested-unless _ 9 (omega arith) (omega arith) _ _ (λ none. tested-provided _ _ 10 (omega arith) (omega arith) _ (record { facts = tt }))
   tested (JumpIfZero a t) =
-      tested-unless _ 9 (omega arith) (omega arith) _ _ (λ none. tested-choice _ (eqb (own .slot a) 0) (Goes t) Continues (record { facts = tt }) (record { facts = tt }))
+      tested-unless _ 9 (omega arith) (omega arith) _ _ (λ none. tested-choice _ (eqb (own .slot a) 0) (Goes t) Continues (record { facts = tt })
+      (record { facts = tt }))
   tested (Jump t) = record { facts = tt }
   tested (Lfork r d a w) = tested-fork _ r d a w _ (λ f. record { facts = f })
   tested (Fork r d a w) = tested-fork _ r d a w _ (λ f. record { facts = f })
@@ -105,12 +105,15 @@ isJoin (Return a) = 0
 pub join-byte : (byte x y z w : ℕ) → decoded byte x y z w ≡ Join → byte ≡ 10
 unfolding decoded
 join-byte byte x y z w e =
-    go (eqb byte 1) (eqb byte 2) (eqb byte 3) (eqb byte 4) (eqb byte 5) (eqb byte 6) (eqb byte 7) (eqb byte 8) (eqb byte 9) (eqb byte 10) refl (eqb byte 11) (eqb byte 12)
+    go (eqb byte 1) (eqb byte 2) (eqb byte 3) (eqb byte 4) (eqb byte 5) (eqb byte 6) (eqb byte 7) (eqb byte 8) (eqb byte 9) (eqb byte 10) refl
+    (eqb byte 11) (eqb byte 12)
     (ap isJoin e)
   where
     go : (b1 b2 b3 b4 b5 b6 b7 b8 b9 b10 : Bool) → eqb byte 10 ≡ b10 → (b11 b12 : Bool)
-        → isJoin (cond b1 (Set x (pair y z)) (cond b2 (Add x y z) (cond b3 (Subtract x y z) (cond b4 (Load x y) (cond b5 (Store x y) (cond b6 (JumpIfZero x (pair y z))
-        (cond b7 (Jump (pair x y)) (cond b8 (Lfork x y z w) (cond b9 (Fork x y z w) (cond b10 Join (cond b11 Suspend (cond b12 Yield (Return x))))))))))))) ≡ 1 → byte ≡ 10
+        → isJoin (cond b1 (Set x (pair y z)) (cond b2 (Add x y z)
+        (cond b3 (Subtract x y z) (cond b4 (Load x y) (cond b5 (Store x y) (cond b6 (JumpIfZero x (pair y z))
+        (cond b7 (Jump (pair x y)) (cond b8 (Lfork x y z w)
+        (cond b9 (Fork x y z w) (cond b10 Join (cond b11 Suspend (cond b12 Yield (Return x))))))))))))) ≡ 1 → byte ≡ 10
     go true b2 b3 b4 b5 b6 b7 b8 b9 b10 f b11 b12 e = absurd (omega arith)
     go false true b3 b4 b5 b6 b7 b8 b9 b10 f b11 b12 e = absurd (omega arith)
     go false false true b4 b5 b6 b7 b8 b9 b10 f b11 b12 e = absurd (omega arith)
@@ -187,10 +190,12 @@ fork-seed : (arguments : ℕ → ℕ) (own : Own) (r d a w : ℕ) → SeedEffect
 unfolding effectOf
 fork-seed arguments own r d a w = forking-seed arguments own r d a w _ tt
 
-decoded-seed : (arguments : ℕ → ℕ) (own : Own) (byte x y z w : ℕ) → (byte ≡ 8) ⊎ (byte ≡ 9) → SeedEffect (effectOf arguments own (decoded byte x y z w))
+decoded-seed : (arguments : ℕ → ℕ) (own : Own) (byte x y z w : ℕ) → (byte ≡ 8) ⊎ (byte ≡ 9)
+    → SeedEffect (effectOf arguments own (decoded byte x y z w))
 unfolding decoded
 decoded-seed arguments own byte x y z w k = ⊎-elim (λ e. rw e (lfork-seed arguments own x y z w)) (λ e. rw e (fork-seed arguments own x y z w)) k
 
-pub seed-effect : (j : Job) (s : State) (t : ℕ) → (byteOf j (threadAt s t) ≡ 8) ⊎ (byteOf j (threadAt s t) ≡ 9) → SeedEffect (effectAt j s (threadAt s t))
+pub seed-effect : (j : Job) (s : State) (t : ℕ) → (byteOf j (threadAt s t) ≡ 8) ⊎ (byteOf j (threadAt s t) ≡ 9)
+    → SeedEffect (effectAt j s (threadAt s t))
 unfolding effectAt
 seed-effect j s t k = decoded-seed (argumentsOf (j .image)) (ownOf j s t) _ _ _ _ _ k

@@ -1,1 +1,1 @@
-// Proofs only: every entry keeps a sound state sound. The theorems stand under proofs/.
+// Proofs only: every entry keeps a state sound, and a sound machine does not jam.

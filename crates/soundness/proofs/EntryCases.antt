@@ -44,6 +44,10 @@ pub record Stepped (j : Job) (s : State) (c t : ℕ) : Type 0 where
   pub passes : waits j (threadAt s t) ≡ false
   pub paid : turnAt j s c t .weight ≤ j .allowance - s .units
 
+-- thread t's next command is a seed: it is lent, and the command is an 08 or 09
+abbrev pub Seed : Job → State → ℕ → Type 0
+Seed j s t = (t < 32) × (statusAt s t ≡ 5) × ((byteOf j (threadAt s t) ≡ 8) ⊎ (byteOf j (threadAt s t) ≡ 9))
+
 -- the next command of lent thread t, an 08 or 09, is carried out as a seed for idle core c
 pub record Seeded (j : Job) (s : State) (c t : ℕ) : Type 0 where
   pub ongoing : s .outcome ≡ going
@@ -128,6 +132,14 @@ and-true false b h = absurd (let z : _≡_ {A = ℕ} 0 1 = cc in omega arith)
 pub or-true : (a b : Bool) → (a || b) ≡ true → (a ≡ true) ⊎ (b ≡ true)
 or-true true b h = inl refl
 or-true false b h = inr h
+
+pub seed-true : (j : Job) (s : State) (t : ℕ) → isSeed j s t ≡ true → Seed j s t
+unfolding isSeed
+seed-true j s t h =
+    let fork = eqb (byteOf j (threadAt s t)) 8 || eqb (byteOf j (threadAt s t)) 9 in
+    let (a, b) = and-true (ltb t 32) (threadAt s t .status is Lent && fork) h in
+    let (d, e) = and-true (threadAt s t .status is Lent) fork b in
+    (ltb-true _ _ a, eqb-true _ _ d, ⊎-elim (λ z. inl (eqb-true _ _ z)) (λ z. inr (eqb-true _ _ z)) (or-true _ _ e))
 
 module _ (P : After → Type 0) (j : Job) (s : State) (cases : Cases P j s) where
   -- a fork of any kind: 20, 21 or a child
@@ -227,15 +239,9 @@ module _ (P : After → Type 0) (j : Job) (s : State) (cases : Cases P j s) wher
   stolen-by c t k (Returns v) e = cases .refuses 18 (omega arith) (omega arith)
 
   steal-by : (c t : ℕ) → P (stealOf j s c t)
-  unfolding stealOf isSeed
+  unfolding stealOf
   steal-by c t = go (isOver (s .outcome)) refl (leb (s .count) c) refl (isBusy s c) refl (isSeed j s t) refl (tooDear j s (turnAt j s c t)) refl
     where
-      seeded : isSeed j s t ≡ true → (t < 32) × (statusAt s t ≡ 5) × ((byteOf j (threadAt s t) ≡ 8) ⊎ (byteOf j (threadAt s t) ≡ 9))
-      seeded h =
-          let (a, b) = and-true (ltb t 32) (threadAt s t .status is Lent && (eqb (byteOf j (threadAt s t)) 8 || eqb (byteOf j (threadAt s t)) 9)) h in
-          let (d, e) = and-true (threadAt s t .status is Lent) (eqb (byteOf j (threadAt s t)) 8 || eqb (byteOf j (threadAt s t)) 9) b in
-          (ltb-true _ _ a, eqb-true _ _ d, ⊎-elim (λ z. inl (eqb-true _ _ z)) (λ z. inr (eqb-true _ _ z)) (or-true _ _ e))
-
       go : (x : Bool) → isOver (s .outcome) ≡ x → (y : Bool) → leb (s .count) c ≡ y → (z : Bool) → isBusy s c ≡ z
           → (v : Bool) → isSeed j s t ≡ v → (b : Bool) → tooDear j s (turnAt j s c t) ≡ b
           → P (cond x (refused 19 s) (cond y (refused 14 s) (cond z (refused 15 s) (cond (not v) (refused 18 s) (cond b (refused 22 s)
@@ -246,7 +252,7 @@ module _ (P : After → Type 0) (j : Job) (s : State) (cases : Cases P j s) wher
       go false e false f false g false _ b _ = cases .refuses 18 (omega arith) (omega arith)
       go false e false f false g true h true _ = cases .refuses 22 (omega arith) (omega arith)
       go false e false f false g true h false k =
-          let w = seeded h in
+          let w = seed-true j s t h in
           stolen-by c t (record {
             ongoing = not-over _ e;
             core = leb-false _ _ f;
