@@ -35,4 +35,8 @@ pub mod Kept
 pub mod Logs
 pub mod Jam
 pub mod Finished
+pub mod Exactly
+pub mod Faults
 pub mod Refusals
+pub mod QueueRefusals
+pub mod StealRefusals

@@ -3,7 +3,7 @@
 -- its tail, where there is room by `appended-new`. Assumes nothing.
 use mathlib.Core.List.{List, [], _∷_, _++_}
 use mathlib.Core.Logic.{_⊎_, ⊎-elim}
-use mathlib.Core.Path.{_≡_, sym, _∙_, ap}
+use mathlib.Core.Path.{_≡_, sym, _∙_, ap, subst}
 use Prim.Native.Nat.{ℕ, _<_}
 use native.Mathlib.Decide.{ℕ-discrete}
 use native.Mathlib.Omega.{arith}
@@ -44,21 +44,25 @@ lined-took k s s' t ts ok gone view = record {
     other : (u : ℕ) → Member u ts → ¬ (u ≡ t)
     other u m e = ok .once .0 (rw e at m)
 
--- one number more at its tail, and none is refused
+-- a number of another status is not in it, and is not refused
+lined-absent : (k : ℕ) (s : State) (n : ℕ) (xs : List ℕ) → Lined k s xs → ¬ (statusAt s n ≡ k) → Member n xs → ⊥
+lined-absent k s n xs ok was m = was (every-member (λ t. (t < 32) × (statusAt s t ≡ k)) xs (ok .only) n m .1)
+
+pub lined-room : (k : ℕ) (s : State) (n : ℕ) (xs : List ℕ) → Lined k s xs → n < 32 → ¬ (statusAt s n ≡ k) → appended capacity xs n ≡ xs ++ (n ∷ [])
+lined-room k s n xs ok low was = appended-new xs n (ok .once) (every-map (λ u h. h .0) xs (ok .only)) low (lined-absent k s n xs ok was)
+
+-- one number more at its tail
 pub lined-gave : (k : ℕ) (s s' : State) (n : ℕ) (xs : List ℕ) → Lined k s xs → n < 32 → ¬ (statusAt s n ≡ k) → statusAt s' n ≡ k
     → ((u : ℕ) → ¬ (u ≡ n) → Same k (threadAt s u) (threadAt s' u)) → Lined k s' (appended capacity xs n)
-lined-gave k s s' n xs ok low was is view = rw (appended-new xs n (ok .once) (every-map (λ u h. h .0) xs (ok .only)) low absent) (record {
+lined-gave k s s' n xs ok low was is view = subst (λ ys. Lined k s' ys) (sym (lined-room k s n xs ok low was)) (record {
   only = every-last (λ t. (t < 32) × (statusAt s' t ≡ k)) xs n (every-map (λ u h. (h .0, view u (other u (h .1)) .to (h .1))) xs (ok .only))
       (low, is);
-  once = distinct-last xs n (ok .once) absent;
+  once = distinct-last xs n (ok .once) (lined-absent k s n xs ok was);
   stands = λ u l e. stands u l e (ℕ-discrete u n);
 })
   where
     other : (u : ℕ) → statusAt s u ≡ k → ¬ (u ≡ n)
     other u e f = was (sym (ap (statusAt s) f) ∙ e)
-
-    absent : Member n xs → ⊥
-    absent m = was (every-member (λ t. (t < 32) × (statusAt s t ≡ k)) xs (ok .only) n m .1)
 
     stands : (u : ℕ) → u < 32 → statusAt s' u ≡ k → Dec (u ≡ n) → Member u (xs ++ (n ∷ []))
     stands u l e (yes f) = rw f (member-last n xs)
@@ -85,3 +89,12 @@ free-lined s ok = record { only = ok .free; once = ok .once; stands = ok .stands
 
 pub lined-free : (s : State) (xs : List ℕ) → s .freeThreads ≡ xs → Lined 0 s xs → FreeThreads s
 lined-free s xs e ok = record { free = rw e (ok .only); once = rw e (ok .once); stands = rw e (ok .stands) }
+
+-- NO QUEUE REFUSES A NUMBER: a thread that is not ready has room in the ready queue, one in use has room in the free-thread queue
+pub ready-room : (s : State) → length (s .threads) ≡ 32 → Turns s → (t : ℕ) → t < 32 → ¬ (statusAt s t ≡ 2)
+    → appended capacity (s .ready) t ≡ s .ready ++ (t ∷ [])
+ready-room s many ok t l n = lined-room 2 s t (s .ready) (turns-lined s many ok) l n
+
+pub free-room : (s : State) → FreeThreads s → (t : ℕ) → t < 32 → ¬ (statusAt s t ≡ 0)
+    → appended capacity (s .freeThreads) t ≡ s .freeThreads ++ (t ∷ [])
+free-room s ok t l n = lined-room 0 s t (s .freeThreads) (free-lined s ok) l n

@@ -130,10 +130,10 @@ join-byte byte x y z w e =
 
 -- THE NEXT COMMAND of thread t
 module _ (j : Job) (s : State) (t : ℕ) where
-  abbrev commandOf : Command
+  abbrev pub commandOf : Command
   commandOf = decodedAt (j .image) (offsetOf j (threadAt s t))
 
-  abbrev ownOf : Own
+  abbrev pub ownOf : Own
   ownOf = viewOf (slotOf (s .words) (threadAt s t .base)) (isPending (pendingAt s t)) (threadAt s t .window)
 
   next-tested : (e : Effect) → effectAt j s (threadAt s t) ≡ e → Tested (argumentsOf (j .image)) ownOf commandOf e

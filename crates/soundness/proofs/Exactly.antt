@@ -1,0 +1,8 @@
+-- A log byte and its condition: each where the other. Assumes nothing.
+
+abbrev pub Exactly : Type 0 → Type 0 → Type 0
+Exactly a b = (a → b) × (b → a)
+
+-- the last part of a condition said in other words
+pub exactly-and : {a b c d : Type 0} → Exactly a (b × c) → Exactly c d → Exactly a (b × d)
+exactly-and x y = (λ e. let z = x .0 e in (z .0, y .0 (z .1)), λ z. x .1 (z .0, y .1 (z .1)))

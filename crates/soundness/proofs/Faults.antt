@@ -1,0 +1,258 @@
+-- The faults in document 01's words: a command faults by 9 exactly where a slot that it reads or writes is pending, by 10 where none is and
+-- its address is not allowed, by 11 where none is and its cut is out of range, and by 12 where it is a return and a slot is pending.
+-- Assumes nothing.
+use mathlib.Core.Bool.{Bool, true, false, cond, true≢false}
+use mathlib.Core.List.{List, [], _∷_}
+use mathlib.Core.Path.{_≡_, refl, sym, ap}
+use Prim.Native.Nat.{ℕ, _<_}
+use native.Mathlib.Omega.{arith}
+use lib.Dec.{eqb}
+use Rattle.command.specs.declared.Command.{Command}
+use Rattle.command.specs.declared.Command.the-variants.{Set, Add, Subtract, Load, Store, JumpIfZero, Jump, Lfork, Fork, Join, Suspend, Yield, Return}
+use Rattle.thread.specs.declared.Effect.{Effect}
+use Rattle.thread.specs.declared.Effect.the-variants.{Faults, Sets, Loads, Stores, Goes, Continues, Lforks, Forks, Joins, Suspends, Yields, Returns}
+use Rattle.thread.specs.Effect.{Own, run, anyPending, unlessPending, provided, forking, effectOf}
+use Rattle.image.specs.Layout.{argumentsOf}
+use Rattle.machine.specs.State.{Job, State, threadAt}
+use Rattle.machine.specs.Turn.{effectAt}
+use Rattle.soundness.proofs.Tested.{commandOf, ownOf}
+use Rattle.soundness.proofs.Exactly.{Exactly}
+
+-- a fault's number, or 0
+abbrev pub numberOf : Effect → ℕ
+numberOf (Faults n) = n
+numberOf (Sets d v) = 0
+numberOf (Loads d a) = 0
+numberOf (Stores a v) = 0
+numberOf (Goes t) = 0
+numberOf Continues = 0
+numberOf (Lforks r d a e) = 0
+numberOf (Forks r d a e) = 0
+numberOf Joins = 0
+numberOf Suspends = 0
+numberOf Yields = 0
+numberOf (Returns v) = 0
+
+pub number-faults : (e : Effect) (n : ℕ) → 0 < n → Exactly (e ≡ Faults n) (numberOf e ≡ n)
+number-faults e n l = (ap numberOf, back e)
+  where
+    back : (x : Effect) → numberOf x ≡ n → x ≡ Faults n
+    back (Faults m) q = ap Faults q
+    back (Sets d v) q = absurd (omega arith)
+    back (Loads d a) q = absurd (omega arith)
+    back (Stores a v) q = absurd (omega arith)
+    back (Goes t) q = absurd (omega arith)
+    back Continues q = absurd (omega arith)
+    back (Lforks r d a w) q = absurd (omega arith)
+    back (Forks r d a w) q = absurd (omega arith)
+    back Joins q = absurd (omega arith)
+    back Suspends q = absurd (omega arith)
+    back Yields q = absurd (omega arith)
+    back (Returns v) q = absurd (omega arith)
+
+number-unless : (n : ℕ) (p : ℕ → Bool) (ks : List ℕ) (e : Effect) (m : ℕ) → numberOf e ≡ m
+    → numberOf (unlessPending n p ks e) ≡ cond (anyPending p ks) n m
+unfolding unlessPending
+number-unless n p ks e m q = go (anyPending p ks)
+  where
+    go : (b : Bool) → numberOf (cond b (Faults n) e) ≡ cond b n m
+    go true = refl
+    go false = q
+
+number-provided : (t : Bool) (n : ℕ) (e : Effect) (m : ℕ) → numberOf e ≡ m → numberOf (provided t n e) ≡ cond t m n
+unfolding provided
+number-provided true n e m q = q
+number-provided false n e m q = refl
+
+module _ (arguments : ℕ → ℕ) (own : Own) where
+  -- the slots that a command reads or writes ("a fork writes its d"); a return has a test of its own
+  abbrev pub slotsOf : Command → List ℕ
+  slotsOf (Set d v) = d ∷ []
+  slotsOf (Add d a b) = d ∷ a ∷ b ∷ []
+  slotsOf (Subtract d a b) = d ∷ a ∷ b ∷ []
+  slotsOf (Load d a) = d ∷ a ∷ []
+  slotsOf (Store a b) = a ∷ b ∷ []
+  slotsOf (JumpIfZero a t) = a ∷ []
+  slotsOf (Jump t) = []
+  slotsOf (Lfork r d a w) = d ∷ w ∷ run a (arguments r)
+  slotsOf (Fork r d a w) = d ∷ w ∷ run a (arguments r)
+  slotsOf Join = []
+  slotsOf Suspend = []
+  slotsOf Yield = []
+  slotsOf (Return a) = []
+
+  -- "9: a pending slot read or written"
+  abbrev pub readsPending : Command → Bool
+  readsPending c = anyPending (own .pending) (slotsOf c)
+
+  -- "10: address not allowed"
+  abbrev pub addressAllowed : Command → Bool
+  addressAllowed (Set d v) = true
+  addressAllowed (Add d a b) = true
+  addressAllowed (Subtract d a b) = true
+  addressAllowed (Load d a) = own .mayLoad (own .slot a)
+  addressAllowed (Store a b) = own .mayStore (own .slot a)
+  addressAllowed (JumpIfZero a t) = true
+  addressAllowed (Jump t) = true
+  addressAllowed (Lfork r d a w) = true
+  addressAllowed (Fork r d a w) = true
+  addressAllowed Join = true
+  addressAllowed Suspend = true
+  addressAllowed Yield = true
+  addressAllowed (Return a) = true
+
+  -- "11: cut out of range"
+  abbrev pub cutAllowed : Command → Bool
+  cutAllowed (Set d v) = true
+  cutAllowed (Add d a b) = true
+  cutAllowed (Subtract d a b) = true
+  cutAllowed (Load d a) = true
+  cutAllowed (Store a b) = true
+  cutAllowed (JumpIfZero a t) = true
+  cutAllowed (Jump t) = true
+  cutAllowed (Lfork r d a w) = own .mayCut (own .slot w)
+  cutAllowed (Fork r d a w) = own .mayCut (own .slot w)
+  cutAllowed Join = true
+  cutAllowed Suspend = true
+  cutAllowed Yield = true
+  cutAllowed (Return a) = true
+
+  -- "12: return with pending slots"
+  abbrev pub returnsPending : Command → Bool
+  returnsPending (Set d v) = false
+  returnsPending (Add d a b) = false
+  returnsPending (Subtract d a b) = false
+  returnsPending (Load d a) = false
+  returnsPending (Store a b) = false
+  returnsPending (JumpIfZero a t) = false
+  returnsPending (Jump t) = false
+  returnsPending (Lfork r d a w) = false
+  returnsPending (Fork r d a w) = false
+  returnsPending Join = false
+  returnsPending Suspend = false
+  returnsPending Yield = false
+  returnsPending (Return a) = anyPending (own .pending) (run 0 16)
+
+  -- THE TESTS in their order, "12, 9, 10 or 11": which one a command meets first
+  pub fault-number : (c : Command) → numberOf (effectOf arguments own c)
+      ≡ cond (returnsPending c) 12 (cond (readsPending c) 9 (cond (addressAllowed c) (cond (cutAllowed c) 0 11) 10))
+  unfolding effectOf forking anyPending
+  fault-number (Set d v) = number-unless 9 (own .pending) _ _ 0 refl
+  fault-number (Add d a b) = number-unless 9 (own .pending) _ _ 0 refl
+  fault-number (Subtract d a b) = number-unless 9 (own .pending) _ _ 0 refl
+  fault-number (Load d a) = number-unless 9 (own .pending) _ _ _ (number-provided _ 10 _ 0 refl)
+  fault-number (Store a b) = number-unless 9 (own .pending) _ _ _ (number-provided _ 10 _ 0 refl)
+  fault-number (JumpIfZero a t) = number-unless 9 (own .pending) _ _ 0 (either (eqb (own .slot a) 0))
+    where
+      either : (b : Bool) → _≡_ {A = ℕ} (numberOf (cond b (Goes t) Continues)) 0
+      either true = refl
+      either false = refl
+  fault-number (Jump t) = refl
+  fault-number (Lfork r d a w) = number-unless 9 (own .pending) _ _ _ (number-provided _ 11 _ 0 refl)
+  fault-number (Fork r d a w) = number-unless 9 (own .pending) _ _ _ (number-provided _ 11 _ 0 refl)
+  fault-number Join = refl
+  fault-number Suspend = refl
+  fault-number Yield = refl
+  fault-number (Return a) = number-unless 12 (own .pending) _ _ 0 refl
+
+-- what each number of a chain of tests means: r a return's, p pending slots', a the address's, c the cut's
+record Order (n : ℕ) (r p a c : Bool) : Type 0 where
+  by12 : Exactly (n ≡ 12) (r ≡ true)
+  by9 : Exactly (n ≡ 9) ((r ≡ false) × (p ≡ true))
+  by10 : Exactly (n ≡ 10) ((r ≡ false) × (p ≡ false) × (a ≡ false))
+  by11 : Exactly (n ≡ 11) ((r ≡ false) × (p ≡ false) × (a ≡ true) × (c ≡ false))
+
+yes-no : {A : Type 0} → true ≡ false → A
+yes-no e = absurd (true≢false e)
+
+no-yes : {A : Type 0} → false ≡ true → A
+no-yes e = absurd (true≢false (sym e))
+
+order : (r p a c : Bool) → Order (cond r 12 (cond p 9 (cond a (cond c 0 11) 10))) r p a c
+order true p a c = record {
+  by12 = (λ e. refl, λ z. refl);
+  by9 = (λ e. absurd (omega arith), λ z. yes-no (z .0));
+  by10 = (λ e. absurd (omega arith), λ z. yes-no (z .0));
+  by11 = (λ e. absurd (omega arith), λ z. yes-no (z .0));
+}
+order false true a c = record {
+  by12 = (λ e. absurd (omega arith), λ z. no-yes z);
+  by9 = (λ e. (refl, refl), λ z. refl);
+  by10 = (λ e. absurd (omega arith), λ z. yes-no (z .1));
+  by11 = (λ e. absurd (omega arith), λ z. yes-no (z .1));
+}
+order false false false c = record {
+  by12 = (λ e. absurd (omega arith), λ z. no-yes z);
+  by9 = (λ e. absurd (omega arith), λ z. no-yes (z .1));
+  by10 = (λ e. (refl, refl, refl), λ z. refl);
+  by11 = (λ e. absurd (omega arith), λ z. no-yes (z .2));
+}
+order false false true true = record {
+  by12 = (λ e. absurd (omega arith), λ z. no-yes z);
+  by9 = (λ e. absurd (omega arith), λ z. no-yes (z .1));
+  by10 = (λ e. absurd (omega arith), λ z. yes-no (z .2));
+  by11 = (λ e. absurd (omega arith), λ z. yes-no (z .3));
+}
+order false false true false = record {
+  by12 = (λ e. absurd (omega arith), λ z. no-yes z);
+  by9 = (λ e. absurd (omega arith), λ z. no-yes (z .1));
+  by10 = (λ e. absurd (omega arith), λ z. yes-no (z .2));
+  by11 = (λ e. (refl, refl, refl, refl), λ z. refl);
+}
+
+-- A COMMAND'S FAULT, exactly under its condition; the tests before it are met by none
+module _ (arguments : ℕ → ℕ) (own : Own) (c : Command) where
+  abbrev pub Condition12 : Type 0
+  Condition12 = returnsPending arguments own c ≡ true
+
+  abbrev pub Condition9 : Type 0
+  Condition9 = (returnsPending arguments own c ≡ false) × (readsPending arguments own c ≡ true)
+
+  abbrev pub Condition10 : Type 0
+  Condition10 = (returnsPending arguments own c ≡ false) × (readsPending arguments own c ≡ false) × (addressAllowed arguments own c ≡ false)
+
+  abbrev pub Condition11 : Type 0
+  Condition11 =
+      (returnsPending arguments own c ≡ false) × (readsPending arguments own c ≡ false) × (addressAllowed arguments own c ≡ true)
+      × (cutAllowed arguments own c ≡ false)
+
+  ordered : Order (numberOf (effectOf arguments own c)) (returnsPending arguments own c) (readsPending arguments own c)
+      (addressAllowed arguments own c) (cutAllowed arguments own c)
+  ordered = rw (fault-number arguments own c) (order _ _ _ _)
+
+  both : {B : Type 0} (n : ℕ) → 0 < n → Exactly (numberOf (effectOf arguments own c) ≡ n) B → Exactly (effectOf arguments own c ≡ Faults n) B
+  both n l z = let y = number-faults (effectOf arguments own c) n l in (λ e. z .0 (y .0 e), λ b. y .1 (z .1 b))
+
+  pub faults-12 : Exactly (effectOf arguments own c ≡ Faults 12) Condition12
+  faults-12 = both 12 (omega arith) (ordered .by12)
+
+  pub faults-9 : Exactly (effectOf arguments own c ≡ Faults 9) Condition9
+  faults-9 = both 9 (omega arith) (ordered .by9)
+
+  pub faults-10 : Exactly (effectOf arguments own c ≡ Faults 10) Condition10
+  faults-10 = both 10 (omega arith) (ordered .by10)
+
+  pub faults-11 : Exactly (effectOf arguments own c ≡ Faults 11) Condition11
+  faults-11 = both 11 (omega arith) (ordered .by11)
+
+-- THE NEXT COMMAND of thread t
+module _ (j : Job) (s : State) (t : ℕ) where
+  -- a condition of it
+  abbrev pub Next : ((ℕ → ℕ) → Own → Command → Type 0) → Type 0
+  Next condition = condition (argumentsOf (j .image)) (ownOf j s t) (commandOf j s t)
+
+  pub next-12 : Exactly (effectAt j s (threadAt s t) ≡ Faults 12) (Next Condition12)
+  unfolding effectAt
+  next-12 = faults-12 (argumentsOf (j .image)) (ownOf j s t) (commandOf j s t)
+
+  pub next-9 : Exactly (effectAt j s (threadAt s t) ≡ Faults 9) (Next Condition9)
+  unfolding effectAt
+  next-9 = faults-9 (argumentsOf (j .image)) (ownOf j s t) (commandOf j s t)
+
+  pub next-10 : Exactly (effectAt j s (threadAt s t) ≡ Faults 10) (Next Condition10)
+  unfolding effectAt
+  next-10 = faults-10 (argumentsOf (j .image)) (ownOf j s t) (commandOf j s t)
+
+  pub next-11 : Exactly (effectAt j s (threadAt s t) ≡ Faults 11) (Next Condition11)
+  unfolding effectAt
+  next-11 = faults-11 (argumentsOf (j .image)) (ownOf j s t) (commandOf j s t)
