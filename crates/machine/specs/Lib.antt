@@ -8,3 +8,4 @@ pub mod Return
 pub mod Rules
 pub mod Lists
 pub mod Sound
+pub mod Parts

@@ -1,5 +1,18 @@
 // The machine: the thread table, the cores, the three queues and the stacklets, moved by one entry at a time. Queues, stacklets, windows
 // and commands are lower crates, known by their contracts.
+
+mod carry;
+mod enable;
+mod entry;
+mod fork;
+mod leave;
+mod parts;
+mod returning;
+pub mod start;
+mod steal;
+mod step;
+mod take;
+
 use queue::Queue;
 use stacklets::Stacklets;
 use thread::Thread;
@@ -30,4 +43,14 @@ pub enum ForkKind {
     Called,
     Queued,
     Stolen,
+}
+
+// A command that is met: the core and the thread's number and record, its weight, the position behind it, and its first byte in the image.
+pub struct Met {
+    pub core: u8,
+    pub number: u8,
+    pub thread: Thread,
+    pub weight: u8,
+    pub next: u16,
+    pub offset: u16,
 }

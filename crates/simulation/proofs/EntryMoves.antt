@@ -2,12 +2,11 @@
 -- one step of the pool, or the root's return; faulting, its thread's act is a halt. Assumes a sound state whose result slots lie in the
 -- parents' frames.
 use mathlib.Core.Bool.{Bool, true, false, cond}
-use mathlib.Core.List.{List, _∷_}
+use mathlib.Core.List.{List}
 use mathlib.Core.Logic.{_⊎_, ⊎-elim}
 use mathlib.Core.Path.{_≡_, refl, sym, _∙_, ap, subst}
 use Prim.Native.Nat.{ℕ, _+_, _-_, _≤_, _<_}
 use native.Mathlib.Omega.{arith}
-use lib.Seq.{getD-set-same}
 use Rattle.forkjoin.proofs.Language.{halt, ret}
 use Rattle.forkjoin.proofs.ThreadPool.{Link, root, used}
 use Rattle.image.specs.Layout.{countOf}
@@ -18,7 +17,7 @@ use Rattle.thread.specs.declared.Effect.the-variants.{Faults, Lforks, Forks, Re
 use Rattle.thread.specs.declared.Status.{Status}
 use Rattle.thread.specs.declared.Status.the-variants.{Ready, Suspended, Waiting}
 use Rattle.thread.specs.declared.Thread.{Thread}
-use Rattle.thread.specs.Thread.{statusNumber, isRoot, blankThread, movedTo, disconnected, none}
+use Rattle.thread.specs.Thread.{statusNumber, isRoot, disconnected, none}
 use Rattle.thread.proofs.ThreadState.{ThreadState}
 use Rattle.thread.proofs.CarriedThreads.{does}
 use Rattle.thread.proofs.MarkedWindows.{window-tests}
@@ -32,17 +31,30 @@ use Rattle.machine.specs.Leave.{leaves, runs}
 use Rattle.machine.specs.Fork.{Asked, asked, born}
 use Rattle.machine.specs.Return.{returnOf, returnToParent}
 use Rattle.machine.specs.Rules.{entryOf}
-use Rattle.machine.specs.Lists.{Every}
-use Rattle.machine.specs.Sound.{GoodJob, Sound, Used, statusAt}
+use Rattle.machine.specs.Sound.{GoodJob, Sound, Used}
+use Rattle.soundness.proofs.Tested.{fault-tested}
+use Rattle.soundness.proofs.EntryCases.{Stepped, Chosen, above, onFree, Forked, Cases, entry-by}
 use Rattle.simulation.proofs.JobCode.{weightIn, codeOf}
-use Rattle.simulation.proofs.StatePool.{linkOf, poolOf, used-below}
-use Rattle.simulation.proofs.OwnSteps.{here, cell-here, units-here, effect-met, effect-slots, sets-goes, loads-goes, stores-goes, goes-goes, continues-goes, suspends-goes, yields-goes}
+use Rattle.simulation.proofs.StatePool.{linkOf, poolOf}
+use Rattle.simulation.proofs.OwnSteps.{
+  here,
+  cell-here,
+  units-here,
+  effect-met,
+  effect-slots,
+  sets-goes,
+  loads-goes,
+  stores-goes,
+  goes-goes,
+  continues-goes,
+  suspends-goes,
+  yields-goes,
+}
 use Rattle.simulation.proofs.JoinStep.{joins-goes}
 use Rattle.simulation.proofs.ForkStep.{Room, room-above, room-free, lforks-goes, forks-goes}
 use Rattle.simulation.proofs.ReturnStep.{ResultsInFrame, returns, root-cell, returns-goes}
-use Rattle.simulation.proofs.SamePool.{used-set, runs-pool, leaves-pool, enable-pool}
-use Rattle.simulation.proofs.FaultNumbers.{fault-number}
-use Rattle.soundness.proofs.EntryCases.{Waits, Stepped, Seeded, Chosen, above, onFree, Forked, Cases, entry-by}
+use Rattle.simulation.proofs.SamePool.{runs-pool, leaves-pool, enable-pool}
+use Rattle.simulation.proofs.UsedThreads.{stepped-used, waits-used, seeded-used, ready-used, parent-used, moved-used, moved-parent}
 
 module _ (j : Job) (good : GoodJob j) (s : State) where
   -- an accepted entry that the pool does not see: a take, an enable, a join that waits
@@ -143,29 +155,9 @@ unfolding returnOf returnToParent
 return-outcome s o v h = rw h
 
 module _ (j : Job) (good : GoodJob j) (s : State) (ok : Sound j s) (results : ResultsInFrame j s) where
-  -- threads on a core, and lent ones, are in use
-  pub stepped-used : (c t : ℕ) → Stepped j s c t → Used s t
-  stepped-used c t k =
-      let r = ok .seats .runs c (k .core) (rw (k .seat) (k .low)) in
-      let z : statusAt s t ≡ 1 = subst (λ u. statusAt s u ≡ 1) (k .seat) r in
-      omega arith
-
-  pub waits-used : (c t : ℕ) → Waits j s c t → Used s t
-  waits-used c t k =
-      let r = ok .seats .runs c (k .core) (rw (k .seat) (k .low)) in
-      let z : statusAt s t ≡ 1 = subst (λ u. statusAt s u ≡ 1) (k .seat) r in
-      omega arith
-
-  pub seeded-used : (c t : ℕ) → Seeded j s c t → Used s t
-  seeded-used c t k = let z = k .lent in omega arith
-
-  -- a connected thread's parent is in use
-  pub parent-used : (t : ℕ) → threadAt s t .connected ≡ true → Used s (threadAt s t .parent)
-  parent-used t h = let z = ok .links .linked t h .1 in omega arith
-
-  step-of : (c t : ℕ) (s' : State) → s .outcome ≡ going → s' .outcome ≡ s .outcome
+  step-of : (t : ℕ) (s' : State) → s .outcome ≡ going → s' .outcome ≡ s .outcome
       → ThreadStep windows window-tests (codeOf j good) t (poolOf j s) (poolOf j s') → Moves j good s (accepted s')
-  step-of c t s' o e step = steps o (record { log = refl; ongoing = e ∙ o; thread = t; step = step })
+  step-of t s' o e step = steps o (record { log = refl; ongoing = e ∙ o; thread = t; step = step })
 
   rest-of : (s' : State) → s .outcome ≡ going → s' .outcome ≡ s .outcome → poolOf j s' ≡ poolOf j s → Moves j good s (accepted s')
   rest-of s' o e p = rests o (record { log = refl; ongoing = e ∙ o; pool = p })
@@ -175,29 +167,12 @@ module _ (j : Job) (good : GoodJob j) (s : State) (ok : Sound j s) (results : Re
       → ThreadStep windows window-tests (codeOf j good) t (poolOf j s) (poolOf j (goesOn (turnAt j s c t) s))
       → ThreadStep windows window-tests (codeOf j good) t (poolOf j s) (poolOf j (leaves c t x (goesOn (turnAt j s c t) s)))
   leaves-step c t x k l step = subst (ThreadStep windows window-tests (codeOf j good) t (poolOf j s))
-      (sym (leaves-pool j c t x (goesOn (turnAt j s c t) s) (still t u) l connected)) step
-    where
-      u : Used s t
-      u = stepped-used c t k
-
-      moved : Thread
-      moved = movedTo (turnAt j s c t .next) (threadAt s t)
-
-      still : (w : ℕ) → Used s w → Used (goesOn (turnAt j s c t) s) w
-      still w h = used-set s t moved (used-below (s .threads) t u) u w h
-
-      now : threadAt (goesOn (turnAt j s c t) s) t ≡ moved
-      now = getD-set-same (s .threads) t moved blankThread (used-below (s .threads) t u)
-
-      connected : threadAt (goesOn (turnAt j s c t) s) t .connected ≡ true
-          → Used (goesOn (turnAt j s c t) s) (threadAt (goesOn (turnAt j s c t) s) t .parent)
-      connected h = subst (λ z. Used (goesOn (turnAt j s c t) s) (z .parent)) (sym now)
-          (still (threadAt s t .parent) (parent-used t (sym (ap (λ z. z .connected) now) ∙ h)))
+      (sym (leaves-pool j c t x (goesOn (turnAt j s c t) s) (moved-used j s ok c t k) l (moved-parent j s ok c t k))) step
 
   fault-moves : (c t : ℕ) → s .outcome ≡ going → Used s t → (n : ℕ) → effectAt j s (threadAt s t) ≡ Faults n
       → Moves j good s (faults (turnAt j s c t) n s)
   fault-moves c t o u n met =
-      let f = fault-number j s (threadAt s t) n met in
+      let f = fault-tested j s t n met in
       faults-by o (record {
         number = n;
         least = f .0;
@@ -226,16 +201,16 @@ module _ (j : Job) (good : GoodJob j) (s : State) (ok : Sound j s) (results : Re
       → (n : ℕ) (ns : List ℕ) (x : ℕ) (xs : List ℕ) → Forked j s kind (threadAt s t) r n ns x xs
       → Moves j good s (accepted (born j s kind (turnAt j s c t) (asked r d a e) n ns x xs))
   lfork-moves kind c t o u r d a e met n ns x xs f =
-      let range = effect-slots j good s ok c t u (Lforks r d a e) met in
-      step-of c t (born j s kind (turnAt j s c t) (asked r d a e) n ns x xs) o (born-outcome j s kind (turnAt j s c t) (asked r d a e) n ns x xs)
+      let range = effect-slots j good s ok c t u (Lforks r d a e) met .0 in
+      step-of t (born j s kind (turnAt j s c t) (asked r d a e) n ns x xs) o (born-outcome j s kind (turnAt j s c t) (asked r d a e) n ns x xs)
       (lforks-goes j good s ok c t u kind r d a e n ns x xs (room kind (threadAt s t) r n ns x xs f (range .routine)) range met)
 
   fork-moves : (kind : ForkKind) (c t : ℕ) → s .outcome ≡ going → Used s t → (r d a e : ℕ) → effectAt j s (threadAt s t) ≡ Forks r d a e
       → (n : ℕ) (ns : List ℕ) (x : ℕ) (xs : List ℕ) → Forked j s kind (threadAt s t) r n ns x xs
       → Moves j good s (accepted (born j s kind (turnAt j s c t) (asked r d a e) n ns x xs))
   fork-moves kind c t o u r d a e met n ns x xs f =
-      let range = effect-slots j good s ok c t u (Forks r d a e) met in
-      step-of c t (born j s kind (turnAt j s c t) (asked r d a e) n ns x xs) o (born-outcome j s kind (turnAt j s c t) (asked r d a e) n ns x xs)
+      let range = effect-slots j good s ok c t u (Forks r d a e) met .0 in
+      step-of t (born j s kind (turnAt j s c t) (asked r d a e) n ns x xs) o (born-outcome j s kind (turnAt j s c t) (asked r d a e) n ns x xs)
       (forks-goes j good s ok c t u kind r d a e n ns x xs (room kind (threadAt s t) r n ns x xs f (range .routine)) range met)
 
   return-moves : (c t : ℕ) → Stepped j s c t → (v : ℕ) → effectAt j s (threadAt s t) ≡ Returns v → Moves j good s (accepted (returnOf s (turnAt j s c t) v))
@@ -243,7 +218,7 @@ module _ (j : Job) (good : GoodJob j) (s : State) (ok : Sound j s) (results : Re
   return-moves c t k v met = go (isRoot (threadAt s t)) refl
     where
       u : Used s t
-      u = stepped-used c t k
+      u = stepped-used j s ok c t k
 
       root-units : s .units + turnAt j s c t .weight ≡ s .units + weightIn j (threadAt s t .routine) (threadAt s t .position)
       root-units = sym (units-here j good s ok c t u)
@@ -261,40 +236,34 @@ module _ (j : Job) (good : GoodJob j) (s : State) (ok : Sound j s) (results : Re
         units = root-units;
         paid = let p = k .paid in let q = ok .sized .units in omega arith;
       }))
-      go false is = step-of c t (returnOf s (turnAt j s c t) v) (k .ongoing) (return-outcome s (turnAt j s c t) v is)
+      go false is = step-of t (returnOf s (turnAt j s c t) v) (k .ongoing) (return-outcome s (turnAt j s c t) v is)
           (returns-goes j good s ok results c t u v met is)
 
   cases : Cases (Moves j good s) j s
   cases = record {
     refuses = λ n l m. refuses n l m refl;
-    fault = λ c t k n met. ⊎-elim (λ w. fault-moves c t (w .ongoing) (stepped-used c t w) n met)
-        (λ w. fault-moves c t (w .ongoing) (seeded-used c t w) n met) k;
+    fault = λ c t k n met. ⊎-elim (λ w. fault-moves c t (w .ongoing) (stepped-used j s ok c t w) n met)
+        (λ w. fault-moves c t (w .ongoing) (seeded-used j s ok c t w) n met) k;
     waiting = λ c t k. rest-of (leaves c t Waiting s) (k .ongoing) (leaves-outcome c t Waiting s)
-        (leaves-pool j c t Waiting s (waits-used c t k) (omega arith) (parent-used t));
-    sets = λ c t k d v met. step-of c t _ (k .ongoing) refl (sets-goes j good s ok c t (stepped-used c t k) d v met);
-    loads = λ c t k d a met. step-of c t _ (k .ongoing) refl (loads-goes j good s ok c t (stepped-used c t k) d a met);
-    stores = λ c t k a v met. step-of c t _ (k .ongoing) refl (stores-goes j good s ok c t (stepped-used c t k) a v met);
-    goes = λ c t k p met. step-of c t _ (k .ongoing) refl (goes-goes j good s ok c t (stepped-used c t k) p met);
-    continues = λ c t k met. step-of c t _ (k .ongoing) refl (continues-goes j good s ok c t (stepped-used c t k) met);
-    lforks = λ c t k r d a e met n ns x xs f. lfork-moves Called c t (k .ongoing) (stepped-used c t k) r d a e met n ns x xs f;
-    forks = λ c t k r d a e met n ns x xs f. fork-moves Queued c t (k .ongoing) (stepped-used c t k) r d a e met n ns x xs f;
-    joins = λ c t k met. step-of c t _ (k .ongoing) refl (joins-goes j good s ok c t (stepped-used c t k) (k .passes) met);
-    suspends = λ c t k met. step-of c t _ (k .ongoing) (leaves-outcome c t Suspended (goesOn (turnAt j s c t) s))
-        (leaves-step c t Suspended k (omega arith) (suspends-goes j good s ok c t (stepped-used c t k) met));
-    yields = λ c t k met. step-of c t _ (k .ongoing) (leaves-outcome c t Ready (goesOn (turnAt j s c t) s))
-        (leaves-step c t Ready k (omega arith) (yields-goes j good s ok c t (stepped-used c t k) met));
+        (leaves-pool j c t Waiting s (waits-used j s ok c t k) (omega arith) (parent-used j s ok t));
+    sets = λ c t k d v met. step-of t _ (k .ongoing) refl (sets-goes j good s ok c t (stepped-used j s ok c t k) d v met);
+    loads = λ c t k d a met. step-of t _ (k .ongoing) refl (loads-goes j good s ok c t (stepped-used j s ok c t k) d a met);
+    stores = λ c t k a v met. step-of t _ (k .ongoing) refl (stores-goes j good s ok c t (stepped-used j s ok c t k) a v met);
+    goes = λ c t k p met. step-of t _ (k .ongoing) refl (goes-goes j good s ok c t (stepped-used j s ok c t k) p met);
+    continues = λ c t k met. step-of t _ (k .ongoing) refl (continues-goes j good s ok c t (stepped-used j s ok c t k) met);
+    lforks = λ c t k r d a e met n ns x xs f. lfork-moves Called c t (k .ongoing) (stepped-used j s ok c t k) r d a e met n ns x xs f;
+    forks = λ c t k r d a e met n ns x xs f. fork-moves Queued c t (k .ongoing) (stepped-used j s ok c t k) r d a e met n ns x xs f;
+    joins = λ c t k met. step-of t _ (k .ongoing) refl (joins-goes j good s ok c t (stepped-used j s ok c t k) (k .passes) met);
+    suspends = λ c t k met. step-of t _ (k .ongoing) (leaves-outcome c t Suspended (goesOn (turnAt j s c t) s))
+        (leaves-step c t Suspended k (omega arith) (suspends-goes j good s ok c t (stepped-used j s ok c t k) met));
+    yields = λ c t k met. step-of t _ (k .ongoing) (leaves-outcome c t Ready (goesOn (turnAt j s c t) s))
+        (leaves-step c t Ready k (omega arith) (yields-goes j good s ok c t (stepped-used j s ok c t k) met));
     returns = return-moves;
-    takes = λ c t ts k. rest-of (runs c t (setReady ts s)) (k .ongoing) refl (runs-pool j c t (setReady ts s) (ready-used t ts (k .head)));
-    steals = λ c t k r d a e met n ns x xs f. ⊎-elim (λ m. lfork-moves Stolen c t (k .ongoing) (seeded-used c t k) r d a e m n ns x xs f)
-        (λ m. fork-moves Stolen c t (k .ongoing) (seeded-used c t k) r d a e m n ns x xs f) met;
+    takes = λ c t ts k. rest-of (runs c t (setReady ts s)) (k .ongoing) refl (runs-pool j c t (setReady ts s) (ready-used j s ok t ts (k .head)));
+    steals = λ c t k r d a e met n ns x xs f. ⊎-elim (λ m. lfork-moves Stolen c t (k .ongoing) (seeded-used j s ok c t k) r d a e m n ns x xs f)
+        (λ m. fork-moves Stolen c t (k .ongoing) (seeded-used j s ok c t k) r d a e m n ns x xs f) met;
     enables = λ t k. rest-of _ (k .ongoing) refl (enable-pool j t s (let z = k .suspended in omega arith));
   }
-    where
-      ready-used : (t : ℕ) (ts : List ℕ) → s .ready ≡ t ∷ ts → Used s t
-      ready-used t ts e =
-          let f : Every (λ u. statusAt s u ≡ 2) (t ∷ ts) = subst (Every (λ u. statusAt s u ≡ 2)) e (ok .turns .ready) in
-          let z = f .0 in
-          omega arith
 
   -- the entry lemma
   pub entry-moves : (e : Entry) → Moves j good s (entryOf j s e)

@@ -1,6 +1,6 @@
 -- The document's worked case: its image is a good job, its twelve entries finish the machine with 10 and 20 units by computation, and so the
 -- serial run, by the theorem, returns 10 with 20 units. The statements of `EntriesRun` are not empty.
-use mathlib.Core.Bool.{Bool, true, false, _&&_}
+use mathlib.Core.Bool.{Bool, true, _&&_}
 use mathlib.Core.List.{List, [], _∷_}
 use mathlib.Core.Path.{_≡_, refl, _∙_}
 use Prim.Native.Nat.{ℕ, zero, suc, _<_}

@@ -24,14 +24,14 @@ use Rattle.stacklets.proofs.Places.{fits-yes, pushed-apart}
 use Rattle.stacklets.proofs.Words.{pushed-keeps, pushed-argument, pushed-zero}
 use Rattle.window.specs.declared.Window.{Window}
 use Rattle.window.specs.Rights.{childOf, restOf, cutAt}
-use Rattle.window.proofs.Laws.{cut-means, cut-made}
-use Rattle.window.proofs.Instance.{windows, partsOf, parts-cut}
+use Rattle.window.proofs.Laws.{cut-made}
+use Rattle.window.proofs.Instance.{windows, partsOf}
 use Rattle.thread.specs.declared.Effect.the-variants.{Lforks, Forks}
 use Rattle.thread.specs.declared.Thread.{Thread}
 use Rattle.thread.specs.Thread.{statusNumber, none, newThread, behindFork}
 use Rattle.thread.proofs.ThreadState.{ThreadState, started, behind-fork}
 use Rattle.thread.proofs.MarkedWindows.{window-tests}
-use Rattle.thread.proofs.ThreadSteps.{ThreadStep, forked, lforks-parts, forks-parts, lforks-step, forks-step}
+use Rattle.thread.proofs.ThreadSteps.{ThreadStep, forked, lforks-step, forks-step}
 use Rattle.machine.specs.declared.ForkKind.{ForkKind}
 use Rattle.machine.specs.declared.ForkKind.the-variants.{Called, Queued, Stolen}
 use Rattle.machine.specs.State.{Job, State, threadAt}
@@ -39,9 +39,10 @@ use Rattle.machine.specs.Turn.{turnAt, effectAt}
 use Rattle.machine.specs.Fork.{asked, born, childGoes, childStatus, parentStatus, isConnected, goesAbove}
 use Rattle.machine.specs.Lists.{Every}
 use Rattle.machine.specs.Sound.{GoodJob, Sound, Used, sizeAt, statusAt, Unused}
-use Rattle.simulation.proofs.Operands.{ForkRange, both}
+use Rattle.soundness.proofs.CommandMet.{ForkMet}
+use Rattle.simulation.proofs.Operands.{both}
 use Rattle.simulation.proofs.JobCode.{codeOf}
-use Rattle.simulation.proofs.PendingBits.{none-pending, more-pending}
+use Rattle.simulation.proofs.PendingSlots.{none-pending, more-pending}
 use Rattle.simulation.proofs.StatePool.{linkOf, cellOf, cellsOf, poolOf, cell-used, cell-free, cells-set, cells-words}
 use Rattle.simulation.proofs.NextCommand.{frame-slot}
 use Rattle.simulation.proofs.OwnSteps.{here, StepsTo, cell-here, thread-below, units-here, position-here, effect-met}
@@ -58,8 +59,9 @@ pub room-above : (j : Job) (s : State) → Sound j s → (kind : ForkKind) (h : 
 unfolding goesAbove
 room-above j s ok kind h r n ns e above =
     let f : Every (λ m. (m < 32) × (statusAt s m ≡ 0)) (n ∷ ns) = subst (Every (λ m. (m < 32) × (statusAt s m ≡ 0))) e (ok .freeThreads .free) in
-    let g = both (isConnected kind) (isTopmost (s .tops) (h .base) (slotsOf (j .image) (h .routine)) && fitsOn (s .tops) (h .base / 64) (slotsOf (j .image) r)) above in
-    let i = both (isTopmost (s .tops) (h .base) (slotsOf (j .image) (h .routine))) (fitsOn (s .tops) (h .base / 64) (slotsOf (j .image) r)) (g .1) in
+    let top = isTopmost (s .tops) (h .base) (slotsOf (j .image) (h .routine)) in
+    let fit = fitsOn (s .tops) (h .base / 64) (slotsOf (j .image) r) in
+    let i = both top fit (both (isConnected kind) (top && fit) above .1) in
     record { low = f .0 .0; unused = f .0 .1; fits = i .1 }
 
 -- on a free stacklet
@@ -114,7 +116,7 @@ frame-new tops ws x n b m a k fit all h h' =
     go i (no l) (no y) = ap (λ t. cond t (frame ws b m (a + i)) 0) (sym (le-ltb i k (omega arith)))
 
 module _ (j : Job) (good : GoodJob j) (s : State) (ok : Sound j s) (c t : ℕ) (in-use : Used s t) (kind : ForkKind) (r d a e n : ℕ) (ns : List ℕ)
-    (x : ℕ) (xs : List ℕ) (room : Room j s r n x) (range : ForkRange (j .image) (sizeAt j s t) r d a) where
+    (x : ℕ) (xs : List ℕ) (room : Room j s r n x) (range : ForkMet (j .image) (sizeAt j s t) (threadAt s t .window) r d a e) where
   abbrev h : Thread
   h = threadAt s t
 
@@ -171,7 +173,8 @@ module _ (j : Job) (good : GoodJob j) (s : State) (ok : Sound j s) (c t : ℕ) (
       ∙ ap (λ f. update f n (cellOf j ws kid)) (cells-set j ws (s .threads) t parent (thread-below j good s ok c t in-use))
       ∙ ap (λ f. update (update f t (cellOf j ws parent)) n (cellOf j ws kid)) (cells-words j (s .words) ws (s .threads) kept)
       ∙ ap (λ z. update (update (cellsOf j (s .words) (s .threads)) t z) n (cellOf j ws kid)) parent-cell
-      ∙ ap (λ z. update (update (cellsOf j (s .words) (s .threads)) t (used (behind-fork (codeOf j good) l (l .slots) d (restOf (h .window) e)) (linkOf h))) n z) child-cell
+      ∙ ap (update (update (cellsOf j (s .words) (s .threads)) t (used (behind-fork (codeOf j good) l (l .slots) d (restOf (h .window) e)) (linkOf h))) n)
+      child-cell
 
   -- the pool after the fork
   born-pool : forked windows window-tests (codeOf j good) (poolOf j s) t l (linkOf h) (cell-here j good s ok c t in-use) r d a
@@ -184,23 +187,15 @@ module _ (j : Job) (good : GoodJob j) (s : State) (ok : Sound j s) (c t : ℕ) (
   unused-cell = cell-free j (s .words) (threadAt s n) (room .unused)
 
   -- the parts of the cut
-  parts : (cw : Window) (rest : Window) → partsOf (cutAt (h .window) e) ≡ some (cw, rest) → partsOf (cutAt (h .window) e) ≡ some (childOf (h .window) e, restOf (h .window) e)
-  parts cw rest found =
-      let m = cut-means (h .window) e cw rest (parts-cut (cutAt (h .window) e) cw rest found) in
-      ap partsOf (cut-made (h .window) e (m .low) (m .high))
+  parts : partsOf (cutAt (h .window) e) ≡ some (childOf (h .window) e, restOf (h .window) e)
+  parts = ap partsOf (cut-made (h .window) e (range .low) (range .high))
 
   pub lforks-goes : effectAt j s h ≡ Lforks r d a e → StepsTo j good s ok c t in-use (born j s kind (turnAt j s c t) (asked r d a e) n ns x xs)
-  lforks-goes met =
-      let em = effect-met j good s ok c t in-use (Lforks r d a e) met in
-      let (cw, rest, found) = lforks-parts windows window-tests (codeOf j good) l r d a e em in
-      subst (ThreadStep windows window-tests (codeOf j good) t (poolOf j s)) born-pool
+  lforks-goes met = subst (ThreadStep windows window-tests (codeOf j good) t (poolOf j s)) born-pool
       (lforks-step windows window-tests (codeOf j good) (poolOf j s) t l (linkOf h) (cell-here j good s ok c t in-use) r d a e
-      (childOf (h .window) e) (restOf (h .window) e) n em (parts cw rest found) unused-cell)
+      (childOf (h .window) e) (restOf (h .window) e) n (effect-met j good s ok c t in-use (Lforks r d a e) met) parts unused-cell)
 
   pub forks-goes : effectAt j s h ≡ Forks r d a e → StepsTo j good s ok c t in-use (born j s kind (turnAt j s c t) (asked r d a e) n ns x xs)
-  forks-goes met =
-      let em = effect-met j good s ok c t in-use (Forks r d a e) met in
-      let (cw, rest, found) = forks-parts windows window-tests (codeOf j good) l r d a e em in
-      subst (ThreadStep windows window-tests (codeOf j good) t (poolOf j s)) born-pool
+  forks-goes met = subst (ThreadStep windows window-tests (codeOf j good) t (poolOf j s)) born-pool
       (forks-step windows window-tests (codeOf j good) (poolOf j s) t l (linkOf h) (cell-here j good s ok c t in-use) r d a e
-      (childOf (h .window) e) (restOf (h .window) e) n em (parts cw rest found) unused-cell)
+      (childOf (h .window) e) (restOf (h .window) e) n (effect-met j good s ok c t in-use (Forks r d a e) met) parts unused-cell)

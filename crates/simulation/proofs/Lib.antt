@@ -3,7 +3,7 @@
 pub mod Operands
 pub mod ImageCode
 pub mod JobCode
-pub mod PendingBits
+pub mod PendingSlots
 pub mod StatePool
 pub mod NextCommand
 pub mod OwnSteps
@@ -11,7 +11,7 @@ pub mod JoinStep
 pub mod ForkStep
 pub mod ReturnStep
 pub mod SamePool
-pub mod FaultNumbers
+pub mod UsedThreads
 pub mod EntryMoves
 pub mod ResultSlots
 pub mod StartPool

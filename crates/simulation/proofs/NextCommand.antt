@@ -22,7 +22,7 @@ use Rattle.thread.proofs.MarkedWindows.{window-tests}
 use Rattle.machine.specs.State.{Job, State, threadAt}
 use Rattle.machine.specs.Turn.{offsetOf, byteOf, effectAt}
 use Rattle.machine.specs.Sound.{GoodJob, Placed, Used, sizeAt}
-use Rattle.simulation.proofs.Operands.{EffectInFrame, effect-alike, effect-in-frame}
+use Rattle.simulation.proofs.Operands.{effect-alike}
 use Rattle.simulation.proofs.ImageCode.{Stood, stood, isCommand, is-command, firstByte, fetch-is, weight-is}
 use Rattle.simulation.proofs.JobCode.{weightIn, codeOf}
 use Rattle.simulation.proofs.StatePool.{threadOf}
@@ -70,10 +70,3 @@ module _ (j : Job) (good : GoodJob j) (s : State) (placed : Placed j s) (t : ℕ
       (decodedAt (j .image) (startOf (j .image) (h .routine) + h .position)) (stands-here .operands)
       ∙ ap (λ z. effectOf (argumentsOf (j .image)) (viewOf (slotOf (s .words) (h .base)) (isPending (h .pending)) (h .window)) (decodedAt (j .image) z))
       (sym offset-here)
-
-  -- its slots are the frame's
-  pub effect-range : EffectInFrame (j .image) (sizeAt j s t) (effectAt j s h)
-  unfolding effectAt
-  effect-range = rw offset-here
-      (effect-in-frame (j .image) (sizeAt j s t) (viewOf (slotOf (s .words) (h .base)) (isPending (h .pending)) (h .window))
-      (decodedAt (j .image) (startOf (j .image) (h .routine) + h .position)) (stands-here .operands))

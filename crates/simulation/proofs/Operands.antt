@@ -1,5 +1,5 @@
--- What test 6 says of a command's operands, as facts on numbers; and what follows from it for the command's effect: it depends on the
--- thread's own frame alone, and its slots lie in that frame. Assumes nothing.
+-- What test 6 says of a command's operands, as facts on numbers; so a command's effect depends on the thread's own frame alone. Assumes
+-- nothing.
 use mathlib.Core.Bool.{Bool, true, false, cond, _&&_, true≢false}
 use mathlib.Core.List.{List, [], _∷_}
 use mathlib.Core.Path.{_≡_, refl, sym, ap, ap₂}
@@ -13,9 +13,8 @@ use Rattle.image.specs.Layout.{countOf, argumentsOf}
 use Rattle.image.specs.Image.{allSlots, forkInRange, inRange}
 use Rattle.window.specs.declared.Window.{Window}
 use Rattle.window.specs.Rights.{mayLoad, mayStore}
-use Rattle.thread.specs.declared.Effect.{Effect}
-use Rattle.thread.specs.declared.Effect.the-variants.{Faults, Sets, Loads, Stores, Goes, Continues, Lforks, Forks, Joins, Suspends, Yields, Returns}
-use Rattle.thread.specs.Effect.{Own, run, anyPending, unlessPending, provided, sum, difference, forking, effectOf}
+use Rattle.thread.specs.declared.Effect.the-variants.{Sets, Loads, Stores, Goes, Continues, Lforks, Forks, Returns}
+use Rattle.thread.specs.Effect.{run, unlessPending, provided, sum, difference, forking, effectOf}
 use Rattle.thread.specs.View.{viewOf, mayCut}
 use Rattle.thread.proofs.Routines.{InRange}
 
@@ -122,72 +121,3 @@ module _ (s : List ℕ) (n : ℕ) (f g : ℕ → ℕ) (alike : (k : ℕ) → k <
   effect-alike Suspend h = refl
   effect-alike Yield h = refl
   effect-alike (Return a) h = ap (λ x. unlessPending 12 pending (run 0 16) (Returns x)) (alike a h)
-
--- what a fork's effect says of its operands
-pub record ForkRange (s : List ℕ) (n r d a : ℕ) : Type 0 where
-  pub routine : r < countOf s
-  pub result : d < n
-  pub arguments : a + argumentsOf s r ≤ n
-
--- the slots of an effect lie in a frame of n slots
-abbrev pub EffectInFrame : List ℕ → ℕ → Effect → Type 0
-EffectInFrame s n (Faults x) = Unit {0}
-EffectInFrame s n (Sets d v) = d < n
-EffectInFrame s n (Loads d a) = d < n
-EffectInFrame s n (Stores a v) = Unit {0}
-EffectInFrame s n (Goes t) = Unit {0}
-EffectInFrame s n Continues = Unit {0}
-EffectInFrame s n (Lforks r d a e) = ForkRange s n r d a
-EffectInFrame s n (Forks r d a e) = ForkRange s n r d a
-EffectInFrame s n Joins = Unit {0}
-EffectInFrame s n Suspends = Unit {0}
-EffectInFrame s n Yields = Unit {0}
-EffectInFrame s n (Returns v) = Unit {0}
-
-unless-in-frame : (s : List ℕ) (n x : ℕ) (p : ℕ → Bool) (ks : List ℕ) (e : Effect) → EffectInFrame s n e → EffectInFrame s n (unlessPending x p ks e)
-unfolding unlessPending
-unless-in-frame s n x p ks e h = go (anyPending p ks)
-  where
-    go : (t : Bool) → EffectInFrame s n (cond t (Faults x) e)
-    go true = tt
-    go false = h
-
-provided-in-frame : (s : List ℕ) (n : ℕ) (t : Bool) (x : ℕ) (e : Effect) → EffectInFrame s n e → EffectInFrame s n (provided t x e)
-unfolding provided
-provided-in-frame s n true x e h = h
-provided-in-frame s n false x e h = tt
-
-fork-range : (s : List ℕ) (n r d a w : ℕ) → ForkOperands s n r d a w → ForkRange s n r d a
-fork-range s n r d a w h = record { routine = h .routine; result = h .result; arguments = h .arguments }
-
-fork-in-frame : (s : List ℕ) (n : ℕ) (own : Own) (r d a w : ℕ) (e : Effect) → EffectInFrame s n e
-    → EffectInFrame s n (forking (argumentsOf s) own r d a w e)
-unfolding forking
-fork-in-frame s n own r d a w e h = unless-in-frame s n 9 (own .pending) (d ∷ w ∷ run a (argumentsOf s r)) (provided (own .mayCut (own .slot w)) 11 e)
-    (provided-in-frame s n (own .mayCut (own .slot w)) 11 e h)
-
-jump-in-frame : (s : List ℕ) (n t : ℕ) (b : Bool) → EffectInFrame s n (cond b (Goes t) Continues)
-jump-in-frame s n t true = tt
-jump-in-frame s n t false = tt
-
-pub effect-in-frame : (s : List ℕ) (n : ℕ) (own : Own) (c : Command) → InFrame s n c → EffectInFrame s n (effectOf (argumentsOf s) own c)
-unfolding effectOf
-effect-in-frame s n own (Set d v) h = unless-in-frame s n 9 (own .pending) (d ∷ []) (Sets d v) h
-effect-in-frame s n own (Add d a b) h = unless-in-frame s n 9 (own .pending) (d ∷ a ∷ b ∷ []) (Sets d (sum (own .slot a) (own .slot b))) (h .0)
-effect-in-frame s n own (Subtract d a b) h =
-    unless-in-frame s n 9 (own .pending) (d ∷ a ∷ b ∷ []) (Sets d (difference (own .slot a) (own .slot b))) (h .0)
-effect-in-frame s n own (Load d a) h = unless-in-frame s n 9 (own .pending) (d ∷ a ∷ [])
-    (provided (own .mayLoad (own .slot a)) 10 (Loads d (own .slot a)))
-    (provided-in-frame s n (own .mayLoad (own .slot a)) 10 (Loads d (own .slot a)) (h .0))
-effect-in-frame s n own (Store a b) h = unless-in-frame s n 9 (own .pending) (a ∷ b ∷ [])
-    (provided (own .mayStore (own .slot a)) 10 (Stores (own .slot a) (own .slot b)))
-    (provided-in-frame s n (own .mayStore (own .slot a)) 10 (Stores (own .slot a) (own .slot b)) tt)
-effect-in-frame s n own (JumpIfZero a t) h = unless-in-frame s n 9 (own .pending) (a ∷ []) (cond (eqb (own .slot a) 0) (Goes t) Continues)
-    (jump-in-frame s n t (eqb (own .slot a) 0))
-effect-in-frame s n own (Jump t) h = tt
-effect-in-frame s n own (Lfork r d a w) h = fork-in-frame s n own r d a w (Lforks r d a (own .slot w)) (fork-range s n r d a w h)
-effect-in-frame s n own (Fork r d a w) h = fork-in-frame s n own r d a w (Forks r d a (own .slot w)) (fork-range s n r d a w h)
-effect-in-frame s n own Join h = tt
-effect-in-frame s n own Suspend h = tt
-effect-in-frame s n own Yield h = tt
-effect-in-frame s n own (Return a) h = unless-in-frame s n 12 (own .pending) (run 0 16) (Returns (own .slot a)) tt

@@ -23,15 +23,26 @@ use Rattle.thread.proofs.EffectFacts.{Facts}
 use Rattle.thread.proofs.ThreadState.{ThreadState, effect, view, onward, at-target}
 use Rattle.thread.proofs.LawfulThreads.{effect-facts}
 use Rattle.thread.proofs.MarkedWindows.{window-tests}
-use Rattle.thread.proofs.ThreadSteps.{ThreadStep, moved, sets-step, goes-step, continues-step, suspends-step, yields-step, loads-parameter-step, loads-step, stores-step}
+use Rattle.thread.proofs.ThreadSteps.{
+  ThreadStep,
+  moved,
+  sets-step,
+  goes-step,
+  continues-step,
+  suspends-step,
+  yields-step,
+  loads-parameter-step,
+  loads-step,
+  stores-step,
+}
 use Rattle.machine.specs.State.{Job, State, threadAt}
 use Rattle.machine.specs.Update.{setSlot, setMemory}
 use Rattle.machine.specs.Turn.{turnAt, effectAt, wordAt, done, goesOn}
 use Rattle.machine.specs.Sound.{GoodJob, Sound, Used, sizeAt}
-use Rattle.simulation.proofs.Operands.{EffectInFrame}
+use Rattle.soundness.proofs.CommandMet.{MetAt, met-at}
 use Rattle.simulation.proofs.JobCode.{weightIn, codeOf}
 use Rattle.simulation.proofs.StatePool.{threadOf, linkOf, cellOf, cellsOf, poolOf, cell-used, used-below, cells-change}
-use Rattle.simulation.proofs.NextCommand.{weight-here, next-here, effect-here, effect-range}
+use Rattle.simulation.proofs.NextCommand.{weight-here, next-here, effect-here}
 
 -- a store into one frame leaves a frame apart from it
 pub frame-apart : (ws : List ℕ) (b n d v b' n' : ℕ) → d < n → (b + n ≤ b') ⊎ (b' + n' ≤ b) → frame (set ws (b + d) v) b' n' ≡ frame ws b' n'
@@ -74,8 +85,8 @@ module _ (j : Job) (good : GoodJob j) (s : State) (ok : Sound j s) (c t : ℕ) (
   pub effect-met : (e : Effect) → effectAt j s h ≡ e → effect windows window-tests (codeOf j good) here ≡ e
   effect-met e met = effect-here j good s (ok .placed) t in-use ∙ met
 
-  pub effect-slots : (e : Effect) → effectAt j s h ≡ e → EffectInFrame (j .image) (sizeAt j s t) e
-  effect-slots e met = subst (EffectInFrame (j .image) (sizeAt j s t)) met (effect-range j good s (ok .placed) t in-use)
+  pub effect-slots : (e : Effect) → effectAt j s h ≡ e → MetAt j s t e
+  effect-slots e met = met-at j s good (ok .placed) t in-use e met
 
   pub effect-tested : (e : Effect) → effectAt j s h ≡ e → Facts (argumentsOf (j .image)) (view windows window-tests here) e
   effect-tested e met = subst (Facts (argumentsOf (j .image)) (view windows window-tests here)) (effect-met e met)
@@ -115,7 +126,7 @@ module _ (j : Job) (good : GoodJob j) (s : State) (ok : Sound j s) (c t : ℕ) (
 
   -- 01, 02, 03
   pub sets-goes : (d v : ℕ) → effectAt j s h ≡ Sets d v → StepsTo (goesOn (turnAt j s c t) (setSlot h d v s))
-  sets-goes d v met = slot-step d v (effect-slots (Sets d v) met)
+  sets-goes d v met = slot-step d v (effect-slots (Sets d v) met .0)
       (sets-step windows window-tests (codeOf j good) (poolOf j s) t here (linkOf h) cell-here d v (effect-met (Sets d v) met))
 
   -- 04
@@ -127,9 +138,9 @@ module _ (j : Job) (good : GoodJob j) (s : State) (ok : Sound j s) (c t : ℕ) (
       word (no x) l = absurd (x l)
 
       go : Dec (a < 32) → StepsTo (goesOn (turnAt j s c t) (setSlot h d (wordAt j s a) s))
-      go (yes l) = rw (lt-ltb a 32 l) (slot-step d (getD (j .parameters) a 0) (effect-slots (Loads d a) met)
+      go (yes l) = rw (lt-ltb a 32 l) (slot-step d (getD (j .parameters) a 0) (effect-slots (Loads d a) met .0)
           (loads-parameter-step windows window-tests (codeOf j good) (poolOf j s) t here (linkOf h) cell-here d a (effect-met (Loads d a) met) l))
-      go (no l) = rw (le-ltb a 32 (omega arith)) (slot-step d (getD (s .memory) (a - 32) 0) (effect-slots (Loads d a) met)
+      go (no l) = rw (le-ltb a 32 (omega arith)) (slot-step d (getD (s .memory) (a - 32) 0) (effect-slots (Loads d a) met .0)
           (subst (λ v. ThreadStep windows window-tests (codeOf j good) t (poolOf j s)
           (moved windows window-tests (codeOf j good) (poolOf j s) t here (linkOf h) cell-here (onward (codeOf j good) here (update (here .slots) d v))))
           (word (decLe 32 a) (omega arith))

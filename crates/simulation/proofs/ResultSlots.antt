@@ -28,12 +28,13 @@ use Rattle.machine.specs.Return.{returnOf, returnToParent, statusAfter}
 use Rattle.machine.specs.Rules.{entryOf}
 use Rattle.machine.specs.Lists.{Every}
 use Rattle.machine.specs.Sound.{GoodJob, Sound, Used, statusAt, sizeAt}
+use Rattle.soundness.proofs.EntryCases.{Stepped, Forked, Cases, entry-by}
+use Rattle.soundness.proofs.Tested.{return-tested}
 use Rattle.simulation.proofs.StatePool.{InUse, used-below}
-use Rattle.simulation.proofs.OwnSteps.{effect-slots, effect-tested}
+use Rattle.simulation.proofs.OwnSteps.{effect-slots}
 use Rattle.simulation.proofs.ReturnStep.{ResultsInFrame, above}
 use Rattle.simulation.proofs.SamePool.{used-set}
-use Rattle.soundness.proofs.EntryCases.{Stepped, Forked, Cases, entry-by}
-use Rattle.simulation.proofs.EntryMoves.{stepped-used, seeded-used, waits-used, parent-used}
+use Rattle.simulation.proofs.UsedThreads.{stepped-used, waits-used, seeded-used, ready-used, parent-used, moved-used, moved-parent}
 
 -- one record is put in: its own result slot is good, and its routine is the same if it has children
 put-results : (j : Job) (s : State) (t : ℕ) (h : Thread) → t < length (s .threads) → ResultsInFrame j s
@@ -135,7 +136,8 @@ module _ (j : Job) (good : GoodJob j) (s : State) (ok : Sound j s) (results : Re
           ∙ getD-set-same (s .threads) t parent blankThread (used-below (s .threads) t used))
 
       -- no thread in use is a child of the free number
-      none-of : (u : ℕ) → Used (setThread t parent s) u → (u ≡ 0 → ⊥) → threadAt (setThread t parent s) u .parent ≡ n → kid .routine ≡ threadAt (setThread t parent s) n .routine
+      none-of : (u : ℕ) → Used (setThread t parent s) u → (u ≡ 0 → ⊥) → threadAt (setThread t parent s) u .parent ≡ n
+          → kid .routine ≡ threadAt (setThread t parent s) n .routine
       none-of u k first q = absurd (free-parent (ℕ-discrete u t))
         where
           by : (z : ℕ) → Used s z → (z ≡ 0 → ⊥) → threadAt s z .parent ≡ n → ⊥
@@ -158,7 +160,7 @@ module _ (j : Job) (good : GoodJob j) (s : State) (ok : Sound j s) (results : Re
   no-children : (c t : ℕ) (used : Used s t) (v : ℕ) → effectAt j s (threadAt s t) ≡ Returns v → (u : ℕ) → Used s u → (u ≡ 0 → ⊥)
       → threadAt s u .parent ≡ t → ⊥
   no-children c t used v met u k first e =
-      let clear = effect-tested j good s ok c t used (Returns v) met (threadAt s u .result) (ok .placed .result u k) in
+      let clear = return-tested j s t v met (threadAt s u .result) (ok .placed .result u k) in
       let held : isPending (threadAt s t .pending) (threadAt s u .result) ≡ true =
       subst (λ z. isPending (threadAt s z .pending) (threadAt s u .result) ≡ true) e (ok .results .pending u k first) in
       true≢false (sym held ∙ clear)
@@ -195,31 +197,14 @@ module _ (j : Job) (good : GoodJob j) (s : State) (ok : Sound j s) (results : Re
   moved-results t h used k = same-results j s t h used k results
 
   leaving : (c t : ℕ) (x : Status) (k : Stepped j s c t) → 0 < statusNumber x → ResultsInFrame j (leaves c t x (goesOn (turnAt j s c t) s))
-  leaving c t x k l = leaves-results j c t x (goesOn (turnAt j s c t) s) (still t used) l connected
-      (moved-results t moved used (record { routine = refl; parent = refl; result = refl }))
-    where
-      used : Used s t
-      used = stepped-used j good s ok results c t k
-
-      moved : Thread
-      moved = movedTo (turnAt j s c t .next) (threadAt s t)
-
-      still : (w : ℕ) → Used s w → Used (goesOn (turnAt j s c t) s) w
-      still w h = used-set s t moved (used-below (s .threads) t used) used w h
-
-      now : threadAt (goesOn (turnAt j s c t) s) t ≡ moved
-      now = getD-set-same (s .threads) t moved blankThread (used-below (s .threads) t used)
-
-      connected : threadAt (goesOn (turnAt j s c t) s) t .connected ≡ true
-          → Used (goesOn (turnAt j s c t) s) (threadAt (goesOn (turnAt j s c t) s) t .parent)
-      connected h = subst (λ z. Used (goesOn (turnAt j s c t) s) (z .parent)) (sym now)
-          (still (threadAt s t .parent) (parent-used j good s ok results t (sym (ap (λ z. z .connected) now) ∙ h)))
+  leaving c t x k l = leaves-results j c t x (goesOn (turnAt j s c t) s) (moved-used j s ok c t k) l (moved-parent j s ok c t k)
+      (moved-results t (movedTo (turnAt j s c t .next) (threadAt s t)) (stepped-used j s ok c t k) (record { routine = refl; parent = refl; result = refl }))
 
   lforked : (kind : ForkKind) (c t : ℕ) → Used s t → (r d a e : ℕ) → effectAt j s (threadAt s t) ≡ Lforks r d a e
       → (n : ℕ) (ns : List ℕ) (x : ℕ) (xs : List ℕ) → Forked j s kind (threadAt s t) r n ns x xs
       → ResultsInFrame j (born j s kind (turnAt j s c t) (asked r d a e) n ns x xs)
   lforked kind c t used r d a e met n ns x xs f =
-      let range = effect-slots j good s ok c t used (Lforks r d a e) met in
+      let range = effect-slots j good s ok c t used (Lforks r d a e) met .0 in
       let m = free-number n ns (f .number) in
       born-results kind c t used r d a e n ns x xs (m .0) (m .1) (range .result)
 
@@ -227,7 +212,7 @@ module _ (j : Job) (good : GoodJob j) (s : State) (ok : Sound j s) (results : Re
       → (n : ℕ) (ns : List ℕ) (x : ℕ) (xs : List ℕ) → Forked j s kind (threadAt s t) r n ns x xs
       → ResultsInFrame j (born j s kind (turnAt j s c t) (asked r d a e) n ns x xs)
   forked kind c t used r d a e met n ns x xs f =
-      let range = effect-slots j good s ok c t used (Forks r d a e) met in
+      let range = effect-slots j good s ok c t used (Forks r d a e) met .0 in
       let m = free-number n ns (f .number) in
       born-results kind c t used r d a e n ns x xs (m .0) (m .1) (range .result)
 
@@ -235,29 +220,25 @@ module _ (j : Job) (good : GoodJob j) (s : State) (ok : Sound j s) (results : Re
   cases = record {
     refuses = λ n l m. results;
     fault = λ c t k n met. results;
-    waiting = λ c t k. leaves-results j c t Waiting s (waits-used j good s ok results c t k) (omega arith) (parent-used j good s ok results t) results;
-    sets = λ c t k d v met. moved-results t _ (stepped-used j good s ok results c t k) (record { routine = refl; parent = refl; result = refl });
-    loads = λ c t k d a met. moved-results t _ (stepped-used j good s ok results c t k) (record { routine = refl; parent = refl; result = refl });
-    stores = λ c t k a v met. moved-results t _ (stepped-used j good s ok results c t k) (record { routine = refl; parent = refl; result = refl });
-    goes = λ c t k p met. moved-results t _ (stepped-used j good s ok results c t k) (record { routine = refl; parent = refl; result = refl });
-    continues = λ c t k met. moved-results t _ (stepped-used j good s ok results c t k) (record { routine = refl; parent = refl; result = refl });
-    lforks = λ c t k r d a e met n ns x xs f. lforked Called c t (stepped-used j good s ok results c t k) r d a e met n ns x xs f;
-    forks = λ c t k r d a e met n ns x xs f. forked Queued c t (stepped-used j good s ok results c t k) r d a e met n ns x xs f;
-    joins = λ c t k met. moved-results t _ (stepped-used j good s ok results c t k) (record { routine = refl; parent = refl; result = refl });
+    waiting = λ c t k. leaves-results j c t Waiting s (waits-used j s ok c t k) (omega arith) (parent-used j s ok t) results;
+    sets = λ c t k d v met. moved-results t _ (stepped-used j s ok c t k) (record { routine = refl; parent = refl; result = refl });
+    loads = λ c t k d a met. moved-results t _ (stepped-used j s ok c t k) (record { routine = refl; parent = refl; result = refl });
+    stores = λ c t k a v met. moved-results t _ (stepped-used j s ok c t k) (record { routine = refl; parent = refl; result = refl });
+    goes = λ c t k p met. moved-results t _ (stepped-used j s ok c t k) (record { routine = refl; parent = refl; result = refl });
+    continues = λ c t k met. moved-results t _ (stepped-used j s ok c t k) (record { routine = refl; parent = refl; result = refl });
+    lforks = λ c t k r d a e met n ns x xs f. lforked Called c t (stepped-used j s ok c t k) r d a e met n ns x xs f;
+    forks = λ c t k r d a e met n ns x xs f. forked Queued c t (stepped-used j s ok c t k) r d a e met n ns x xs f;
+    joins = λ c t k met. moved-results t _ (stepped-used j s ok c t k) (record { routine = refl; parent = refl; result = refl });
     suspends = λ c t k met. leaving c t Suspended k (omega arith);
     yields = λ c t k met. leaving c t Ready k (omega arith);
-    returns = λ c t k v met. return-results c t (stepped-used j good s ok results c t k) v met;
-    takes = λ c t ts k. moved-results t (withStatus Running (threadAt s t)) (ready-used t ts (k .head)) (record { routine = refl; parent = refl; result = refl });
-    steals = λ c t k r d a e met n ns x xs f. ⊎-elim (λ m. lforked Stolen c t (seeded-used j good s ok results c t k) r d a e m n ns x xs f)
-        (λ m. forked Stolen c t (seeded-used j good s ok results c t k) r d a e m n ns x xs f) met;
-    enables = λ t k. moved-results t (withStatus Ready (threadAt s t)) (let z = k .suspended in omega arith) (record { routine = refl; parent = refl; result = refl });
+    returns = λ c t k v met. return-results c t (stepped-used j s ok c t k) v met;
+    takes = λ c t ts k. moved-results t (withStatus Running (threadAt s t)) (ready-used j s ok t ts (k .head))
+        (record { routine = refl; parent = refl; result = refl });
+    steals = λ c t k r d a e met n ns x xs f. ⊎-elim (λ m. lforked Stolen c t (seeded-used j s ok c t k) r d a e m n ns x xs f)
+        (λ m. forked Stolen c t (seeded-used j s ok c t k) r d a e m n ns x xs f) met;
+    enables = λ t k. moved-results t (withStatus Ready (threadAt s t)) (let z = k .suspended in omega arith)
+        (record { routine = refl; parent = refl; result = refl });
   }
-    where
-      ready-used : (t : ℕ) (ts : List ℕ) → s .ready ≡ t ∷ ts → Used s t
-      ready-used t ts e =
-          let f : Every (λ u. statusAt s u ≡ 2) (t ∷ ts) = subst (Every (λ u. statusAt s u ≡ 2)) e (ok .turns .ready) in
-          let z = f .0 in
-          omega arith
 
   pub results-kept : (e : Entry) → ResultsInFrame j (entryOf j s e .state)
   results-kept e = entry-by (λ a. ResultsInFrame j (a .state)) j s cases e

@@ -112,7 +112,8 @@ module _ (j : Job) (good : GoodJob j) (s : State) (ok : Sound j s) (results : Re
         go : Dec (u ≡ t) → (getD (set (s .threads) t blankThread) u blankThread ≡ threadAt s u) × Used s u
         go (yes e) =
             let b : getD (set (s .threads) t blankThread) u blankThread ≡ blankThread =
-            ap (λ z. getD (set (s .threads) t blankThread) z blankThread) e ∙ getD-set-same (s .threads) t blankThread blankThread (thread-below j good s ok c t in-use) in
+            ap (λ z. getD (set (s .threads) t blankThread) z blankThread) e
+            ∙ getD-set-same (s .threads) t blankThread blankThread (thread-below j good s ok c t in-use) in
             let z = ap (λ w. statusNumber (w .status)) b in
             absurd (omega arith)
         go (no n) =
@@ -120,8 +121,10 @@ module _ (j : Job) (good : GoodJob j) (s : State) (ok : Sound j s) (results : Re
             (b, subst InUse b k)
 
     kept : (u : ℕ) → ¬ (u ≡ p) → InUse (getD (set (s .threads) t blankThread) u blankThread)
-        → frame ws (getD (set (s .threads) t blankThread) u blankThread .base) (slotsOf (j .image) (getD (set (s .threads) t blankThread) u blankThread .routine))
-        ≡ frame (s .words) (getD (set (s .threads) t blankThread) u blankThread .base) (slotsOf (j .image) (getD (set (s .threads) t blankThread) u blankThread .routine))
+        → frame ws (getD (set (s .threads) t blankThread) u blankThread .base)
+        (slotsOf (j .image) (getD (set (s .threads) t blankThread) u blankThread .routine))
+        ≡ frame (s .words) (getD (set (s .threads) t blankThread) u blankThread .base)
+        (slotsOf (j .image) (getD (set (s .threads) t blankThread) u blankThread .routine))
     kept u n k =
         let (same, was) = still u k in
         subst (λ g. frame ws (g .base) (slotsOf (j .image) (g .routine)) ≡ frame (s .words) (g .base) (slotsOf (j .image) (g .routine))) (sym same)

@@ -26,7 +26,7 @@ use Rattle.machine.specs.State.{Job}
 use Rattle.machine.specs.Rules.{startState}
 use Rattle.machine.specs.Sound.{GoodJob}
 use Rattle.simulation.proofs.JobCode.{codeOf}
-use Rattle.simulation.proofs.PendingBits.{none-pending}
+use Rattle.simulation.proofs.PendingSlots.{none-pending}
 use Rattle.simulation.proofs.StatePool.{cellOf, cellsOf, poolOf, InUse}
 use Rattle.simulation.proofs.ReturnStep.{ResultsInFrame}
 

@@ -1,0 +1,20 @@
+-- `machine::parts::load_word` meets its contract. Assumes nothing.
+use borrow.Author.Tests.{lt-ltb, le-ltb}
+use borrow.Author.Needs.{needs}
+use Rattle.machine.proofs.parts.load_word.Statement.{statement}
+use Rattle.machine.proofs.parts.load_word.Tie as tie
+
+word-requires : tie.Need-word-requires
+word-requires c κs = search needs
+
+returns : tie.Need-returns
+returns c = rw (lt-ltb _ _ (c .before .if1 .taken)) (c .word .ensures)
+
+word-requires-2 : tie.Need-word-requires-2
+word-requires-2 c κs = search needs
+
+returns-2 : tie.Need-returns-2
+returns-2 c = rw (le-ltb _ _ (c .before .if1 .left)) (c .word2 .ensures)
+
+pub load-word-spec : {M : Type 1} → statement M
+load-word-spec = tie.close (tie.spec word-requires returns word-requires-2 returns-2)
