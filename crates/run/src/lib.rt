@@ -1,0 +1,83 @@
+// A run by a schedule: the whole-run tests, and then the machine from Start through the schedule's entries, one log byte for each.
+
+mod play;
+mod refusal;
+
+use crate::play::answer;
+use crate::play::play;
+use crate::refusal::image_number;
+use crate::refusal::refusal;
+use machine::Machine;
+use machine::start::start;
+ghost use Rattle.run.specs.Run.{Input};
+ghost use Rattle.run.specs.Promise.{Promise};
+
+// What a run answers.
+pub enum RunAnswer {
+    // a whole-run test is met; nothing was written
+    Refused(u8),
+    Finished { result: u32, units: u32 },
+    Faulted { number: u8, thread: u8, offset: u16 },
+    Open { units: u32 },
+}
+
+// The answer, with the machine as the run left it and the words of its stacklets.
+pub struct Ran {
+    pub answer: RunAnswer,
+    pub machine: Machine,
+    pub words: [u32; 1024],
+}
+
+// A run by a schedule. It takes any input.
+pub fn run(
+    image: &[u8],
+    cores: u8,
+    arguments: &[u32],
+    parameters: &[u32],
+    memory: &mut [u32],
+    allowance: u32,
+    schedule: &[u8],
+    log: &mut [u8],
+) -> Ran
+    ensures { λ r. ⌜ Promise (record { image = now (image .entry); cores = cores; arguments = now (arguments .entry); parameters = now (parameters .entry); memory = now (memory .entry); allowance = allowance }) (now (schedule .entry)) (now (log .entry)) r (now (memory .exit)) (now (log .exit)) ⌝ }
+{
+    let mut words = [0u32; 1024];
+    let machine = start(image, cores, arguments, &mut words);
+    let checked = image::check(image);
+    let verdict = checked.verdict;
+    let number = refusal(
+        image_number(verdict),
+        image,
+        cores,
+        arguments,
+        parameters,
+        memory,
+        schedule,
+        log,
+    );
+    if number != 0 {
+        return Ran {
+            answer: RunAnswer::Refused(number),
+            machine,
+            words,
+        };
+    }
+    let program = checked.program;
+    let starts = program.starts();
+    let end = play(
+        machine,
+        schedule,
+        log,
+        image,
+        &starts,
+        parameters,
+        &mut words,
+        memory,
+        allowance,
+    );
+    Ran {
+        answer: answer(end),
+        machine: end,
+        words,
+    }
+}

@@ -1,0 +1,74 @@
+// The whole-run tests, in document 01's order: 23, image, 24, 13, 25.
+use command::byte_at;
+use image::Refusal;
+use image::Verdict;
+use schedule::Counted;
+use schedule::count;
+ghost use mathlib.Core.Path.{_≡_};
+ghost use Prim.Native.Nat.{ℕ};
+ghost use Rattle.image.specs.Image.{imageVerdict, numberIn};
+ghost use Rattle.run.specs.Run.{Input, refusalOf};
+
+// A verdict's number; 0 for an accepted image.
+pub fn image_number(verdict: Verdict) -> u8
+    ensures { λ r. ⌜ r ≡ numberIn verdict ⌝ }
+{
+    match verdict {
+        Verdict::Accepted => 0,
+        Verdict::Refused(refusal) => match refusal {
+            Refusal::BadLength => 1,
+            Refusal::BadCount => 2,
+            Refusal::BadRow => 3,
+            Refusal::UnknownByte => 4,
+            Refusal::OperandsCutOff => 5,
+            Refusal::OutOfRange => 6,
+            Refusal::BadEnd => 7,
+            Refusal::BadTarget => 8,
+        },
+    }
+}
+
+// The number of the first test that is met, or 0. The image's own number is given.
+pub fn refusal(
+    verdict: u8,
+    image: &[u8],
+    cores: u8,
+    arguments: &[u32],
+    parameters: &[u32],
+    memory: &[u32],
+    schedule: &[u8],
+    log: &[u8],
+) -> u8
+    requires { ⌜ verdict ≡ numberIn (imageVerdict (now image)) ⌝ }
+    ensures { λ r. ⌜ ((allowance : ℕ) → r ≡ refusalOf (record { image = now (image .entry); cores = cores; arguments = now (arguments .entry); parameters = now (parameters .entry); memory = now (memory .entry); allowance = allowance }) (now (schedule .entry)) (now (log .entry))) ⌝ }
+{
+    if cores == 0 {
+        return 23;
+    }
+    if 4 < cores {
+        return 23;
+    }
+    if verdict != 0 {
+        return verdict;
+    }
+    let wanted = byte_at(image, 2) as usize;
+    if arguments.len() != wanted {
+        return 24;
+    }
+    let counted = count(schedule);
+    match counted {
+        Counted::Malformed => 13,
+        Counted::Entries(entries) => {
+            if parameters.len() != 32 {
+                return 25;
+            }
+            if memory.len() != 992 {
+                return 25;
+            }
+            if log.len() < entries {
+                return 25;
+            }
+            0
+        }
+    }
+}

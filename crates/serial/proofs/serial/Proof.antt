@@ -1,0 +1,74 @@
+-- `serial::serial` meets its contract. Assumes nothing.
+use mathlib.Core.Path.{sym, _∙_, ap}
+use native.Mathlib.Omega.{arith}
+use Rattle.image.specs.Layout.{startsIn}
+use Rattle.serial.specs.Serial.{stopped}
+use Rattle.serial.proofs.Whole.{verdict-is, program-is, refused, wrong-count, wrong-parameters, wrong-memory, few-arguments, whole-ready, whole-run}
+use borrow.Author.Needs.{needs}
+use Rattle.serial.proofs.serial.Statement.{statement}
+use Rattle.serial.proofs.serial.Tie as tie
+
+check-requires : tie.Need-check-requires
+check-requires c κs = search needs
+
+enum-known-verdict : tie.Need-enum-known-verdict
+enum-known-verdict c = search needs
+
+number-of-requires : tie.Need-number-of-requires
+number-of-requires c κs = search needs
+
+returns : tie.Need-returns
+returns c = ap (λ x. stopped x (c .before .before .before .before .before .before .before .before .before .args .memory .now) 0) (c .number-of .ensures) ∙ refused (c .before .before .before .before .before .before .before .before .before .args .image .now) (c .before .before .before .before .before .before .before .before .before .args .parameters .now) (c .before .before .before .before .before .before .before .before .before .args .arguments .now) (c .before .before .before .before .before .before .before .before .before .args .memory .now) (c .before .before .before .before .before .before .before .before .before .args .allowance) _ (sym (verdict-is _ _ (c .before .before .before .before .check .ensures)) ∙ c .before .before .verdict .given .1)
+
+enum-told : tie.Need-enum-told
+enum-told c = search needs
+
+arguments-of-requires : tie.Need-arguments-of-requires
+arguments-of-requires c κs = search needs
+
+cast-if1 : tie.Need-cast-if1
+cast-if1 c = search needs
+
+returns-2 : tie.Need-returns-2
+returns-2 c = wrong-count _ _ _ _ _ (sym (verdict-is _ _ (c .before .before .before .before .check .ensures)) ∙ c .before .before .enum-told .given .1) (λ e. c .if1 .taken (e ∙ sym (c .before .arguments-of .ensures)))
+
+returns-3 : tie.Need-returns-3
+returns-3 c = wrong-parameters _ _ _ _ _ (sym (verdict-is _ _ (c .before .before .before .before .before .check .ensures)) ∙ c .before .before .before .enum-told .given .1) (c .before .if1 .left ∙ c .before .before .arguments-of .ensures) (c .if2 .taken)
+
+returns-4 : tie.Need-returns-4
+returns-4 c = wrong-memory _ _ _ _ _ (sym (verdict-is _ _ (c .before .before .before .before .before .before .check .ensures)) ∙ c .before .before .before .before .enum-told .given .1) (c .before .before .if1 .left ∙ c .before .before .before .arguments-of .ensures) (c .before .if2 .left) (c .if3 .taken)
+
+starts-requires : tie.Need-starts-requires
+starts-requires c κs = search needs
+
+root-of-requires : tie.Need-root-of-requires
+root-of-requires c κs = few-arguments (c .before .before .before .before .before .before .before .before .before .before .before .before .before .before .before .args .image .now) (c .before .before .before .before .before .before .before .before .before .before .before .before .before .before .before .args .parameters .now) (c .before .before .before .before .before .before .before .before .before .before .before .before .before .before .before .args .arguments .now) (c .before .before .before .before .before .before .before .before .before .before .before .before .before .before .before .args .memory .now) (c .before .before .before .before .before .before .before .before .before .before .before .before .before .before .before .args .allowance) (sym (verdict-is _ _ (c .before .before .before .before .before .before .before .before .before .before .check .ensures)) ∙ c .before .before .before .before .before .before .before .before .enum-told .given .1) (c .before .before .before .before .before .before .if1 .left ∙ c .before .before .before .before .before .before .before .arguments-of .ensures)
+
+run-routine-requires : tie.Need-run-routine-requires
+run-routine-requires c κs = whole-ready (c .before .before .before .before .before .before .before .before .before .before .before .before .before .before .before .before .args .image .now) (c .before .before .before .before .before .before .before .before .before .before .before .before .before .before .before .before .args .parameters .now) (c .before .before .before .before .before .before .before .before .before .before .before .before .before .before .before .before .args .arguments .now) (c .before .before .before .before .before .before .before .before .before .before .before .before .before .before .before .before .args .memory .now) (c .before .before .before .before .before .before .before .before .before .before .before .before .before .before .before .before .args .allowance) (sym (verdict-is _ _ (c .before .before .before .before .before .before .before .before .before .before .before .check .ensures)) ∙ c .before .before .before .before .before .before .before .before .before .enum-told .given .1) _ (c .before .before .before .starts .ensures ∙ ap startsIn (program-is _ _ (c .before .before .before .before .before .before .before .before .before .before .before .check .ensures) (c .before .before .before .before .before .before .before .before .before .enum-told .given .1))) _ (c .root-of .ensures) (λ i. omega (arith, c .before .before .before .before .before .before .before .before .before .before .before .before .before .before .before .shared-slice-known .given i)) (c .before .before .before .before .before .before .if2 .left) (c .before .before .before .before .before .if3 .left)
+
+same-length : tie.Need-same-length
+same-length c = search needs
+
+returns-5 : tie.Need-returns-5
+returns-5 c = whole-run (c .before .before .before .before .before .before .before .before .before .before .before .before .before .before .before .before .before .before .before .args .image .now) (c .before .before .before .before .before .before .before .before .before .before .before .before .before .before .before .before .before .before .before .args .parameters .now) (c .before .before .before .before .before .before .before .before .before .before .before .before .before .before .before .before .before .before .before .args .arguments .now) (c .before .before .before .before .before .before .before .before .before .before .before .before .before .before .before .before .before .before .before .args .memory .now) (c .before .before .before .before .before .before .before .before .before .before .before .before .before .before .before .before .before .before .before .args .allowance) (sym (verdict-is _ _ (c .before .before .before .before .before .before .before .before .before .before .before .before .before .before .check .ensures)) ∙ c .before .before .before .before .before .before .before .before .before .before .before .before .enum-told .given .1) _ (c .before .before .before .before .before .before .starts .ensures ∙ ap startsIn (program-is _ _ (c .before .before .before .before .before .before .before .before .before .before .before .before .before .before .check .ensures) (c .before .before .before .before .before .before .before .before .before .before .before .before .enum-told .given .1))) _ (c .before .before .before .root-of .ensures) _ (c .before .before .before .before .before .before .before .before .before .before .if1 .left ∙ c .before .before .before .before .before .before .before .before .before .before .before .arguments-of .ensures) (c .before .before .before .before .before .before .before .before .before .if2 .left) (c .before .before .before .before .before .before .before .before .if3 .left) (c .before .before .run-routine .ensures)
+
+pub serial-spec : {M : Type 1} → statement M
+serial-spec =
+    tie.close
+    (tie.spec
+    check-requires
+    enum-known-verdict
+    number-of-requires
+    returns
+    enum-told
+    arguments-of-requires
+    cast-if1
+    returns-2
+    returns-3
+    returns-4
+    starts-requires
+    root-of-requires
+    run-routine-requires
+    same-length
+    returns-5)
