@@ -1,8 +1,8 @@
--- `cases_run::show::bytes` is safe and ends: each turn leaves one byte fewer to print. Assumes nothing.
+-- `cases_steps::show::bytes` is safe and ends: each turn leaves one byte fewer to print. Assumes nothing.
 use borrow.Author.Needs.{needs}
 use Prim.Native.Nat.{_-_}
-use Rattle.cases_run.proofs.show.bytes.Statement.{statement}
-use Rattle.cases_run.proofs.show.bytes.Tie as tie
+use Rattle.cases_steps.proofs.show.bytes.Statement.{statement}
+use Rattle.cases_steps.proofs.show.bytes.Tie as tie
 
 abbrev Inv-loop : tie.InvT-loop
 Inv-loop log n i₀ i = Unit {0}
