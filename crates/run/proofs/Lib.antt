@@ -6,3 +6,4 @@ pub mod Playing
 pub mod Passing
 pub mod Running
 pub mod RunDemand
+pub mod Cases
