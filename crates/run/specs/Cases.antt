@@ -17,7 +17,12 @@ pub record Case : Type 0 where
 -- no arguments, words that start zero
 abbrev pub given : List ℕ → ℕ → ℕ → Input
 given image cores allowance = record {
-  image = image; cores = cores; arguments = []; parameters = replicate 32 0; memory = replicate 992 0; allowance = allowance
+  image = image;
+  cores = cores;
+  arguments = [];
+  parameters = replicate 32 0;
+  memory = replicate 992 0;
+  allowance = allowance;
 }
 
 -- the schedule of the case "Whole"
@@ -33,9 +38,9 @@ starred =
     ∷ record { input = given [] 1 100; schedule = []; log = []; answer = Refused 1 }
     ∷ record { input = given (0x00 ∷ []) 1 100; schedule = []; log = []; answer = Refused 2 }
     ∷ record {
-        input = given whole 2 100;
-        schedule = wholeSchedule;
-        log = 0 ∷ 0 ∷ 0 ∷ 15 ∷ 0 ∷ 0 ∷ 0 ∷ 0 ∷ 0 ∷ 0 ∷ 0 ∷ 19 ∷ [];
-        answer = Finished 10 20
-      }
+      input = given whole 2 100;
+      schedule = wholeSchedule;
+      log = 0 ∷ 0 ∷ 0 ∷ 15 ∷ 0 ∷ 0 ∷ 0 ∷ 0 ∷ 0 ∷ 0 ∷ 0 ∷ 19 ∷ [];
+      answer = Finished 10 20;
+    }
     ∷ []
