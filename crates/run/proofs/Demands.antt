@@ -1,21 +1,20 @@
--- Demand 3 holds, for every input that a run takes and every list of entries. Assumes nothing.
+-- The demands hold: 1 of what a run gives, 2 and 3 for every input that a run takes and every list of entries. Assumes nothing.
 use borrow.Author.Tests.{eq-eqb}
 use mathlib.Core.Bool.{true}
-use mathlib.Core.List.{List, [], _∷_}
+use mathlib.Core.List.{List, [], _∷_, _++_, append-nil}
 use mathlib.Core.Logic.{_⊎_}
 use mathlib.Core.Path.{_≡_, refl, sym, _∙_, ap, subst}
-use Prim.Native.Nat.{ℕ, _<_}
+use Prim.Native.Nat.{ℕ, suc, _+_, _<_, _≤_}
 use native.Mathlib.Omega.{arith}
-use lib.ListN.{length}
-use Rattle.command.proofs.Tables.{weight-least}
-use Rattle.image.proofs.Accepted.{accepted}
-use Rattle.image.proofs.Places.{starts-at}
+use lib.ListN.{length, getD, drop, length-append, length-drop}
+use Rattle.command.proofs.RoundTrip.{reads-back, writes-again}
 use Rattle.schedule.specs.declared.Entry.{Entry}
+use Rattle.schedule.specs.Meaning.{entries, scheduleOf}
 use Rattle.forkjoin.proofs.Arrays.{words-from, words-eq}
 use Rattle.forkjoin.proofs.SerialRun.{done as t-done}
-use Rattle.machine.specs.State.{Job, State, finished, faulted, isOver}
+use Rattle.machine.specs.State.{Job, State, Outcome, going, finished, faulted, isOver}
 use Rattle.machine.specs.Rules.{entryOf, startState, stepOf, takeOf}
-use Rattle.machine.specs.Sound.{GoodJob, Sound, statusAt}
+use Rattle.machine.specs.Sound.{Sound, statusAt}
 use Rattle.serial.specs.Serial.{Ended, done, stopped, serialOf, serialFrom}
 use Rattle.soundness.proofs.Kept.{stateAfter, run-sound, entry-sound}
 use Rattle.soundness.proofs.KeepSized.{keep-count}
@@ -23,10 +22,16 @@ use Rattle.soundness.proofs.StartSound.{start-sound}
 use Rattle.soundness.proofs.Finished.{finished-free, finished-numbers}
 use Rattle.soundness.proofs.KeepStacklets.{finished-stacklets}
 use Rattle.soundness.proofs.Jam.{jam}
+use Rattle.soundness.proofs.Numbers.{numbers}
+use Rattle.soundness.proofs.Unchanged.{unchanged}
 use Rattle.simulation.proofs.EntriesRun.{entries-agree, entries-faultless}
+use Rattle.run.proofs.Passing.{good, takes, has-room}
 use Rattle.run.proofs.SerialTheory.{asOutcome, memoryOf, IsTheory, is-theory}
-use Rattle.run.specs.Run.{Input, jobIn, startIn, runFrom}
-use Rattle.run.specs.Demands.{Takes, Demand3, AllFree, IsRefusal, IsTight, serialIn}
+use Rattle.run.specs.declared.Ran.{Ran}
+use Rattle.run.specs.declared.RunAnswer.{RunAnswer}
+use Rattle.run.specs.declared.RunAnswer.the-variants.{Refused}
+use Rattle.run.specs.Run.{Input, jobIn, startIn, runFrom, logsFrom, logged, answerOf, refusalOf, entryCount, RunsAs}
+use Rattle.run.specs.Demands.{Takes, Demand1, Demand2, Demand3, AllFree, IsRefusal, IsTight, serialIn}
 
 -- the fold of entries is the one that soundness and the simulation speak of
 run-is : (j : Job) (s : State) (es : List Entry) → runFrom j s es ≡ stateAfter j s es
@@ -43,29 +48,20 @@ module _ (i : Input) (k : Takes i) where
   unfolding startState
   start-cores = refl
 
-  pub good : GoodJob (jobIn i)
-  good = record {
-    image = k .image;
-    bytes = k .bytes;
-    starts = λ r h. starts-at (i .image) r h (accepted (i .image) (k .image) .most);
-    parameters = k .parameters;
-    weighs = weight-least;
-  }
-
   -- the whole-run tests of the serial run pass
   serial-starts : serialIn i ≡ serialFrom (jobIn i) (i .arguments) (i .memory)
   unfolding serialOf
   serial-starts = rw (k .image, eq-eqb _ _ (k .arguments), eq-eqb _ _ (k .parameters), eq-eqb _ _ (k .memory))
 
-  theory : IsTheory (jobIn i) good (i .arguments) (i .memory)
-  theory = is-theory (jobIn i) good (i .arguments) (i .memory) (k .arguments) (k .memory)
+  theory : IsTheory (jobIn i) (good i k) (i .arguments) (i .memory)
+  theory = is-theory (jobIn i) (good i k) (i .arguments) (i .memory) (k .arguments) (k .memory)
 
   module _ (es : List Entry) where
     abbrev end : State
     end = stateAfter (jobIn i) (startIn i) es
 
     sound : Sound (jobIn i) end
-    sound = run-sound (jobIn i) (i .cores) (i .arguments) (i .memory) good (k .some) (k .most) (k .memory) es
+    sound = run-sound (jobIn i) (i .cores) (i .arguments) (i .memory) (good i k) (k .some) (k .most) (k .memory) es
 
     same-end : (x : Ended) (v u : ℕ) (m : List ℕ) → length m ≡ 992 → length (memoryOf x) ≡ 992 → asOutcome x ≡ t-done v (words-from 32 m) u → x ≡ done v m u
     same-end (done w n t) v u m h l e =
@@ -80,7 +76,7 @@ module _ (i : Input) (k : Takes i) where
     agree v over =
         serial-starts
         ∙ same-end (serialFrom (jobIn i) (i .arguments) (i .memory)) v (end .units) (end .memory) (sound .sized .memory) (theory .size)
-        (theory .same ∙ entries-agree (jobIn i) good (i .arguments) (i .memory) (i .cores) (k .some) (k .most) (k .arguments) (k .memory) es v over)
+        (theory .same ∙ entries-agree (jobIn i) (good i k) (i .arguments) (i .memory) (i .cores) (k .some) (k .most) (k .arguments) (k .memory) es v over)
 
     free : (v : ℕ) → end .outcome ≡ finished v → AllFree end
     free v over = record {
@@ -94,12 +90,12 @@ module _ (i : Input) (k : Takes i) where
 
     unfaulted : (v u : ℕ) (m : List ℕ) → serialIn i ≡ done v m u → (n t o : ℕ) → end .outcome ≡ faulted n t o → ⊥
     unfaulted v u m e n t o over =
-        entries-faultless (jobIn i) good (i .arguments) (i .memory) (i .cores) (k .some) (k .most) (k .arguments) (k .memory) v u (words-from 32 m)
+        entries-faultless (jobIn i) (good i k) (i .arguments) (i .memory) (i .cores) (k .some) (k .most) (k .arguments) (k .memory) v u (words-from 32 m)
         (sym (theory .same) ∙ ap asOutcome (sym serial-starts ∙ e)) es n t o over
 
     -- the machine's cores are as many as the run was given
     count-kept : end .count ≡ i .cores
-    count-kept = cores-kept (jobIn i) (startIn i) (start-sound (jobIn i) (i .cores) (i .arguments) (i .memory) good (k .some) (k .most) (k .memory)) es ∙ start-cores
+    count-kept = cores-kept (jobIn i) (startIn i) (start-sound (jobIn i) (i .cores) (i .arguments) (i .memory) (good i k) (k .some) (k .most) (k .memory)) es ∙ start-cores
 
     never-jams : ((c : ℕ) → c < i .cores → IsRefusal (stepOf (jobIn i) end c .log) × IsRefusal (takeOf end c .log))
         → (isOver (end .outcome) ≡ true)
@@ -118,3 +114,77 @@ module _ (i : Input) (k : Takes i) where
 
 pub demand-3 : (i : Input) → Takes i → (es : List Entry) → Demand3 i (runFrom (jobIn i) (startIn i) es)
 demand-3 i k es = demand-3-here i k es
+
+-- entries one after another
+run-append : (j : Job) (s : State) (before after : List Entry) → runFrom j s (before ++ after) ≡ runFrom j (runFrom j s before) after
+unfolding runFrom
+run-append j s [] after = refl
+run-append j s (e ∷ before) after = run-append j (entryOf j s e .state) before after
+
+run-next : (j : Job) (s : State) (before : List Entry) (e : Entry) → runFrom j s (before ++ (e ∷ [])) ≡ entryOf j (runFrom j s before) e .state
+unfolding runFrom
+run-next j s before e = run-append j s before (e ∷ [])
+
+-- the log byte behind those of the entries before
+log-at : (j : Job) (s : State) (before after : List Entry) (e : Entry) (rest : List ℕ)
+    → getD (logsFrom j s (before ++ (e ∷ after)) ++ rest) (length before) 0 ≡ entryOf j (runFrom j s before) e .log
+unfolding runFrom logsFrom
+log-at j s [] after e rest = refl
+log-at j s (x ∷ before) after e rest = log-at j (entryOf j s x .state) before after e rest
+
+pub logs-many : (j : Job) (s : State) (es : List Entry) → length (logsFrom j s es) ≡ length es
+unfolding logsFrom
+logs-many j s [] = refl
+logs-many j s (e ∷ es) = ap suc (logs-many j (entryOf j s e .state) es)
+
+pub sound-after : (i : Input) → Takes i → (es : List Entry) → Sound (jobIn i) (runFrom (jobIn i) (startIn i) es)
+sound-after i k es = subst (Sound (jobIn i)) (sym (run-is (jobIn i) (startIn i) es)) (sound i k es)
+
+-- demand 2, whatever stands behind the log bytes
+pub demand-2-logged : (i : Input) → Takes i → (es : List Entry) (rest : List ℕ) → Demand2 i es (logsFrom (jobIn i) (startIn i) es ++ rest)
+demand-2-logged i k es rest = record {
+  moves = λ before after e q. (
+    ap (λ l. getD (logsFrom (jobIn i) (startIn i) l ++ rest) (length before) 0) q ∙ log-at (jobIn i) (startIn i) before after e rest,
+    run-next (jobIn i) (startIn i) before e,
+  );
+  numbers = λ before after q. numbers (jobIn i) (runFrom (jobIn i) (startIn i) before) (sound-after i k before);
+  back = reads-back;
+  again = writes-again;
+}
+
+pub demand-2 : (i : Input) → Takes i → (es : List Entry) → Demand2 i es (logsFrom (jobIn i) (startIn i) es)
+demand-2 i k es = subst (Demand2 i es) (append-nil (logsFrom (jobIn i) (startIn i) es)) (demand-2-logged i k es [])
+
+-- log bytes over the front of a log
+whole : (bytes log : List ℕ) → length bytes ≤ length log → length (logged log bytes) ≡ length log
+whole bytes log h = length-append bytes (drop (length bytes) log) ∙ ap (λ n. length bytes + n) (length-drop (length bytes) log) ∙ omega (arith, h)
+
+-- an answer by entries is no refusal
+no-refusal : (o : Outcome) (u n : ℕ) → ¬ (answerOf o u ≡ Refused n)
+no-refusal going u n e = let z : _≡_ {A = ℕ} 0 1 = cc in omega arith
+no-refusal (finished v) u n e = let z : _≡_ {A = ℕ} 0 1 = cc in omega arith
+no-refusal (faulted m t o) u n e = let z : _≡_ {A = ℕ} 0 1 = cc in omega arith
+
+module _ (i : Input) (schedule log : List ℕ) (bytes : (k : ℕ) → getD (i .image) k 0 < 256) (r : Ran) (memoryAfter logAfter : List ℕ)
+    (runs : RunsAs i schedule log r memoryAfter logAfter) where
+  -- a run by entries: the memory and the log have the lengths that they had
+  within : refusalOf i schedule log ≡ 0
+      → (¬ ((n : ℕ) × (r .answer ≡ Refused n))) × (length memoryAfter ≡ length (i .memory)) × (length logAfter ≡ length log)
+  within passes =
+      let (es, means, p) = runs .played passes in
+      let k = takes i schedule log passes bytes in
+      let room = has-room i schedule log passes in
+      let same : entries es ≡ entries (room .all) = sym means ∙ room .means in
+      let many : length es ≡ length (room .all) = ap entryCount same in (
+        λ (n, q). no-refusal (runFrom (jobIn i) (startIn i) es .outcome) (runFrom (jobIn i) (startIn i) es .units) n (sym (p .answer) ∙ q),
+        ap length (p .memory) ∙ sound-after i k es .sized .memory ∙ sym (k .memory),
+        ap length (p .log) ∙ whole (logsFrom (jobIn i) (startIn i) es) log (omega (arith, logs-many (jobIn i) (startIn i) es, many, room .room)),
+      )
+
+  pub demand-1 : Demand1 i schedule log r memoryAfter logAfter
+  demand-1 = record {
+    bad = λ some. let q = runs .refused some in (q .answer, q .memory, q .log);
+    good = within;
+    untouched = λ before e (low, high).
+        run-next (jobIn i) (startIn i) before e ∙ unchanged (jobIn i) (runFrom (jobIn i) (startIn i) before) e low high;
+  }

@@ -13,10 +13,13 @@ use Rattle.image.specs.declared.Verdict.the-variants.{Accepted, Refused}
 use Rattle.image.specs.declared.Refusal.{Refusal}
 use Rattle.image.specs.declared.Refusal.the-variants.{BadLength, BadCount, BadRow, UnknownByte, OperandsCutOff, OutOfRange, BadEnd, BadTarget}
 use Rattle.image.specs.Image.{imageVerdict, numberIn, numberOf as refusalNumber}
+use Rattle.command.proofs.Tables.{weight-least}
+use Rattle.image.proofs.Accepted.{accepted}
+use Rattle.image.proofs.Places.{starts-at}
 use Rattle.schedule.specs.declared.Entry.{Entry}
 use Rattle.schedule.specs.Meaning.{Schedule, entries, malformed, scheduleOf, numberOf}
+use Rattle.machine.specs.Sound.{GoodJob}
 use Rattle.soundness.proofs.StartSound.{start-sound}
-use Rattle.run.proofs.Demands.{good}
 use Rattle.run.specs.Run.{Input, jobIn, startIn, badCores, badArguments, badWords, entryCount, refusalOf, Playable}
 use Rattle.run.specs.Demands.{Takes}
 
@@ -53,6 +56,16 @@ refusal-some BadTarget = omega arith
 no-number : (v : Verdict) → numberIn v ≡ 0 → v ≡ Accepted
 no-number Accepted e = refl
 no-number (Refused r) e = absurd (omega (arith, refusal-some r, e))
+
+-- the job of an input that a run takes
+pub good : (i : Input) → Takes i → GoodJob (jobIn i)
+good i k = record {
+  image = k .image;
+  bytes = k .bytes;
+  starts = λ r h. starts-at (i .image) r h (accepted (i .image) (k .image) .most);
+  parameters = k .parameters;
+  weighs = weight-least;
+}
 
 -- an accepted schedule, with room in a log for its entries
 pub record Room (schedule log : List ℕ) : Type 0 where

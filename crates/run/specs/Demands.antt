@@ -1,20 +1,27 @@
 -- The three demands, each as a record that can be laid beside the user's words line by line.
 use mathlib.Core.Bool.{Bool, true, false}
-use mathlib.Core.List.{List}
+use mathlib.Core.List.{List, [], _∷_, _++_}
 use mathlib.Core.Logic.{_⊎_}
 use mathlib.Core.Path.{_≡_}
 use Prim.Native.Nat.{ℕ, _≤_, _<_}
-use lib.ListN.{length, getD}
+use lib.ListN.{length, getD, take, drop}
+use Rattle.command.specs.declared.Command.{Command}
+use Rattle.command.specs.declared.CommandRead.the-variants.{Found}
+use Rattle.command.specs.Command.{commandAt, bytesOf}
+use Rattle.command.specs.Encoded.{Fits}
 use Rattle.image.specs.declared.Verdict.the-variants.{Accepted}
 use Rattle.image.specs.Layout.{argumentsOf}
 use Rattle.image.specs.Image.{imageVerdict}
 use Rattle.schedule.specs.declared.Entry.{Entry}
 use Rattle.machine.specs.Lists.{Member, Distinct}
 use Rattle.machine.specs.State.{Job, State, Outcome, finished, faulted, isOver, threadAt}
-use Rattle.machine.specs.Rules.{stepOf, takeOf}
+use Rattle.machine.specs.Rules.{stepOf, takeOf, entryOf}
 use Rattle.machine.specs.Sound.{statusAt}
+use Rattle.soundness.specs.Numbers.{Numbers}
 use Rattle.serial.specs.Serial.{Ended, done, stopped, serialOf}
-use Rattle.run.specs.Run.{Input, jobIn, startIn, runFrom}
+use Rattle.run.specs.declared.Ran.{Ran}
+use Rattle.run.specs.declared.RunAnswer.the-variants.{Refused}
+use Rattle.run.specs.Run.{Input, jobIn, startIn, runFrom, refusalOf}
 
 -- "every image, core count, argument list, parameters, starting memory and allowance that a run takes"
 pub record Takes (i : Input) : Type 0 where
@@ -27,6 +34,40 @@ pub record Takes (i : Input) : Type 0 where
   pub parameters : length (i .parameters) ≡ 32
   pub memory : length (i .memory) ≡ 992
 
+-- the state behind some entries, from Start
+abbrev pub stateAfter : Input → List Entry → State
+stateAfter i es = runFrom (jobIn i) (startIn i) es
+
+-- an entry is refused by 14 to 22; a faulting one is "neither accepted nor refused", and a join that waits is accepted
+abbrev pub IsRefusal : ℕ → Type 0
+IsRefusal n = (14 ≤ n) × (n ≤ 22)
+
+-- Demand 1, of what a run gives and how it leaves its buffers
+pub record Demand1 (i : Input) (schedule log : List ℕ) (r : Ran) (memoryAfter logAfter : List ℕ) : Type 0 where
+  -- "If an image, core count, schedule, argument list or lent buffer is bad, the run gives its number from document 01 and every buffer
+  -- stays untouched"
+  pub bad : ¬ (refusalOf i schedule log ≡ 0) → (r .answer ≡ Refused (refusalOf i schedule log)) × (memoryAfter ≡ i .memory) × (logAfter ≡ log)
+  -- "Where they are good, the run ends, within its buffers"
+  pub good : refusalOf i schedule log ≡ 0
+      → (¬ ((n : ℕ) × (r .answer ≡ Refused n))) × (length memoryAfter ≡ length (i .memory)) × (length logAfter ≡ length log)
+  -- "and a refused entry changes only its own log byte": the state, and the memory in it, stays
+  pub untouched : (before : List Entry) (e : Entry) → IsRefusal (entryOf (jobIn i) (stateAfter i before) e .log)
+      → stateAfter i (before ++ (e ∷ [])) ≡ stateAfter i before
+
+-- Demand 2, of entries and the log bytes that they got
+pub record Demand2 (i : Input) (es : List Entry) (logs : List ℕ) : Type 0 where
+  -- "Each schedule entry moves the machine exactly as the step rules in document 01 say"
+  pub moves : (before after : List Entry) (e : Entry) → es ≡ before ++ (e ∷ after)
+      → (getD logs (length before) 0 ≡ entryOf (jobIn i) (stateAfter i before) e .log)
+      × (stateAfter i (before ++ (e ∷ [])) ≡ entryOf (jobIn i) (stateAfter i before) e .state)
+  -- "and meets a refusal only under that number's condition"
+  pub numbers : (before after : List Entry) → es ≡ before ++ after → Numbers (jobIn i) (stateAfter i before)
+  -- "A written command reads back as itself", whatever follows it
+  pub back : (command : Command) (rest : List ℕ) → Fits command → commandAt (bytesOf command ++ rest) 0 ≡ Found command (length (bytesOf command))
+  -- "and an accepted command's bytes are written again unchanged"
+  pub again : (bytes : List ℕ) → ((k : ℕ) → getD bytes k 0 < 256) → (at : ℕ) (command : Command) (n : ℕ) → commandAt bytes at ≡ Found command n
+      → bytesOf command ≡ take n (drop at bytes)
+
 -- "the plain run of document 01, fed the same but for core count and schedule"
 abbrev pub serialIn : Input → Ended
 serialIn i = serialOf (jobIn i) (i .arguments) (i .memory)
@@ -37,15 +78,11 @@ pub record AllFree (s : State) : Type 0 where
   pub threads : (t : ℕ) → t < 32 → Member t (s .freeThreads)
   pub stacklets : (x : ℕ) → x < 16 → Member x (s .freeStacklets)
 
--- an entry is refused by 14 to 22; a faulting one is "neither accepted nor refused", and a join that waits is accepted
-abbrev pub IsRefusal : ℕ → Type 0
-IsRefusal n = (14 ≤ n) × (n ≤ 22)
-
 -- "some such step would be refused by 20, 21 or 22"
 abbrev pub IsTight : ℕ → Type 0
 IsTight n = (n ≡ 20) ⊎ ((n ≡ 21) ⊎ (n ≡ 22))
 
--- "the following holds at the schedule's end", where the entries have led to this state
+-- Demand 3: "the following holds at the schedule's end", where the entries have led to this state
 pub record Demand3 (i : Input) (end : State) : Type 0 where
   -- "If the machine has finished, so does the plain run ..; result, units and every memory word equal the plain run's"
   pub agrees : (v : ℕ) → end .outcome ≡ finished v → serialIn i ≡ done v (end .memory) (end .units)

@@ -25,6 +25,7 @@ use Rattle.machine.specs.Fork.{Asked, asked, goesAbove, placeOf, born, forkOn, 
 use Rattle.machine.specs.Return.{returnOf}
 use Rattle.machine.specs.Rules.{carriedOf, turnOf, stepOf, takeInto, takeOf, isSeed, stolenOf, stealOf, enableOf, entryOf}
 use Rattle.machine.specs.Sound.{statusAt}
+pub use Rattle.soundness.specs.Numbers.{Stepped, Seed, Seeded}
 
 -- What is known where a change is met. Thread t on core c meets a join that waits
 pub record Waits (j : Job) (s : State) (c t : ℕ) : Type 0 where
@@ -34,29 +35,6 @@ pub record Waits (j : Job) (s : State) (c t : ℕ) : Type 0 where
   pub low : t < 32
   pub byte : byteOf j (threadAt s t) ≡ 10
   pub children : 0 < threadAt s t .children
-
--- thread t on core c carries out its next command
-pub record Stepped (j : Job) (s : State) (c t : ℕ) : Type 0 where
-  pub ongoing : s .outcome ≡ going
-  pub core : c < s .count
-  pub seat : onCore s c ≡ t
-  pub low : t < 32
-  pub passes : waits j (threadAt s t) ≡ false
-  pub paid : turnAt j s c t .weight ≤ j .allowance - s .units
-
--- thread t's next command is a seed: it is lent, and the command is an 08 or 09
-abbrev pub Seed : Job → State → ℕ → Type 0
-Seed j s t = (t < 32) × (statusAt s t ≡ 5) × ((byteOf j (threadAt s t) ≡ 8) ⊎ (byteOf j (threadAt s t) ≡ 9))
-
--- the next command of lent thread t, an 08 or 09, is carried out as a seed for idle core c
-pub record Seeded (j : Job) (s : State) (c t : ℕ) : Type 0 where
-  pub ongoing : s .outcome ≡ going
-  pub core : c < s .count
-  pub idle : none ≤ onCore s c
-  pub low : t < 32
-  pub lent : statusAt s t ≡ 5
-  pub byte : (byteOf j (threadAt s t) ≡ 8) ⊎ (byteOf j (threadAt s t) ≡ 9)
-  pub paid : turnAt j s c t .weight ≤ j .allowance - s .units
 
 -- the stacklet x of a new frame, and the free stacklets xs that are left
 pub data Chosen (j : Job) (s : State) (kind : ForkKind) (h : Thread) (r x : ℕ) (xs : List ℕ) : Type 0 where

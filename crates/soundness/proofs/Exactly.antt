@@ -1,7 +1,5 @@
 -- A log byte and its condition: each where the other. Assumes nothing.
-
-abbrev pub Exactly : Type 0 → Type 0 → Type 0
-Exactly a b = (a → b) × (b → a)
+pub use Rattle.soundness.specs.Numbers.{Exactly}
 
 -- the last part of a condition said in other words
 pub exactly-and : {a b c d : Type 0} → Exactly a (b × c) → Exactly c d → Exactly a (b × d)

@@ -15,7 +15,7 @@ use Rattle.thread.specs.Effect.{Own, run, anyPending, unlessPending, provided, 
 use Rattle.image.specs.Layout.{argumentsOf}
 use Rattle.machine.specs.State.{Job, State, threadAt}
 use Rattle.machine.specs.Turn.{effectAt}
-use Rattle.soundness.proofs.Tested.{commandOf, ownOf}
+pub use Rattle.soundness.specs.Faults.{slotsOf, readsPending, addressAllowed, cutAllowed, returnsPending, Condition9, Condition10, Condition11, Condition12, commandOf, ownOf, Next}
 use Rattle.soundness.proofs.Exactly.{Exactly}
 
 -- a fault's number, or 0
@@ -65,77 +65,10 @@ number-provided true n e m q = q
 number-provided false n e m q = refl
 
 module _ (arguments : ℕ → ℕ) (own : Own) where
-  -- the slots that a command reads or writes ("a fork writes its d"); a return has a test of its own
-  abbrev pub slotsOf : Command → List ℕ
-  slotsOf (Set d v) = d ∷ []
-  slotsOf (Add d a b) = d ∷ a ∷ b ∷ []
-  slotsOf (Subtract d a b) = d ∷ a ∷ b ∷ []
-  slotsOf (Load d a) = d ∷ a ∷ []
-  slotsOf (Store a b) = a ∷ b ∷ []
-  slotsOf (JumpIfZero a t) = a ∷ []
-  slotsOf (Jump t) = []
-  slotsOf (Lfork r d a w) = d ∷ w ∷ run a (arguments r)
-  slotsOf (Fork r d a w) = d ∷ w ∷ run a (arguments r)
-  slotsOf Join = []
-  slotsOf Suspend = []
-  slotsOf Yield = []
-  slotsOf (Return a) = []
-
-  -- "9: a pending slot read or written"
-  abbrev pub readsPending : Command → Bool
-  readsPending c = anyPending (own .pending) (slotsOf c)
-
-  -- "10: address not allowed"
-  abbrev pub addressAllowed : Command → Bool
-  addressAllowed (Set d v) = true
-  addressAllowed (Add d a b) = true
-  addressAllowed (Subtract d a b) = true
-  addressAllowed (Load d a) = own .mayLoad (own .slot a)
-  addressAllowed (Store a b) = own .mayStore (own .slot a)
-  addressAllowed (JumpIfZero a t) = true
-  addressAllowed (Jump t) = true
-  addressAllowed (Lfork r d a w) = true
-  addressAllowed (Fork r d a w) = true
-  addressAllowed Join = true
-  addressAllowed Suspend = true
-  addressAllowed Yield = true
-  addressAllowed (Return a) = true
-
-  -- "11: cut out of range"
-  abbrev pub cutAllowed : Command → Bool
-  cutAllowed (Set d v) = true
-  cutAllowed (Add d a b) = true
-  cutAllowed (Subtract d a b) = true
-  cutAllowed (Load d a) = true
-  cutAllowed (Store a b) = true
-  cutAllowed (JumpIfZero a t) = true
-  cutAllowed (Jump t) = true
-  cutAllowed (Lfork r d a w) = own .mayCut (own .slot w)
-  cutAllowed (Fork r d a w) = own .mayCut (own .slot w)
-  cutAllowed Join = true
-  cutAllowed Suspend = true
-  cutAllowed Yield = true
-  cutAllowed (Return a) = true
-
-  -- "12: return with pending slots"
-  abbrev pub returnsPending : Command → Bool
-  returnsPending (Set d v) = false
-  returnsPending (Add d a b) = false
-  returnsPending (Subtract d a b) = false
-  returnsPending (Load d a) = false
-  returnsPending (Store a b) = false
-  returnsPending (JumpIfZero a t) = false
-  returnsPending (Jump t) = false
-  returnsPending (Lfork r d a w) = false
-  returnsPending (Fork r d a w) = false
-  returnsPending Join = false
-  returnsPending Suspend = false
-  returnsPending Yield = false
-  returnsPending (Return a) = anyPending (own .pending) (run 0 16)
-
   -- THE TESTS in their order, "12, 9, 10 or 11": which one a command meets first
   pub fault-number : (c : Command) → numberOf (effectOf arguments own c)
-      ≡ cond (returnsPending c) 12 (cond (readsPending c) 9 (cond (addressAllowed c) (cond (cutAllowed c) 0 11) 10))
+      ≡ cond (returnsPending arguments own c) 12 (cond (readsPending arguments own c) 9
+      (cond (addressAllowed arguments own c) (cond (cutAllowed arguments own c) 0 11) 10))
   unfolding effectOf forking anyPending
   fault-number (Set d v) = number-unless 9 (own .pending) _ _ 0 refl
   fault-number (Add d a b) = number-unless 9 (own .pending) _ _ 0 refl
@@ -200,22 +133,8 @@ order false false true false = record {
   by11 = (λ e. (refl, refl, refl, refl), λ z. refl);
 }
 
--- A COMMAND'S FAULT, exactly under its condition; the tests before it are met by none
+-- A COMMAND'S FAULT, exactly under its condition
 module _ (arguments : ℕ → ℕ) (own : Own) (c : Command) where
-  abbrev pub Condition12 : Type 0
-  Condition12 = returnsPending arguments own c ≡ true
-
-  abbrev pub Condition9 : Type 0
-  Condition9 = (returnsPending arguments own c ≡ false) × (readsPending arguments own c ≡ true)
-
-  abbrev pub Condition10 : Type 0
-  Condition10 = (returnsPending arguments own c ≡ false) × (readsPending arguments own c ≡ false) × (addressAllowed arguments own c ≡ false)
-
-  abbrev pub Condition11 : Type 0
-  Condition11 =
-      (returnsPending arguments own c ≡ false) × (readsPending arguments own c ≡ false) × (addressAllowed arguments own c ≡ true)
-      × (cutAllowed arguments own c ≡ false)
-
   ordered : Order (numberOf (effectOf arguments own c)) (returnsPending arguments own c) (readsPending arguments own c)
       (addressAllowed arguments own c) (cutAllowed arguments own c)
   ordered = rw (fault-number arguments own c) (order _ _ _ _)
@@ -223,36 +142,32 @@ module _ (arguments : ℕ → ℕ) (own : Own) (c : Command) where
   both : {B : Type 0} (n : ℕ) → 0 < n → Exactly (numberOf (effectOf arguments own c) ≡ n) B → Exactly (effectOf arguments own c ≡ Faults n) B
   both n l z = let y = number-faults (effectOf arguments own c) n l in (λ e. z .0 (y .0 e), λ b. y .1 (z .1 b))
 
-  pub faults-12 : Exactly (effectOf arguments own c ≡ Faults 12) Condition12
+  pub faults-12 : Exactly (effectOf arguments own c ≡ Faults 12) (Condition12 arguments own c)
   faults-12 = both 12 (omega arith) (ordered .by12)
 
-  pub faults-9 : Exactly (effectOf arguments own c ≡ Faults 9) Condition9
+  pub faults-9 : Exactly (effectOf arguments own c ≡ Faults 9) (Condition9 arguments own c)
   faults-9 = both 9 (omega arith) (ordered .by9)
 
-  pub faults-10 : Exactly (effectOf arguments own c ≡ Faults 10) Condition10
+  pub faults-10 : Exactly (effectOf arguments own c ≡ Faults 10) (Condition10 arguments own c)
   faults-10 = both 10 (omega arith) (ordered .by10)
 
-  pub faults-11 : Exactly (effectOf arguments own c ≡ Faults 11) Condition11
+  pub faults-11 : Exactly (effectOf arguments own c ≡ Faults 11) (Condition11 arguments own c)
   faults-11 = both 11 (omega arith) (ordered .by11)
 
 -- THE NEXT COMMAND of thread t
 module _ (j : Job) (s : State) (t : ℕ) where
-  -- a condition of it
-  abbrev pub Next : ((ℕ → ℕ) → Own → Command → Type 0) → Type 0
-  Next condition = condition (argumentsOf (j .image)) (ownOf j s t) (commandOf j s t)
-
-  pub next-12 : Exactly (effectAt j s (threadAt s t) ≡ Faults 12) (Next Condition12)
+  pub next-12 : Exactly (effectAt j s (threadAt s t) ≡ Faults 12) (Next j s t Condition12)
   unfolding effectAt
   next-12 = faults-12 (argumentsOf (j .image)) (ownOf j s t) (commandOf j s t)
 
-  pub next-9 : Exactly (effectAt j s (threadAt s t) ≡ Faults 9) (Next Condition9)
+  pub next-9 : Exactly (effectAt j s (threadAt s t) ≡ Faults 9) (Next j s t Condition9)
   unfolding effectAt
   next-9 = faults-9 (argumentsOf (j .image)) (ownOf j s t) (commandOf j s t)
 
-  pub next-10 : Exactly (effectAt j s (threadAt s t) ≡ Faults 10) (Next Condition10)
+  pub next-10 : Exactly (effectAt j s (threadAt s t) ≡ Faults 10) (Next j s t Condition10)
   unfolding effectAt
   next-10 = faults-10 (argumentsOf (j .image)) (ownOf j s t) (commandOf j s t)
 
-  pub next-11 : Exactly (effectAt j s (threadAt s t) ≡ Faults 11) (Next Condition11)
+  pub next-11 : Exactly (effectAt j s (threadAt s t) ≡ Faults 11) (Next j s t Condition11)
   unfolding effectAt
   next-11 = faults-11 (argumentsOf (j .image)) (ownOf j s t) (commandOf j s t)

@@ -40,3 +40,5 @@ pub mod Faults
 pub mod Refusals
 pub mod QueueRefusals
 pub mod StealRefusals
+pub mod Numbers
+pub mod Unchanged

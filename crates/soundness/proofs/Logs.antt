@@ -24,21 +24,8 @@ use Rattle.machine.specs.Rules.{carriedOf, turnOf, stepOf, takeInto, takeOf, is
 use Rattle.machine.specs.Sound.{statusAt, Sound}
 use Rattle.soundness.proofs.Entries.{Stepped, Seed, Seeded, seed-true, not-over}
 use Rattle.soundness.proofs.LentThreads.{not-both}
+pub use Rattle.soundness.specs.Numbers.{Dear, StepForks, isLfork, isFork, DearSeed, SeedForks}
 use Rattle.soundness.proofs.Tested.{SeedEffect, seed-effect}
-
--- a command is met that the allowance does not pay for: "22: units plus the command's weight pass the allowance"
-pub record Dear (j : Job) (s : State) (c t : ℕ) : Type 0 where
-  pub ongoing : s .outcome ≡ going
-  pub core : c < s .count
-  pub seat : onCore s c ≡ t
-  pub low : t < 32
-  pub passes : waits j (threadAt s t) ≡ false
-  pub dear : j .allowance < s .units + turnAt j s c t .weight
-
--- the next command of thread t is a fork of routine r, of a kind: by a step
-pub data StepForks (j : Job) (s : State) (t : ℕ) (kind : ForkKind) (r : ℕ) : Type 0 where
-  isLfork : kind ≡ Called → (d a e : ℕ) → effectAt j s (threadAt s t) ≡ Lforks r d a e → StepForks j s t kind r
-  isFork : kind ≡ Queued → (d a e : ℕ) → effectAt j s (threadAt s t) ≡ Forks r d a e → StepForks j s t kind r
 
 -- why a fork is logged n
 pub data ForkLog (j : Job) (s : State) (kind : ForkKind) (h : Thread) (r n : ℕ) : Type 0 where
@@ -156,19 +143,7 @@ take-log s c = go (isOver (s .outcome)) refl (leb (s .count) c) refl (isBusy s c
     go false e false f true g = takeBusy refl (not-over _ e) (leb-false _ _ f) (ltb-true _ _ g)
     go false e false f false g = into (not-over _ e) (leb-false _ _ f) (ltb-false _ _ g) (s .ready) refl
 
--- STEAL. A seed is met that the allowance does not pay for
-pub record DearSeed (j : Job) (s : State) (c t : ℕ) : Type 0 where
-  pub ongoing : s .outcome ≡ going
-  pub core : c < s .count
-  pub idle : none ≤ onCore s c
-  pub seed : Seed j s t
-  pub dear : j .allowance < s .units + turnAt j s c t .weight
-
--- a seed forks routine r
-abbrev pub SeedForks : Job → State → ℕ → ℕ → Type 0
-SeedForks j s t r = (d : ℕ) × (a : ℕ) × (e : ℕ) × ((effectAt j s (threadAt s t) ≡ Lforks r d a e) ⊎ (effectAt j s (threadAt s t) ≡ Forks r d a e))
-
--- why a steal of thread t for core c is logged n
+-- STEAL. Why a steal of thread t for core c is logged n
 pub data StealLog (j : Job) (s : State) (c t n : ℕ) : Type 0 where
   stealOver : n ≡ 19 → isOver (s .outcome) ≡ true → StealLog j s c t n
   stealNoCore : n ≡ 14 → s .outcome ≡ going → s .count ≤ c → StealLog j s c t n

@@ -16,6 +16,7 @@ use Rattle.machine.specs.Turn.{Turn, turnAt, effectAt}
 use Rattle.machine.specs.Fork.{Asked, asked, goesAbove, placeOf, forkOn, forkWith, forkOf}
 use Rattle.machine.specs.Rules.{carriedOf, turnOf, stepOf}
 use Rattle.machine.specs.Sound.{Sound}
+use Rattle.soundness.specs.Numbers.{FewThreads, FewStacklets}
 use Rattle.soundness.proofs.Entries.{Stepped}
 use Rattle.soundness.proofs.Exactly.{Exactly, exactly-and}
 use Rattle.soundness.proofs.Faults.{Condition9, Condition10, Condition11, Condition12, Next, next-9, next-10, next-11, next-12}
@@ -41,14 +42,6 @@ few-stacklets j s kind o f some above none = go (s .freeThreads) some
 
 -- STEP
 module _ (j : Job) (s : State) (sound : Sound j s) (c : ℕ) where
-  -- the conditions of a step's numbers
-  abbrev pub FewThreads : Type 0
-  FewThreads = Stepped j s c (onCore s c) × (kind : ForkKind) × (r : ℕ) × StepForks j s (onCore s c) kind r × (s .freeThreads ≡ [])
-
-  abbrev pub FewStacklets : Type 0
-  FewStacklets = Stepped j s c (onCore s c) × (kind : ForkKind) × (r : ℕ) × StepForks j s (onCore s c) kind r × (¬ (s .freeThreads ≡ []))
-      × (goesAbove j s kind (threadAt s (onCore s c)) r ≡ false) × (s .freeStacklets ≡ [])
-
   -- what a step's number means
   record StepMeans (n : ℕ) : Type 0 where
     number19 : n ≡ 19 → isOver (s .outcome) ≡ true
@@ -56,8 +49,8 @@ module _ (j : Job) (s : State) (sound : Sound j s) (c : ℕ) where
     number15 : n ≡ 15 → (s .outcome ≡ going) × (c < s .count) × (none ≤ onCore s c)
     number22 : n ≡ 22 → Dear j s c (onCore s c)
     fault : 9 ≤ n → n ≤ 12 → Stepped j s c (onCore s c) × (effectAt j s (threadAt s (onCore s c)) ≡ Faults n)
-    number20 : n ≡ 20 → FewThreads
-    number21 : n ≡ 21 → FewStacklets
+    number20 : n ≡ 20 → FewThreads j s c
+    number21 : n ≡ 21 → FewStacklets j s c
 
   step-means : {n : ℕ} → StepLog j s c n → StepMeans n
   step-means (stepOver x o) = record {
@@ -216,7 +209,7 @@ module _ (j : Job) (s : State) (sound : Sound j s) (c : ℕ) where
       ∙ ap (λ x. forkOf j s x (turnAt j s c (onCore s c)) (asked r d a e) .log) (sym k) ∙ make (asked r d a e) refl
 
   -- "20: no free thread number"
-  pub step-20 : Exactly (stepOf j s c .log ≡ 20) FewThreads
+  pub step-20 : Exactly (stepOf j s c .log ≡ 20) (FewThreads j s c)
   step-20 = (
     means .number20,
     λ (k, kind, r, f, t).
@@ -224,7 +217,7 @@ module _ (j : Job) (s : State) (sound : Sound j s) (c : ℕ) where
   )
 
   -- "21: a stacklet is needed and none is free"
-  pub step-21 : Exactly (stepOf j s c .log ≡ 21) FewStacklets
+  pub step-21 : Exactly (stepOf j s c .log ≡ 21) (FewStacklets j s c)
   step-21 = (
     means .number21,
     λ (k, kind, r, f, t, a, u).

@@ -18,7 +18,7 @@ use Rattle.machine.specs.Rules.{isSeed, stolenOf, stealOf}
 use Rattle.machine.specs.Sound.{Sound}
 use Rattle.soundness.proofs.Entries.{Seed, Seeded, seed-true}
 use Rattle.soundness.proofs.Exactly.{Exactly, exactly-and}
-use Rattle.soundness.proofs.Faults.{Condition9, Condition11, Next, next-9, next-11}
+use Rattle.soundness.proofs.Faults.{Condition9, Condition10, Condition11, Condition12, Next, next-9, next-10, next-11, next-12}
 use Rattle.soundness.proofs.Tested.{fault-tested}
 use Rattle.soundness.proofs.Logs.{DearSeed, SeedForks, true-seed, StealLog, stealOver, stealNoCore, stealBusy, stealNoSeed, stealDear, stealFaults, stealFewThreads, stealFewStacklets, stealAccepted, steal-log}
 use Rattle.soundness.proofs.Refusals.{few-threads, few-stacklets}
@@ -196,6 +196,12 @@ module _ (j : Job) (s : State) (sound : Sound j s) (c t : ℕ) where
 
   pub steal-9 : Exactly (stealOf j s c t .log ≡ 9) (Seeded j s c t × Next j s t Condition9)
   steal-9 = exactly-and (steal-fault 9 (omega arith) (omega arith)) (next-9 j s t)
+
+  pub steal-10 : Exactly (stealOf j s c t .log ≡ 10) (Seeded j s c t × Next j s t Condition10)
+  steal-10 = exactly-and (steal-fault 10 (omega arith) (omega arith)) (next-10 j s t)
+
+  pub steal-12 : Exactly (stealOf j s c t .log ≡ 12) (Seeded j s c t × Next j s t Condition12)
+  steal-12 = exactly-and (steal-fault 12 (omega arith) (omega arith)) (next-12 j s t)
 
   pub steal-11 : Exactly (stealOf j s c t .log ≡ 11) (Seeded j s c t × Next j s t Condition11)
   steal-11 = exactly-and (steal-fault 11 (omega arith) (omega arith)) (next-11 j s t)

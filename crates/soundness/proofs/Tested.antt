@@ -22,6 +22,7 @@ use Rattle.stacklets.specs.Frames.{slotOf}
 use Rattle.machine.specs.State.{Job, State, threadAt}
 use Rattle.machine.specs.Turn.{effectAt, offsetOf, byteOf}
 use Rattle.soundness.proofs.Changes.{pendingAt}
+use Rattle.soundness.specs.Faults.{commandOf, ownOf}
 
 module _ (arguments : ℕ → ℕ) (own : Own) where
   -- what has been tested where command c has this effect
@@ -130,15 +131,9 @@ join-byte byte x y z w e =
 
 -- THE NEXT COMMAND of thread t
 module _ (j : Job) (s : State) (t : ℕ) where
-  abbrev pub commandOf : Command
-  commandOf = decodedAt (j .image) (offsetOf j (threadAt s t))
-
-  abbrev pub ownOf : Own
-  ownOf = viewOf (slotOf (s .words) (threadAt s t .base)) (isPending (pendingAt s t)) (threadAt s t .window)
-
-  next-tested : (e : Effect) → effectAt j s (threadAt s t) ≡ e → Tested (argumentsOf (j .image)) ownOf commandOf e
+  next-tested : (e : Effect) → effectAt j s (threadAt s t) ≡ e → Tested (argumentsOf (j .image)) (ownOf j s t) (commandOf j s t) e
   unfolding effectAt
-  next-tested e q = subst (Tested (argumentsOf (j .image)) ownOf commandOf) q (tested (argumentsOf (j .image)) ownOf commandOf)
+  next-tested e q = subst (Tested (argumentsOf (j .image)) (ownOf j s t) (commandOf j s t)) q (tested (argumentsOf (j .image)) (ownOf j s t) (commandOf j s t))
 
   -- "faults": 9 to 12
   pub fault-tested : (n : ℕ) → effectAt j s (threadAt s t) ≡ Faults n → (9 ≤ n) × (n ≤ 12)
