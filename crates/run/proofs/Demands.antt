@@ -16,6 +16,8 @@ use Rattle.machine.specs.State.{Job, State, Outcome, going, finished, faulted, 
 use Rattle.machine.specs.Rules.{entryOf, startState, stepOf, takeOf}
 use Rattle.machine.specs.Sound.{Sound, statusAt}
 use Rattle.serial.specs.Serial.{Ended, done, stopped, serialOf, serialFrom}
+use Rattle.thread.specs.declared.Status.the-variants.{Free}
+use Rattle.census.proofs.Totals.{all-in}
 use Rattle.soundness.proofs.Kept.{stateAfter, run-sound, entry-sound}
 use Rattle.soundness.proofs.KeepSized.{keep-count}
 use Rattle.soundness.proofs.StartSound.{start-sound}
@@ -81,6 +83,7 @@ module _ (i : Input) (k : Takes i) where
     free : (v : ℕ) → end .outcome ≡ finished v → AllFree end
     free v over = record {
       records = λ t h. finished-free (jobIn i) end sound v over t;
+      counted = all-in Free (end .threads) (λ t h. finished-free (jobIn i) end sound v over t) ∙ sound .sized .threads;
       threads = finished-numbers (jobIn i) end sound v over;
       stacklets = finished-stacklets (jobIn i) end sound v over .1;
     }

@@ -13,6 +13,8 @@ use Rattle.image.specs.declared.Verdict.the-variants.{Accepted}
 use Rattle.image.specs.Layout.{argumentsOf}
 use Rattle.image.specs.Image.{imageVerdict}
 use Rattle.schedule.specs.declared.Entry.{Entry}
+use Rattle.thread.specs.declared.Status.the-variants.{Free}
+use Rattle.census.specs.Counted.{countOf}
 use Rattle.machine.specs.Lists.{Member, Distinct}
 use Rattle.machine.specs.State.{Job, State, Outcome, finished, faulted, isOver, threadAt}
 use Rattle.machine.specs.Rules.{stepOf, takeOf, entryOf}
@@ -72,9 +74,10 @@ pub record Demand2 (i : Input) (es : List Entry) (logs : List ℕ) : Type 0 wher
 abbrev pub serialIn : Input → Ended
 serialIn i = serialOf (jobIn i) (i .arguments) (i .memory)
 
--- "all 32 threads and 16 stacklets are free": each record is free, and each number stands in its queue
+-- "all 32 threads and 16 stacklets are free": each record is free, so 32 are counted, and each number stands in its queue
 pub record AllFree (s : State) : Type 0 where
   pub records : (t : ℕ) → t < 32 → statusAt s t ≡ 0
+  pub counted : countOf Free (s .threads) ≡ 32
   pub threads : (t : ℕ) → t < 32 → Member t (s .freeThreads)
   pub stacklets : (x : ℕ) → x < 16 → Member x (s .freeStacklets)
 

@@ -1,0 +1,2 @@
+-- What the counts of a table come to.
+pub mod Totals
