@@ -1,0 +1,141 @@
+-- `cases_jobs::schedules::mixed` is safe and ends. Assumes nothing.
+use borrow.Author.Needs.{needs}
+use lib.ListN.{length}
+use mathlib.Core.Path.{_≡_}
+use Prim.Native.Nat.{_-_, _≤_, _<_}
+use Rattle.cases_jobs.proofs.schedules.mixed.Statement.{statement}
+use Rattle.cases_jobs.proofs.schedules.mixed.Tie as tie
+use Rattle.cases_jobs.proofs.schedules.next_number.Reads as next-number-reads
+
+abbrev Inv-loop : tie.InvT-loop
+Inv-loop buffer₀ x₀ k₀ buffer x k = length buffer ≡ length buffer₀
+
+abbrev μ-loop : tie.MeasureT-loop
+μ-loop buffer₀ x₀ k₀ buffer x k = 2500 - k
+
+loop-holds : tie.Need-loop-holds Inv-loop μ-loop
+loop-holds c = search needs
+
+cast-at : tie.Need-cast-at Inv-loop μ-loop
+cast-at c = search needs
+
+mul-at : tie.Need-mul-at Inv-loop μ-loop
+mul-at c = search needs
+
+next-number-requires : tie.Need-next-number-requires Inv-loop μ-loop
+next-number-requires c κs = search needs
+
+cast-t10 : tie.Need-cast-t10 Inv-loop μ-loop
+cast-t10 c = search needs
+
+put-requires : tie.Need-put-requires Inv-loop μ-loop
+put-requires c κs = search needs
+
+next-number-requires-2 : tie.Need-next-number-requires-2 Inv-loop μ-loop
+next-number-requires-2 c κs = search needs
+
+cast-t10-2 : tie.Need-cast-t10-2 Inv-loop μ-loop
+cast-t10-2 c = search needs
+
+add-put : tie.Need-add-put Inv-loop μ-loop
+add-put c = search needs
+
+put-requires-2 : tie.Need-put-requires-2 Inv-loop μ-loop
+put-requires-2 c κs = search needs
+
+next-number-requires-3 : tie.Need-next-number-requires-3 Inv-loop μ-loop
+next-number-requires-3 c κs = search needs
+
+cast-t10-3 : tie.Need-cast-t10-3 Inv-loop μ-loop
+cast-t10-3 c = search needs
+
+add-put-2 : tie.Need-add-put-2 Inv-loop μ-loop
+add-put-2 c = search needs
+
+put-requires-3 : tie.Need-put-requires-3 Inv-loop μ-loop
+put-requires-3 c κs = search needs
+
+cast-t10-4 : tie.Need-cast-t10-4 Inv-loop μ-loop
+cast-t10-4 c = search needs
+
+add-put-3 : tie.Need-add-put-3 Inv-loop μ-loop
+add-put-3 c = search needs
+
+put-requires-4 : tie.Need-put-requires-4 Inv-loop μ-loop
+put-requires-4 c κs = search needs
+
+next-number-requires-4 : tie.Need-next-number-requires-4 Inv-loop μ-loop
+next-number-requires-4 c κs = search needs
+
+cast-t10-5 : tie.Need-cast-t10-5 Inv-loop μ-loop
+cast-t10-5 c = search needs
+
+cast-t22 : tie.Need-cast-t22 Inv-loop μ-loop
+cast-t22 c = search needs
+
+add-put-4 : tie.Need-add-put-4 Inv-loop μ-loop
+add-put-4 c = search needs
+
+put-requires-5 : tie.Need-put-requires-5 Inv-loop μ-loop
+put-requires-5 c κs = search needs
+
+cast-t22-2 : tie.Need-cast-t22-2 Inv-loop μ-loop
+cast-t22-2 c = search needs
+
+add-put-5 : tie.Need-add-put-5 Inv-loop μ-loop
+add-put-5 c = search needs
+
+put-requires-6 : tie.Need-put-requires-6 Inv-loop μ-loop
+put-requires-6 c κs = search needs
+
+add-k : tie.Need-add-k Inv-loop μ-loop
+add-k c = search needs
+
+loop-less : tie.Need-loop-less Inv-loop μ-loop
+loop-less c = search needs
+
+loop-again : tie.Need-loop-again Inv-loop μ-loop
+loop-again c = search needs
+
+same-length : tie.Need-same-length Inv-loop μ-loop
+same-length c = search needs
+
+returns : tie.Need-returns Inv-loop μ-loop
+returns c = search needs
+
+pub mixed-spec : {M : Type 1} → statement M
+mixed-spec =
+    tie.close
+    (tie.spec
+    Inv-loop
+    μ-loop
+    loop-holds
+    cast-at
+    mul-at
+    next-number-requires
+    cast-t10
+    put-requires
+    next-number-requires-2
+    cast-t10-2
+    add-put
+    put-requires-2
+    next-number-requires-3
+    cast-t10-3
+    add-put-2
+    put-requires-3
+    cast-t10-4
+    add-put-3
+    put-requires-4
+    next-number-requires-4
+    cast-t10-5
+    cast-t22
+    add-put-4
+    put-requires-5
+    cast-t22-2
+    add-put-5
+    put-requires-6
+    add-k
+    loop-less
+    loop-again
+    same-length
+    returns)
