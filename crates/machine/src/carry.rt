@@ -23,7 +23,7 @@ ghost use Rattle.machine.specs.Parts.{turnBy, Seated, Carrying};
 
 impl Machine {
     // The command faults by n: the machine is over, and nothing else changes.
-    pub fn fail(mut self, met: Met, n: u8) -> Machine
+    pub(crate) fn fail(mut self, met: Met, n: u8) -> Machine
         ensures { λ r. ⌜ ((words memory : List ℕ) → after r words memory ≡ faults (turnBy met) n (meaning self words memory)) ⌝ }
     {
         self.over = 2;
@@ -58,7 +58,7 @@ impl Machine {
     }
 
     // Carries out the command of a turn, whose effect is given.
-    pub fn carry(
+    pub(crate) fn carry(
         mut self,
         met: Met,
         effect: Effect,

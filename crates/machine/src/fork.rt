@@ -77,7 +77,7 @@ fn child_record(kind: ForkKind, met: Met, r: u8, d: u8, base: u16, cut: u16) -> 
 
 impl Machine {
     // The thread of a turn forks routine r: its value to slot d, arguments from slot a on, cut e.
-    pub fn fork(
+    pub(crate) fn fork(
         mut self,
         kind: ForkKind,
         met: Met,

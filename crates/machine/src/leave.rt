@@ -13,7 +13,7 @@ ghost use Rattle.machine.specs.Parts.{Leaving};
 
 impl Machine {
     // Thread t leaves core c with a status; the parent of a connected one runs there.
-    pub fn leave(mut self, c: u8, t: u8, status: Status) -> Machine
+    pub(crate) fn leave(mut self, c: u8, t: u8, status: Status) -> Machine
         requires { ⌜ Leaving self c t ⌝ }
         ensures { λ r. ⌜ ((words memory : List ℕ) → after r words memory ≡ accepted (leaves c t status (meaning self words memory))) ⌝ }
     {

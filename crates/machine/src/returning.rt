@@ -19,7 +19,7 @@ ghost use Rattle.machine.specs.Parts.{turnBy, Returning};
 
 impl Machine {
     // The thread of a turn returns v: its frame, number and record are freed, and v goes to its parent, or is the result.
-    pub fn return_value(mut self, met: Met, words: &mut [u32], v: u32) -> Machine
+    pub(crate) fn return_value(mut self, met: Met, words: &mut [u32], v: u32) -> Machine
         requires { ⌜ Returning self met ⌝ }
         ensures { λ r. ⌜ ((memory : List ℕ) → after r (now (words .exit)) memory ≡ accepted (returnOf (meaning self (now (words .entry)) memory) (turnBy met) v)) ⌝ }
     {
