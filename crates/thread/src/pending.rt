@@ -1,6 +1,6 @@
 // Pending slots, as a mask with one bit for each.
 ghost use mathlib.Core.Path.{_≡_};
-ghost use Prim.Native.Nat.{_<_};
+ghost use Prim.Native.Nat.{_<_, _≤_};
 ghost use Rattle.thread.specs.Thread.{isPending, withPending};
 ghost use Rattle.thread.specs.Effect.{run, anyPending};
 
@@ -21,11 +21,13 @@ fn pending_at(mask: u16, k: u16) -> bool
     false
 }
 
-// Slot d becomes pending.
+// Slot d becomes pending. There is no slot from 16 on, so none becomes pending then.
 pub fn with_pending(mask: u16, d: u8) -> u16
-    requires { ⌜ d < 16 ⌝ }
-    ensures { λ r. ⌜ r ≡ withPending mask d ⌝ }
+    ensures { λ r. ⌜ (d < 16 → r ≡ withPending mask d) × (16 ≤ d → r ≡ mask) ⌝ }
 {
+    if 16 <= d {
+        return mask;
+    }
     let one: u16 = 1;
     let i = d as u16;
     mask | (one << i)

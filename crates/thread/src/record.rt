@@ -5,7 +5,8 @@ use crate::pending::with_pending;
 use window::Window;
 ghost use mathlib.Core.Path.{_≡_};
 ghost use mathlib.Core.Bool.{Bool};
-ghost use Prim.Native.Nat.{_<_};
+ghost use mathlib.Core.Logic.{_⊎_};
+ghost use Prim.Native.Nat.{_-_, _≤_, _<_};
 ghost use Rattle.thread.specs.Thread.{statusNumber, _is_, none, isRoot, blankThread, rootThread, newThread, withStatus, disconnected, movedTo, joinedAt, behindFork, withoutChild};
 
 // A number for each status.
@@ -160,11 +161,17 @@ pub fn joined_at(mut h: Thread, position: u16) -> Thread
     h
 }
 
-// The parent behind a fork: its next command at a position, one child more, slot d pending, and a window left to it.
+// The parent behind a fork: its next command at a position, one child more, slot d pending, and a window left to it. A record whose children
+// cannot be counted further, or a slot from 16 on, stays as it is.
 pub fn behind_fork(h: Thread, status: Status, position: u16, d: u8, window: Window) -> Thread
-    requires { ⌜ (d < 16) × (h .children < 255) ⌝ }
-    ensures { λ r. ⌜ r ≡ behindFork status position d window h ⌝ }
+    ensures { λ r. ⌜ (d < 16 → h .children < 255 → r ≡ behindFork status position d window h) × ((16 ≤ d) ⊎ (255 ≤ h .children) → r ≡ h) ⌝ }
 {
+    if 16 <= d {
+        return h;
+    }
+    if 255 <= h.children {
+        return h;
+    }
     let pending = with_pending(h.pending, d);
     Thread {
         status,
@@ -180,19 +187,29 @@ pub fn behind_fork(h: Thread, status: Status, position: u16, d: u8, window: Wind
     }
 }
 
+// One less; of 0, 0.
+fn one_less(n: u8) -> u8
+    ensures { λ r. ⌜ r ≡ n - 1 ⌝ }
+{
+    if n == 0 {
+        return 0;
+    }
+    n - 1
+}
+
 // The parent of a child that has ended.
 pub fn without_child(h: Thread, status: Status) -> Thread
-    requires { ⌜ 0 < h .children ⌝ }
     ensures { λ r. ⌜ r ≡ withoutChild status h ⌝ }
 {
     let window = h.window;
+    let children = one_less(h.children);
     Thread {
         status,
         connected: h.connected,
         routine: h.routine,
         parent: h.parent,
         result: h.result,
-        children: h.children - 1,
+        children,
         position: h.position,
         base: h.base,
         window,

@@ -74,7 +74,7 @@ status-after-requires : tie.Need-status-after-requires
 status-after-requires c κs = search needs
 
 without-child-requires : tie.Need-without-child-requires
-without-child-requires c κs = c .before .before .before .before .before .before .before .before .before .before .before .before .before .before .before .pre .bears (leb-false 32 (c .before .before .before .before .before .before .before .before .before .before .before .before .before .before .before .args .met .thread .parent) (sym (c .before .before .before .before .is-root .ensures) ∙ c .before .before .before .if1 .left))
+without-child-requires c κs = search needs
 
 mul-t34 : tie.Need-mul-t34
 mul-t34 c = omega (arith, leb-false 32 (c .before .before .before .before .before .before .before .before .before .before .before .before .before .before .before .before .args .met .thread .parent) (sym (c .before .before .before .before .before .is-root .ensures) ∙ c .before .before .before .before .if1 .left))

@@ -1,4 +1,5 @@
 -- `machine::fork::parent_behind` meets its contract. Assumes nothing.
+use native.Mathlib.Omega.{arith}
 use borrow.Author.Needs.{needs}
 use Rattle.machine.proofs.fork.parent_behind.Statement.{statement}
 use Rattle.machine.proofs.fork.parent_behind.Tie as tie
@@ -13,7 +14,7 @@ behind-fork-requires : tie.Need-behind-fork-requires
 behind-fork-requires c κs = search needs
 
 returns : tie.Need-returns
-returns c = rw (c .behind-fork .ensures, c .before .rest-window .ensures, c .before .before .parent-status .ensures)
+returns c = rw (c .behind-fork .ensures .0 (omega arith) (omega arith), c .before .rest-window .ensures, c .before .before .parent-status .ensures)
 
 pub parent-behind-spec : {M : Type 1} → statement M
 parent-behind-spec =

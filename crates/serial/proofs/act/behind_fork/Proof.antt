@@ -1,4 +1,5 @@
 -- `serial::act::behind_fork` meets its contract. Assumes nothing.
+use native.Mathlib.Omega.{arith}
 use borrow.Author.Needs.{needs}
 use Rattle.serial.proofs.act.behind_fork.Statement.{statement}
 use Rattle.serial.proofs.act.behind_fork.Tie as tie
@@ -10,7 +11,7 @@ with-pending-requires : tie.Need-with-pending-requires
 with-pending-requires c κs = search needs
 
 returns : tie.Need-returns
-returns c = rw (c .with-pending .ensures)
+returns c = rw (c .with-pending .ensures .0 (omega arith))
 
 pub behind-fork-spec : {M : Type 1} → statement M
 behind-fork-spec = tie.close (tie.spec cast-mark with-pending-requires returns)
