@@ -1,0 +1,7 @@
+-- The laws that the proofs of `transcript` cite.
+pub mod Writing
+pub mod Digits
+pub mod LineLaws
+pub mod Words
+pub mod Running
+pub mod Printing

@@ -1,0 +1,39 @@
+-- Text as ASCII bytes: words, numbers, and the lines that document 01 gives.
+use mathlib.Core.Bool.{cond}
+use mathlib.Core.List.{List, [], _∷_, _++_}
+use Prim.Native.Char.{code}
+use Prim.Native.Nat.{ℕ, zero, suc, _+_, _/_, _%_}
+use Prim.Native.String.{String, [] as none, _∷_ as first}
+use lib.Dec.{ltb}
+use Rattle.run.specs.declared.RunAnswer.{RunAnswer}
+use Rattle.run.specs.declared.RunAnswer.the-variants.{Refused, Finished, Faulted, Open}
+
+abbrev pub ascii : String → List ℕ
+ascii none = []
+ascii (first c s) = code c ∷ ascii s
+
+-- the digits of a number: those of its tenth, and then its last; the count of steps ends the recursion
+unfoldable pub digitsOf : ℕ → ℕ → List ℕ
+digitsOf zero n = (48 + n) ∷ []
+digitsOf (suc steps) n =
+    let longer : List ℕ = digitsOf steps (n / 10) ++ ((48 + n % 10) ∷ []) in
+    cond (ltb n 10) ((48 + n) ∷ []) longer
+
+-- a number in decimal; it has no more digits than n + 1
+unfoldable pub decimalOf : ℕ → List ℕ
+decimalOf n = digitsOf n n
+
+-- a number after a blank
+abbrev pub spaced : ℕ → List ℕ
+spaced n = ascii " " ++ decimalOf n
+
+-- "Per entry it prints its number from 0 and its log byte"
+abbrev pub entryLine : ℕ → ℕ → List ℕ
+entryLine number log = decimalOf number ++ spaced log ++ ascii "\n"
+
+-- "The last line is `finished` result units, `faulted` number thread offset .., `open` units, or alone `refused` number"
+abbrev pub lastLine : RunAnswer → List ℕ
+lastLine (Finished result units) = ascii "finished" ++ spaced result ++ spaced units ++ ascii "\n"
+lastLine (Faulted number thread offset) = ascii "faulted" ++ spaced number ++ spaced thread ++ spaced offset ++ ascii "\n"
+lastLine (Open units) = ascii "open" ++ spaced units ++ ascii "\n"
+lastLine (Refused number) = ascii "refused" ++ spaced number ++ ascii "\n"

@@ -1,0 +1,43 @@
+-- All that the print program prints of an input.
+use mathlib.Core.Bool.{cond}
+use mathlib.Core.List.{List, [], _∷_, _++_}
+use Prim.Native.Nat.{ℕ, _+_}
+use lib.Dec.{eqb}
+use lib.ListN.{replicate}
+use Rattle.schedule.specs.declared.Entry.{Entry}
+use Rattle.schedule.specs.Meaning.{Schedule, entries, malformed, scheduleOf}
+use Rattle.run.specs.declared.RunAnswer.the-variants.{Refused}
+use Rattle.run.specs.Run.{Input, jobIn, startIn, runFrom, logsFrom, entryCount, refusalOf, answerOf}
+use Rattle.transcript.specs.Text.{entryLine, lastLine}
+use Rattle.transcript.specs.Reading.{endsEarly, inputOf, scheduleIn}
+
+-- a line for each log byte, from an entry's number on
+unfoldable pub entryLines : ℕ → List ℕ → List ℕ
+entryLines number [] = []
+entryLines number (log ∷ logs) = entryLine number log ++ entryLines (number + 1) logs
+
+-- a run by entries: "Per entry it prints its number from 0 and its log byte", and then the last line
+unfoldable pub playedText : Input → List Entry → List ℕ
+playedText i es =
+    entryLines 0 (logsFrom (jobIn i) (startIn i) es)
+    ++ lastLine (answerOf (runFrom (jobIn i) (startIn i) es .outcome) (runFrom (jobIn i) (startIn i) es .units))
+
+-- the entries of an accepted schedule
+abbrev pub entriesIn : Schedule → List Entry
+entriesIn (entries es) = es
+entriesIn malformed = []
+
+-- the number of the whole run: its log has a byte for each entry, and so is never too short
+unfoldable pub numberOfRun : Input → List ℕ → ℕ
+numberOfRun i schedule = refusalOf i schedule (replicate (entryCount (scheduleOf schedule)) 0)
+
+-- a run: "or alone `refused` number"
+unfoldable pub runText : Input → List ℕ → List ℕ
+runText i schedule =
+    cond (eqb (numberOfRun i schedule) 0)
+    (playedText i (entriesIn (scheduleOf schedule)))
+    (lastLine (Refused (numberOfRun i schedule)))
+
+-- "Input that ends before the schedule gives `refused 25`", whatever else it says
+unfoldable pub textOf : List ℕ → List ℕ
+textOf input = cond (endsEarly input) (lastLine (Refused 25)) (runText (inputOf input) (scheduleIn input))
