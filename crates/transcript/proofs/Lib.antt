@@ -5,3 +5,5 @@ pub mod LineLaws
 pub mod Words
 pub mod Running
 pub mod Printing
+pub mod Longer
+pub mod Cases

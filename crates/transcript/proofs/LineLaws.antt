@@ -1,8 +1,8 @@
 -- Laws of lines: how long they are, and one line after another. Assumes nothing.
 use mathlib.Core.List.{List, [], _∷_, _++_, append-assoc, append-nil}
-use mathlib.Core.Path.{_≡_, refl, ap, sym, _∙_}
-use Prim.Native.Nat.{ℕ, zero, suc, _+_, _*_, _≤_, _<_}
-use native.Mathlib.Nat.{add-zero, add-assoc}
+use mathlib.Core.Path.{_≡_, ap, sym}
+use Prim.Native.Nat.{ℕ, suc, _+_, _*_, _≤_, _<_}
+use native.Mathlib.Nat.{add-zero}
 use native.Mathlib.Numerals.{add-one}
 use native.Mathlib.Omega.{arith}
 use lib.ListN.{length, getD, take, length-append}
@@ -59,7 +59,7 @@ pub one-more-line : (log : List ℕ) (i : ℕ) → i < length log → {b m e : L
 one-more-line log i h p q =
     let n : 0 + length (take i log) ≡ i = omega (arith, length-take-le i log (omega arith)) in
     let e : entryLines 0 (take (i + 1) log) ≡ entryLines 0 (take i log) ++ entryLine i (getD log i 0) =
-        rw (add-one i, take-suc log i 0 h, lines-snoc 0 (take i log) (getD log i 0), n) in
+    rw (add-one i, take-suc log i 0 h, lines-snoc 0 (take i log) (getD log i 0), n) in
     same-text (sym e) (followed p q)
 
 pub no-lines : (b : List ℕ) → Put (entryLines 0 []) b 0 0 b

@@ -1,14 +1,13 @@
 -- From the bytes of an input to the run that it asks for, and from the text that is put to the buffer. Assumes nothing.
-use mathlib.Core.List.{List, [], _∷_, _++_}
-use mathlib.Core.Path.{_≡_, refl, ap, sym, _∙_}
-use Prim.Native.Nat.{ℕ, zero, suc, _+_, _*_, _-_, _≤_, _<_}
+use mathlib.Core.List.{List, [], _∷_}
+use mathlib.Core.Path.{_≡_, refl, ap, _∙_}
+use Prim.Native.Nat.{ℕ, suc, _+_, _*_, _-_, _≤_, _<_}
 use native.Mathlib.Nat.{sub-zero}
 use native.Mathlib.Omega.{arith}
 use borrow.Author.Tests.{lt-ltb, le-ltb}
 use lib.ListN.{length, getD, set, take, drop, length-drop}
 use lib.Seq.{sets, take-nil, take-length}
 use Rattle.run.specs.declared.RunAnswer.the-variants.{Refused}
-use Rattle.run.specs.Run.{Input}
 use Rattle.transcript.specs.Text.{lastLine}
 use Rattle.transcript.specs.Reading.{pairAt, wordAt, wordsFrom, coreCount, argumentCount, allowanceAt, lengthAt, imageAt, scheduleAt, startingWith, inputOf, scheduleIn}
 use Rattle.transcript.specs.Transcript.{runText, textOf}

@@ -1,11 +1,11 @@
 -- From what a run promises to the text of it: the lines of the log that it wrote, and its last line. Assumes nothing.
-use mathlib.Core.Bool.{Bool, true, false, cond, _||_, not}
+use mathlib.Core.Bool.{Bool, true, false}
 use mathlib.Core.List.{List, [], _∷_, _++_}
 use mathlib.Core.Path.{_≡_, refl, ap, sym, _∙_}
-use Prim.Native.Nat.{ℕ, suc, _+_, _*_, _≤_, _<_}
+use Prim.Native.Nat.{ℕ, suc, _+_, _*_, _≤_}
 use native.Mathlib.Omega.{arith}
 use borrow.Author.Tests.{le-ltb, ne-eqb, eqb-true, eqb-false}
-use lib.Dec.{ltb, eqb}
+use lib.Dec.{eqb}
 use lib.ListN.{length, take, drop, replicate, length-append, length-replicate}
 use lib.Seq.{take-at}
 use Rattle.schedule.specs.Format.{bytesOf}
@@ -21,10 +21,10 @@ use Rattle.machine.specs.Rules.{entryOf}
 use Rattle.run.specs.declared.Ran.{Ran}
 use Rattle.run.specs.declared.RunAnswer.{RunAnswer}
 use Rattle.run.specs.declared.RunAnswer.the-variants.{Refused, Finished, Faulted, Open}
-use Rattle.run.specs.Run.{Input, jobIn, startIn, runFrom, logsFrom, entryCount, refusalOf, answerOf, logged, RunsAs, IsPlayed}
+use Rattle.run.specs.Run.{Input, jobIn, startIn, runFrom, logsFrom, entryCount, refusalOf, answerOf, RunsAs, IsPlayed}
 use Rattle.transcript.proofs.Writing.{followed, same-text}
 use Rattle.transcript.specs.Text.{lastLine}
-use Rattle.transcript.specs.Transcript.{entryLines, playedText, entriesIn, numberOfRun, runText}
+use Rattle.transcript.specs.Transcript.{entryLines, playedText, numberOfRun, runText}
 use Rattle.transcript.specs.Writing.{Put, Fills, linesOf}
 
 -- an entry has at least two bytes

@@ -3,3 +3,4 @@ pub mod Text
 pub mod Reading
 pub mod Transcript
 pub mod Writing
+pub mod Cases

@@ -37,7 +37,10 @@ fn lines(answer: RunAnswer, schedule: &[u8]) -> usize
 {
     match answer {
         RunAnswer::Refused(_) => 0,
-        RunAnswer::Finished { result: _, units: _ } => entry_count(schedule),
+        RunAnswer::Finished {
+            result: _,
+            units: _,
+        } => entry_count(schedule),
         RunAnswer::Faulted {
             number: _,
             thread: _,

@@ -1,28 +1,21 @@
+-- `transcript::entry_count` meets its contract. Assumes nothing.
 use Rattle.transcript.proofs.Running.{counted-entries, counted-none}
 use borrow.Author.Needs.{needs}
 use Rattle.transcript.proofs.entry_count.Statement.{statement}
 use Rattle.transcript.proofs.entry_count.Tie as tie
-use Rattle.transcript.proofs.entry_count.Reads as reads
-use Rattle.transcript.proofs.entry_count.Lts as lts
-use Rattle.schedule.proofs.count.Reads as count-reads
 
--- src/lib.rt:26:9
 count-requires : tie.Need-count-requires
 count-requires c κs = search needs
 
--- src/lib.rt:28:26
 enum-known-counted : tie.Need-enum-known-counted
 enum-known-counted c = search needs
 
--- src/lib.rt:29:31
 enum-told : tie.Need-enum-told
 enum-told c = search needs
 
--- src/lib.rt:23:1
 returns : tie.Need-returns
 returns c = counted-entries _ _ _ (c .before .before .before .count .ensures) (c .before .counted .given .1)
 
--- src/lib.rt:23:1
 returns-2 : tie.Need-returns-2
 returns-2 c = counted-none _ _ (c .before .before .count .ensures) (c .enum-told .given .1)
 

@@ -1,55 +1,42 @@
+-- `transcript::lines` meets its contract. Assumes nothing.
 use borrow.Author.Needs.{needs}
 use Rattle.transcript.specs.Writing.{linesOf}
 use Rattle.transcript.proofs.lines.Statement.{statement}
 use Rattle.transcript.proofs.lines.Tie as tie
-use Rattle.transcript.proofs.lines.Reads as reads
-use Rattle.transcript.proofs.lines.Lts as lts
-use Rattle.transcript.proofs.entry_count.Reads as entry-count-reads
 
--- src/lib.rt:38:34
 enum-told : tie.Need-enum-told
 enum-told c = search needs
 
--- src/lib.rt:39:56
 enum-told-2 : tie.Need-enum-told-2
 enum-told-2 c = search needs
 
--- src/lib.rt:39:56
 entry-count-requires : tie.Need-entry-count-requires
 entry-count-requires c κs = search needs
 
--- src/lib.rt:44:14
 enum-told-3 : tie.Need-enum-told-3
 enum-told-3 c = search needs
 
--- src/lib.rt:44:14
 entry-count-requires-2 : tie.Need-entry-count-requires-2
 entry-count-requires-2 c κs = search needs
 
--- src/lib.rt:45:41
 enum-told-4 : tie.Need-enum-told-4
 enum-told-4 c = search needs
 
--- src/lib.rt:45:41
 entry-count-requires-3 : tie.Need-entry-count-requires-3
 entry-count-requires-3 c κs = search needs
 
--- src/lib.rt:34:1
 returns : tie.Need-returns
 unfolding linesOf
 returns c = search needs
 
--- src/lib.rt:34:1
 returns-2 : tie.Need-returns-2
 unfolding linesOf
 returns-2 c = rw (c .before .enum-told2 .given .1) (c .entry-count .ensures)
 
--- src/lib.rt:34:1
 returns-3 : tie.Need-returns-3
 unfolding linesOf
 returns-3 c = rw (c .before .enum-told3 .given .1) (c .entry-count2 .ensures)
 
--- src/lib.rt:34:1
 returns-4 : tie.Need-returns-4
 unfolding linesOf
 returns-4 c = rw (c .before .enum-told4 .given .1) (c .entry-count3 .ensures)

@@ -1,48 +1,34 @@
+-- `transcript::transcribe` meets its contract. Assumes nothing.
 use native.Mathlib.Omega.{arith}
 use Rattle.transcript.proofs.Running.{most-lines, enough-log, written}
 use borrow.Author.Needs.{needs}
 use Rattle.transcript.proofs.transcribe.Statement.{statement}
 use Rattle.transcript.proofs.transcribe.Tie as tie
-use Rattle.transcript.proofs.transcribe.Reads as reads
-use Rattle.transcript.proofs.transcribe.Lts as lts
-use Rattle.run.proofs.run.Reads as run-reads
-use Rattle.transcript.proofs.lines.Reads as lines-reads
-use Rattle.transcript.proofs.text.put_answer.Reads as put-answer-reads
-use Rattle.transcript.proofs.text.put_entries.Reads as put-entries-reads
 
--- src/lib.rt:69:9
 slice-aggregate-run : tie.Need-slice-aggregate-run
 slice-aggregate-run c = search needs
 
--- src/lib.rt:70:9
 slice-aggregate-run-2 : tie.Need-slice-aggregate-run-2
 slice-aggregate-run-2 c = search needs
 
--- src/lib.rt:65:9
 run-requires : tie.Need-run-requires
 run-requires c κs = search needs
 
--- src/lib.rt:76:39
 lines-requires : tie.Need-lines-requires
 lines-requires c κs = search needs
 
--- src/lib.rt:76:9
 put-entries-requires : tie.Need-put-entries-requires
 put-entries-requires c κs = enough-log _ _ _ (c .lines .ensures) (c .before .before .before .before .before .before .before .before .before .before .before .before .before .before .before .args .log .now) (c .before .before .before .before .before .before .run .last .1 .1 .1 .1 .1 .1 .1 .0) (c .before .before .before .before .before .before .before .before .before .before .before .before .before .before .before .pre) (c .before .before .before .before .before .before .run .kept .1 .1 .1 .1 .1 .1 .1 .0)
 
--- src/lib.rt:77:5
 put-answer-requires : tie.Need-put-answer-requires
 put-answer-requires c κs = omega (arith, c .before .before .before .put-entries .ensures .few, most-lines _ _ _ (c .before .before .before .before .lines .ensures))
 
--- src/lib.rt:51:1
 same-length : tie.Need-same-length
 same-length c = search needs
 
--- src/lib.rt:51:1
 same-length-2 : tie.Need-same-length-2
 same-length-2 c = search needs
 
--- src/lib.rt:51:1
 returns : tie.Need-returns
 returns c = written _ _ _ (c .before .before .before .before .before .before .before .before .before .before .before .before .before .before .before .before .before .before .before .before .before .before .pre) _ _ _ (c .before .before .before .before .before .before .before .before .before .before .before .before .before .run .ensures .runs) _ (c .before .before .before .before .before .before .before .lines .ensures) (c .before .before .before .before .before .before .put-entries .ensures) (c .before .before .put-answer .ensures)
 

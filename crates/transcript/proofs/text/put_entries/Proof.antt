@@ -1,18 +1,15 @@
+-- `transcript::text::put_entries` meets its contract: the lines of the first log bytes are put, one more each turn. Assumes nothing.
 use Rattle.transcript.proofs.LineLaws.{all-lines}
-use borrow.Author.Needs.{needs}
 use native.Mathlib.Omega.{arith}
 use mathlib.Core.Path.{_≡_, refl}
 use Prim.Native.Nat.{_≤_, _*_, _-_}
-use lib.ListN.{length, take}
-use Rattle.transcript.proofs.Writing.{silent, same-size}
+use lib.ListN.{take}
+use Rattle.transcript.proofs.Writing.{same-size}
 use Rattle.transcript.proofs.LineLaws.{one-more-line, no-lines}
 use Rattle.transcript.specs.Transcript.{entryLines}
-use Rattle.transcript.specs.Writing.{Put, Fills}
+use Rattle.transcript.specs.Writing.{Put}
 use Rattle.transcript.proofs.text.put_entries.Statement.{statement}
 use Rattle.transcript.proofs.text.put_entries.Tie as tie
-use Rattle.transcript.proofs.text.put_entries.Reads as reads
-use Rattle.transcript.proofs.text.put_entries.Lts as lts
-use Rattle.transcript.proofs.text.put_entry.Reads as put-entry-reads
 
 abbrev Inv-loop : tie.InvT-loop
 Inv-loop output₀ log count number₀ i₀ at₀ output number i at = (i ≤ count) × (number ≡ i) × (at ≤ 10 * i) × Put (entryLines 0 (take i log)) output₀ 0 at output
@@ -20,39 +17,30 @@ Inv-loop output₀ log count number₀ i₀ at₀ output number i at = (i ≤ co
 abbrev μ-loop : tie.MeasureT-loop
 μ-loop output₀ log count number₀ i₀ at₀ output number i at = count - i
 
--- src/text.rt:150:5
 loop-holds : tie.Need-loop-holds Inv-loop μ-loop
 loop-holds c = (omega arith, refl, omega arith, no-lines _)
 
--- src/text.rt:151:44
 shared-slice-read-put-entry : tie.Need-shared-slice-read-put-entry Inv-loop μ-loop
 shared-slice-read-put-entry c = omega arith
 
--- src/text.rt:151:9
 put-entry-requires : tie.Need-put-entry-requires Inv-loop μ-loop
 put-entry-requires c κs = (omega arith, omega arith)
 
--- src/text.rt:152:13
 add-i : tie.Need-add-i Inv-loop μ-loop
 add-i c = omega arith
 
--- src/text.rt:153:18
 add-number : tie.Need-add-number Inv-loop μ-loop
 add-number c = omega arith
 
--- src/text.rt:150:5
 loop-less : tie.Need-loop-less Inv-loop μ-loop
 loop-less c = omega arith
 
--- src/text.rt:150:5
 loop-again : tie.Need-loop-again Inv-loop μ-loop
 loop-again c = (omega arith, omega arith, omega (arith, c .before .before .put-entry .ensures .1), one-more-line _ _ (omega arith) (c .before .before .before .before .before .before .loop .inv .3) (rw (c .before .before .before .before .before .before .loop .inv .1) at (c .before .before .put-entry .ensures .0)))
 
--- src/text.rt:143:1
 same-length : tie.Need-same-length Inv-loop μ-loop
 same-length c = same-size (c .before .loop .inv .3)
 
--- src/text.rt:143:1
 returns : tie.Need-returns Inv-loop μ-loop
 returns c = all-lines _ _ _ (omega arith) (c .before .loop .inv .2) (c .before .loop .inv .3)
 

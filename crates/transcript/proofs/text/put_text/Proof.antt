@@ -1,4 +1,4 @@
-use borrow.Author.Needs.{needs}
+-- `transcript::text::put_text` meets its contract: the first bytes are put, one more each turn. Assumes nothing.
 use native.Mathlib.Omega.{arith}
 use Prim.Native.Nat.{_≤_, _-_}
 use lib.ListN.{length, take}
@@ -6,9 +6,6 @@ use Rattle.transcript.proofs.Writing.{silent, first-size, one-more, who
 use Rattle.transcript.specs.Writing.{Put}
 use Rattle.transcript.proofs.text.put_text.Statement.{statement}
 use Rattle.transcript.proofs.text.put_text.Tie as tie
-use Rattle.transcript.proofs.text.put_text.Reads as reads
-use Rattle.transcript.proofs.text.put_text.Lts as lts
-use Rattle.transcript.proofs.text.put.Reads as put-reads
 
 abbrev Inv-loop : tie.InvT-loop
 Inv-loop output₀ at text i₀ next₀ output i next = (i ≤ length text) × Put (take i text) output₀ at next output
@@ -16,35 +13,27 @@ Inv-loop output₀ at text i₀ next₀ output i next = (i ≤ length text) × P
 abbrev μ-loop : tie.MeasureT-loop
 μ-loop output₀ at text i₀ next₀ output i next = length text - i
 
--- src/text.rt:43:5
 loop-holds : tie.Need-loop-holds Inv-loop μ-loop
 loop-holds c = (omega arith, silent _ _)
 
--- src/text.rt:44:34
 shared-slice-read-put : tie.Need-shared-slice-read-put Inv-loop μ-loop
 shared-slice-read-put c = omega arith
 
--- src/text.rt:44:9
 put-requires : tie.Need-put-requires Inv-loop μ-loop
 put-requires c κs = omega (arith, c .before .before .before .loop .inv .1 .position, first-size (c .before .before .before .before .before .before .args .text .now) _ (c .before .before .before .loop .inv .0))
 
--- src/text.rt:45:13
 add-i : tie.Need-add-i Inv-loop μ-loop
 add-i c = omega arith
 
--- src/text.rt:43:5
 loop-less : tie.Need-loop-less Inv-loop μ-loop
 loop-less c = omega arith
 
--- src/text.rt:43:5
 loop-again : tie.Need-loop-again Inv-loop μ-loop
 loop-again c = (omega arith, one-more _ _ (c .before .before .before .before .before .loop-test .taken) (c .before .before .before .before .before .before .loop .inv .1) (c .before .before .put .ensures))
 
--- src/text.rt:37:1
 same-length : tie.Need-same-length Inv-loop μ-loop
 same-length c = same-size (c .before .loop .inv .1)
 
--- src/text.rt:37:1
 returns : tie.Need-returns Inv-loop μ-loop
 returns c = whole _ _ (c .loop-test .left) (c .before .loop .inv .1)
 

@@ -1,38 +1,27 @@
+-- `transcript::text::put_three` meets its contract. Assumes nothing.
 use Rattle.transcript.proofs.Writing.{followed}
 use borrow.Author.Needs.{needs}
 use Rattle.transcript.proofs.text.put_three.Statement.{statement}
 use Rattle.transcript.proofs.text.put_three.Tie as tie
-use Rattle.transcript.proofs.text.put_three.Reads as reads
-use Rattle.transcript.proofs.text.put_three.Lts as lts
-use Rattle.transcript.proofs.text.put.Reads as put-reads
-use Rattle.transcript.proofs.text.put_spaced.Reads as put-spaced-reads
-use Rattle.transcript.proofs.text.put_text.Reads as put-text-reads
 
--- src/text.rt:89:9
 put-text-requires : tie.Need-put-text-requires
 put-text-requires c κs = search needs
 
--- src/text.rt:90:9
 put-spaced-requires : tie.Need-put-spaced-requires
 put-spaced-requires c κs = search needs
 
--- src/text.rt:91:9
 put-spaced-requires-2 : tie.Need-put-spaced-requires-2
 put-spaced-requires-2 c κs = search needs
 
--- src/text.rt:92:9
 put-spaced-requires-3 : tie.Need-put-spaced-requires-3
 put-spaced-requires-3 c κs = search needs
 
--- src/text.rt:93:5
 put-requires : tie.Need-put-requires
 put-requires c κs = search needs
 
--- src/text.rt:85:1
 same-length : tie.Need-same-length
 same-length c = search needs
 
--- src/text.rt:85:1
 returns : tie.Need-returns
 returns c = followed (followed (followed (followed (c .before .before .before .before .before .before .before .before .before .before .before .before .before .before .before .before .before .before .put-text .ensures) (c .before .before .before .before .before .before .before .before .before .before .before .before .before .before .put-spaced .ensures .0)) (c .before .before .before .before .before .before .before .before .before .before .put-spaced2 .ensures .0)) (c .before .before .before .before .before .before .put-spaced3 .ensures .0)) (c .before .before .put .ensures)
 

@@ -1,0 +1,32 @@
+-- The table of printed inputs holds, computed by the definition that `print` is proved equal to. Assumes nothing.
+use mathlib.Core.List.{List, [], _∷_}
+use mathlib.Core.Path.{_≡_, refl}
+use Rattle.command.specs.Command.{commandAt, decoded}
+use Rattle.image.specs.Layout.{startOf, rowsOf, startsUpTo}
+use Rattle.image.specs.Code.{commandsFrom, commandsOf, verdictFrom, lastEnds, isStart, targetsGood, routineVerdict}
+use Rattle.image.specs.Image.{rowsGood, inRange, routinesVerdict, imageVerdict}
+use Rattle.queue.specs.Contents.{appended}
+use Rattle.schedule.specs.Meaning.{scheduleOf, entriesOf}
+use Rattle.stacklets.specs.Tops.{fitsOn, pushedTops}
+use Rattle.stacklets.specs.Frames.{argumentsAt, framed, pushedWords}
+use Rattle.thread.specs.Effect.{run, anyPending, unlessPending, provided, forking, effectOf}
+use Rattle.thread.specs.Thread.{isPending, withPending}
+use Rattle.window.specs.Rights.{mayStore, mayLoad, cutAt}
+use Rattle.machine.specs.Turn.{effectAt}
+use Rattle.machine.specs.Leave.{leaves}
+use Rattle.machine.specs.Fork.{goesAbove, placeOf, born, forkOn, forkWith, forkOf}
+use Rattle.machine.specs.Return.{stackletsWithout, wakes, statusAfter, readyAfter, returnToParent, returnOf}
+use Rattle.machine.specs.Rules.{carriedOf, turnOf, stepOf, takeInto, takeOf, isSeed, stolenOf, stealOf, enableOf, entryOf, startState}
+use Rattle.run.specs.Run.{refusalOf, runFrom, logsFrom}
+use Rattle.transcript.specs.Text.{digitsOf, decimalOf}
+use Rattle.transcript.specs.Reading.{wordsFrom}
+use Rattle.transcript.specs.Transcript.{entryLines, playedText, numberOfRun, runText, textOf}
+use Rattle.transcript.specs.Cases.{Case, printed}
+
+abbrev Holds : List Case → Type 0
+Holds [] = Unit {0}
+Holds (c ∷ cs) = (textOf (c .input) ≡ c .text) × Holds cs
+
+pub printed-hold : Holds printed
+unfolding commandAt decoded startOf rowsOf startsUpTo commandsFrom commandsOf verdictFrom lastEnds isStart targetsGood routineVerdict rowsGood inRange routinesVerdict imageVerdict appended scheduleOf entriesOf fitsOn pushedTops argumentsAt framed pushedWords run anyPending unlessPending provided forking effectOf isPending withPending mayStore mayLoad cutAt effectAt leaves goesAbove placeOf born forkOn forkWith forkOf stackletsWithout wakes statusAfter readyAfter returnToParent returnOf carriedOf turnOf stepOf takeInto takeOf isSeed stolenOf stealOf enableOf entryOf startState refusalOf runFrom logsFrom digitsOf decimalOf wordsFrom entryLines playedText numberOfRun runText textOf
+printed-hold = (refl, (refl, (refl, (refl, (refl, (refl, (refl, (refl, tt))))))))
