@@ -43,6 +43,10 @@ decoded byte x y z w =
 abbrev pub decodedAt : List ℕ → ℕ → Command
 decodedAt s at = decoded (getD s at 0) (getD s (at + 1) 0) (getD s (at + 2) 0) (getD s (at + 3) 0) (getD s (at + 4) 0)
 
+-- the five bytes from a position on
+abbrev pub fiveAt : List ℕ → ℕ → List ℕ
+fiveAt s at = getD s at 0 ∷ getD s (at + 1) 0 ∷ getD s (at + 2) 0 ∷ getD s (at + 3) 0 ∷ getD s (at + 4) 0 ∷ []
+
 -- "One command read by itself meets only 4 and 5 (5 also where there is no byte)": 4 first, as "4, 5, 6 command by command"
 unfoldable pub commandAt : List ℕ → ℕ → CommandRead
 commandAt s at =

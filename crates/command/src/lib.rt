@@ -2,7 +2,7 @@
 ghost use mathlib.Core.Path.{_≡_};
 ghost use mathlib.Core.List.{[], _∷_};
 ghost use lib.ListN.{getD};
-ghost use Rattle.command.specs.Command.{ReadAs, decoded, decodedAt, widthOf, pair, low, high};
+ghost use Rattle.command.specs.Command.{ReadAs, decoded, decodedAt, fiveAt, widthOf, pair, low, high};
 ghost use Rattle.command.specs.Write.{Wrote};
 ghost use Rattle.command.specs.Encoded.{Encodes};
 ghost use Rattle.command.specs.Weight.{weightOf, standardWeights};
@@ -97,6 +97,13 @@ pub fn weight(byte: u8) -> u8
     0
 }
 
+// The table of weights, by first byte, for a loop that reads one for each command.
+pub fn weights() -> [u8; 14]
+    ensures { λ r. ⌜ r ≡ standardWeights ⌝ }
+{
+    WEIGHTS
+}
+
 // The byte at a position; 0 past the end.
 pub fn byte_at(bytes: &[u8], at: usize) -> u8
     ensures { λ r. ⌜ r ≡ getD (now (bytes .entry)) at 0 ⌝ }
@@ -171,20 +178,40 @@ pub fn read(bytes: &[u8], at: usize) -> CommandRead
     CommandRead::Found(command, w)
 }
 
-// The command whose first byte stands at a position, taken as whole: bytes past the end read as 0.
-pub fn fetch(bytes: &[u8], at: usize) -> Command
-    ensures { λ r. ⌜ r ≡ decodedAt (now (bytes .entry)) at ⌝ }
+// The five bytes from a position on; 0 past the end. Mostly there are five, which one test tells.
+pub fn five_at(bytes: &[u8], at: usize) -> [u8; 5]
+    ensures { λ r. ⌜ r ≡ fiveAt (now (bytes .entry)) at ⌝ }
 {
-    if bytes.len() <= at {
-        return Command::Return(0);
+    let n = bytes.len();
+    if 5 <= n {
+        if at <= n - 5 {
+            return [bytes[at], bytes[at + 1], bytes[at + 2], bytes[at + 3], bytes[at + 4]];
+        }
     }
-    decode(
+    if n <= at {
+        return [0u8; 5];
+    }
+    [
         bytes[at],
         byte_at(bytes, at + 1),
         byte_at(bytes, at + 2),
         byte_at(bytes, at + 3),
         byte_at(bytes, at + 4),
-    )
+    ]
+}
+
+// The command at the front of five bytes, taken as whole.
+pub fn command_of(five: [u8; 5]) -> Command
+    ensures { λ r. ⌜ r ≡ decodedAt five 0 ⌝ }
+{
+    decode(five[0], five[1], five[2], five[3], five[4])
+}
+
+// The command whose first byte stands at a position, taken as whole: bytes past the end read as 0.
+pub fn fetch(bytes: &[u8], at: usize) -> Command
+    ensures { λ r. ⌜ r ≡ decodedAt (now (bytes .entry)) at ⌝ }
+{
+    command_of(five_at(bytes, at))
 }
 
 // A value's low byte.

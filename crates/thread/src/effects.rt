@@ -18,7 +18,7 @@ ghost use Rattle.image.specs.Layout.{argumentsOf};
 ghost use Rattle.stacklets.specs.Frames.{slotOf};
 ghost use Rattle.window.specs.Rights.{mayLoad, mayStore};
 ghost use Rattle.thread.specs.declared.Effect.the-variants.{Sets, Loads, Stores, Goes, Continues, Lforks, Forks, Returns};
-ghost use Rattle.thread.specs.Effect.{run, unlessPending, provided, sum, difference, forking, effectOf};
+ghost use Rattle.thread.specs.Effect.{run, anyPending, unlessPending, provided, sum, difference, forking, effectOf};
 ghost use Rattle.thread.specs.View.{mayCut, viewOf};
 ghost use Rattle.thread.specs.Thread.{isPending};
 
@@ -64,36 +64,37 @@ fn set(pending: u16, d: u8, value: u16) -> Effect
     Effect::Sets(d, value as u32)
 }
 
-// 02 and 03: slot d becomes a value, which is computed of slots a and b.
-fn arithmetic(pending: u16, d: u8, a: u8, b: u8, value: u32) -> Effect
-    ensures { λ r. ⌜ r ≡ unlessPending 9 (isPending pending) (d ∷ a ∷ b ∷ []) (Sets d value) ⌝ }
+// Is one of three slots pending?
+fn any_of(pending: u16, d: u8, a: u8, b: u8) -> bool
+    ensures { λ r. ⌜ r ≡ anyPending (isPending pending) (d ∷ a ∷ b ∷ []) ⌝ }
 {
     if is_pending(pending, d) {
-        return Effect::Faults(9);
+        return true;
     }
     if is_pending(pending, a) {
-        return Effect::Faults(9);
+        return true;
     }
-    if is_pending(pending, b) {
-        return Effect::Faults(9);
-    }
-    Effect::Sets(d, value)
+    is_pending(pending, b)
 }
 
 // 02: a + b.
 fn add(words: &[u32], base: u16, pending: u16, d: u8, a: u8, b: u8) -> Effect
     ensures { λ r. ⌜ r ≡ unlessPending 9 (isPending pending) (d ∷ a ∷ b ∷ []) (Sets d (sum (slotOf (now (words .entry)) base a) (slotOf (now (words .entry)) base b))) ⌝ }
 {
-    let value = sum_of(slot(words, base, a), slot(words, base, b));
-    arithmetic(pending, d, a, b, value)
+    if any_of(pending, d, a, b) {
+        return Effect::Faults(9);
+    }
+    Effect::Sets(d, sum_of(slot(words, base, a), slot(words, base, b)))
 }
 
 // 03: a - b.
 fn subtract(words: &[u32], base: u16, pending: u16, d: u8, a: u8, b: u8) -> Effect
     ensures { λ r. ⌜ r ≡ unlessPending 9 (isPending pending) (d ∷ a ∷ b ∷ []) (Sets d (difference (slotOf (now (words .entry)) base a) (slotOf (now (words .entry)) base b))) ⌝ }
 {
-    let value = difference_of(slot(words, base, a), slot(words, base, b));
-    arithmetic(pending, d, a, b, value)
+    if any_of(pending, d, a, b) {
+        return Effect::Faults(9);
+    }
+    Effect::Sets(d, difference_of(slot(words, base, a), slot(words, base, b)))
 }
 
 // 04: slot d becomes the word at an address, which slot a holds.

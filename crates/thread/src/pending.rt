@@ -4,10 +4,13 @@ ghost use Prim.Native.Nat.{_<_, _≤_};
 ghost use Rattle.thread.specs.Thread.{isPending, withPending};
 ghost use Rattle.thread.specs.Effect.{run, anyPending};
 
-// Is slot k pending?
+// Is slot k pending? Mostly none is, which one test tells.
 pub fn is_pending(mask: u16, k: u8) -> bool
     ensures { λ r. ⌜ r ≡ isPending mask k ⌝ }
 {
+    if mask == 0 {
+        return false;
+    }
     pending_at(mask, k as u16)
 }
 
@@ -37,16 +40,17 @@ pub fn with_pending(mask: u16, d: u8) -> u16
 pub fn any_pending(mask: u16, a: u8, n: u8) -> bool
     ensures { λ r. ⌜ r ≡ anyPending (isPending mask) (run a n) ⌝ }
 {
-    let mut left: u8 = n;
-    let mut at: u16 = a as u16;
-    while 0 < left {
-        if pending_at(mask, at) {
-            return true;
-        }
-        at = at + 1;
-        left = left - 1;
+    let from = a as u16;
+    if 16 <= from {
+        return false;
     }
-    false
+    let part = mask >> from;
+    if 16 <= n {
+        return part != 0;
+    }
+    let one: u16 = 1;
+    let count = n as u16;
+    part % (one << count) != 0
 }
 
 // Is any slot pending?

@@ -1,7 +1,16 @@
 -- `thread::effects::add` meets its contract. Assumes nothing.
+use mathlib.Core.Path.{sym, _∙_}
+use Rattle.thread.specs.Effect.{unlessPending}
 use borrow.Author.Needs.{needs}
 use Rattle.thread.proofs.effects.add.Statement.{statement}
 use Rattle.thread.proofs.effects.add.Tie as tie
+
+any-of-requires : tie.Need-any-of-requires
+any-of-requires c κs = search needs
+
+returns : tie.Need-returns
+unfolding unlessPending
+returns c = simp (sym (c .before .any-of .ensures) ∙ c .if1 .taken)
 
 slot-requires : tie.Need-slot-requires
 slot-requires c κs = search needs
@@ -12,12 +21,17 @@ slot-requires-2 c κs = search needs
 sum-of-requires : tie.Need-sum-of-requires
 sum-of-requires c κs = search needs
 
-arithmetic-requires : tie.Need-arithmetic-requires
-arithmetic-requires c κs = search needs
-
-returns : tie.Need-returns
-returns c = rw (c .before .sum-of .ensures, c .before .before .slot2 .ensures, c .before .before .before .slot .ensures) at (c .arithmetic .ensures)
+returns-2 : tie.Need-returns-2
+unfolding unlessPending
+returns-2 c =
+    simp (
+      c .sum-of .ensures,
+      c .before .slot2 .ensures,
+      c .before .before .slot .ensures,
+      sym (c .before .before .before .before .any-of .ensures) ∙ c .before .before .before .if1 .left,
+    )
 
 pub add-spec : {M : Type 1} → statement M
 add-spec =
-    tie.close (tie.spec slot-requires slot-requires-2 sum-of-requires arithmetic-requires returns)
+    tie.close
+    (tie.spec any-of-requires returns slot-requires slot-requires-2 sum-of-requires returns-2)

@@ -1,7 +1,16 @@
 -- `thread::effects::subtract` meets its contract. Assumes nothing.
+use mathlib.Core.Path.{sym, _∙_}
+use Rattle.thread.specs.Effect.{unlessPending}
 use borrow.Author.Needs.{needs}
 use Rattle.thread.proofs.effects.subtract.Statement.{statement}
 use Rattle.thread.proofs.effects.subtract.Tie as tie
+
+any-of-requires : tie.Need-any-of-requires
+any-of-requires c κs = search needs
+
+returns : tie.Need-returns
+unfolding unlessPending
+returns c = simp (sym (c .before .any-of .ensures) ∙ c .if1 .taken)
 
 slot-requires : tie.Need-slot-requires
 slot-requires c κs = search needs
@@ -12,13 +21,23 @@ slot-requires-2 c κs = search needs
 difference-of-requires : tie.Need-difference-of-requires
 difference-of-requires c κs = search needs
 
-arithmetic-requires : tie.Need-arithmetic-requires
-arithmetic-requires c κs = search needs
-
-returns : tie.Need-returns
-returns c = rw (c .before .difference-of .ensures, c .before .before .slot2 .ensures, c .before .before .before .slot .ensures) at (c .arithmetic .ensures)
+returns-2 : tie.Need-returns-2
+unfolding unlessPending
+returns-2 c =
+    simp (
+      c .difference-of .ensures,
+      c .before .slot2 .ensures,
+      c .before .before .slot .ensures,
+      sym (c .before .before .before .before .any-of .ensures) ∙ c .before .before .before .if1 .left,
+    )
 
 pub subtract-spec : {M : Type 1} → statement M
 subtract-spec =
     tie.close
-    (tie.spec slot-requires slot-requires-2 difference-of-requires arithmetic-requires returns)
+    (tie.spec
+    any-of-requires
+    returns
+    slot-requires
+    slot-requires-2
+    difference-of-requires
+    returns-2)
