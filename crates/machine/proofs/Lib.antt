@@ -7,5 +7,6 @@ pub mod Ending
 pub mod Carrying
 pub mod Way
 pub mod Reach
+pub mod OwnWay
 pub mod Clearing
 pub mod Starting

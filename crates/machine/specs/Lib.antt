@@ -9,3 +9,4 @@ pub mod Rules
 pub mod Lists
 pub mod Sound
 pub mod Parts
+pub mod Own

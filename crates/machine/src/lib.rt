@@ -6,6 +6,7 @@ mod enable;
 mod entry;
 mod fork;
 mod leave;
+pub mod own;
 mod parts;
 mod returning;
 pub mod start;
@@ -53,4 +54,14 @@ pub struct Met {
     pub weight: u8,
     pub next: u16,
     pub offset: u16,
+}
+
+// What a thread's next command did, where it changes its own thread, its slots and the memory alone.
+pub enum OwnStep {
+    // it is carried out: the thread's next position, and the units with its weight
+    Moved(u16, u32),
+    // so is a join: the same, no slot is pending and the window is whole again
+    Joined(u16, u32),
+    // it waits, is too dear, faults or is another command: nothing is done
+    Other,
 }

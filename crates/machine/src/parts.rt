@@ -219,12 +219,21 @@ pub fn load_word(parameters: &[u32], memory: &[u32], a: u32) -> u32
     word(memory, a - 32)
 }
 
-// The memory word at an address becomes v.
+// What is left of x when y is taken from it; 0 where y is more.
+pub fn left_of(x: u32, y: u32) -> u32
+    ensures { λ r. ⌜ r ≡ x - y ⌝ }
+{
+    if y <= x {
+        return x - y;
+    }
+    0
+}
+
+// The memory word at an address becomes v; that at 32 below it, where no rule stores.
 pub fn store_word(memory: &mut [u32], a: u32, v: u32)
-    requires { ⌜ 32 ≤ a ⌝ }
     ensures { λ r. ⌜ now (memory .exit) ≡ set (now (memory .entry)) (a - 32) v ⌝ }
 {
-    let i = (a - 32) as usize;
+    let i = left_of(a, 32) as usize;
     if i < memory.len() {
         memory[i] = v;
     }

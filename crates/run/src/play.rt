@@ -1,7 +1,11 @@
 // The machine goes through a schedule's entries, and its state is told as an answer.
 use crate::RunAnswer;
 use machine::Machine;
+use machine::OwnStep;
+use machine::own::own_step;
+use machine::own::stepping;
 use schedule::EntryRead;
+use thread::record::joined_at;
 ghost use mathlib.Core.Path.{_≡_};
 ghost use Rattle.machine.specs.State.{jobOf, meaning, outcomeOf};
 ghost use Rattle.run.specs.Run.{answerOf, Playable, Played};
@@ -28,10 +32,43 @@ pub fn play(
         let found = schedule::read(schedule, at);
         match found {
             EntryRead::Found(entry, next) => {
-                m = m.entry(entry, image, starts, parameters, words, memory, allowance);
-                log[number] = m.log;
-                number = number + 1;
+                let line = number;
                 at = next;
+                number = number + 1;
+                let t = stepping(entry, m.over, m.count, m.cores);
+                if t < 32 {
+                    let k = t as usize;
+                    let th = m.threads[k];
+                    let own = own_step(
+                        th,
+                        m.units,
+                        image,
+                        starts,
+                        parameters,
+                        words,
+                        memory,
+                        allowance,
+                    );
+                    match own {
+                        OwnStep::Moved(position, units) => {
+                            m.threads[k].position = position;
+                            m.units = units;
+                            m.log = 0;
+                            log[line] = 0;
+                            continue;
+                        }
+                        OwnStep::Joined(position, units) => {
+                            m.threads[k] = joined_at(th, position);
+                            m.units = units;
+                            m.log = 0;
+                            log[line] = 0;
+                            continue;
+                        }
+                        OwnStep::Other => {}
+                    }
+                }
+                m = m.entry(entry, image, starts, parameters, words, memory, allowance);
+                log[line] = m.log;
             }
             EntryRead::End => return m,
             EntryRead::Malformed => return m,

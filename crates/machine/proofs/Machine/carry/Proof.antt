@@ -63,7 +63,7 @@ enum-known-effect-4 : tie.Need-enum-known-effect-4
 enum-known-effect-4 c = search needs
 
 store-word-requires : tie.Need-store-word-requires
-store-word-requires c κs = bounded-as _ _ (c .before .before .effect4 .given .1) (c .before .before .before .before .before .before .before .before .before .before .before .pre .effect)
+store-word-requires c κs = search needs
 
 moved-to-requires-3 : tie.Need-moved-to-requires-3
 moved-to-requires-3 c κs = search needs

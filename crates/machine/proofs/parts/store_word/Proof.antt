@@ -5,8 +5,8 @@ use borrow.Author.Needs.{needs}
 use Rattle.machine.proofs.parts.store_word.Statement.{statement}
 use Rattle.machine.proofs.parts.store_word.Tie as tie
 
-sub-i : tie.Need-sub-i
-sub-i c = search needs
+left-of-requires : tie.Need-left-of-requires
+left-of-requires c κs = search needs
 
 cast-i : tie.Need-cast-i
 cast-i c = search needs
@@ -21,11 +21,12 @@ same-length : tie.Need-same-length
 same-length c = search needs
 
 returns : tie.Need-returns
-returns c = search needs
+returns c = rw (c .before .left-of .ensures)
 
 returns-2 : tie.Need-returns-2
-returns-2 c = sym (set-out _ _ _ (c .if1 .left))
+returns-2 c = rw (← c .before .left-of .ensures) (sym (set-out _ _ _ (c .if1 .left)))
 
 pub store-word-spec : {M : Type 1} → statement M
 store-word-spec =
-    tie.close (tie.spec sub-i cast-i mul-memory slice-write-memory same-length returns returns-2)
+    tie.close
+    (tie.spec left-of-requires cast-i mul-memory slice-write-memory same-length returns returns-2)

@@ -1,0 +1,154 @@
+-- A step of a command that changes its own thread alone: what the code computes is `ownOf`, and what it leaves is the rule's step.
+-- Assumes nothing.
+use borrow.Author.Tests.{eqb-true, ltb-true, lt-ltb, le-ltb, lt-leb}
+use mathlib.Core.Bool.{Bool, true, false, cond, _&&_}
+use mathlib.Core.List.{List}
+use mathlib.Core.Path.{_≡_, refl, sym, _∙_, ap}
+use Prim.Native.Nat.{ℕ, _+_, _-_, _%_, _≤_, _<_, _^_}
+use native.Mathlib.Nat.{mod-eq-of-lt}
+use native.Mathlib.Omega.{arith}
+use lib.Dec.{eqb, ltb}
+use lib.ListN.{getD, set}
+use Rattle.command.specs.declared.Command.{Command}
+use Rattle.command.specs.Command.{decodedAt, widthOf}
+use Rattle.command.specs.Weight.{weightOf, standardWeights}
+use Rattle.command.proofs.Bools.{both}
+use Rattle.schedule.specs.declared.Entry.{Entry}
+use Rattle.schedule.specs.declared.Entry.the-variants.{Step, Take, Steal, Enable}
+use Rattle.thread.specs.declared.Effect.{Effect}
+use Rattle.thread.specs.declared.Effect.the-variants.{Faults, Sets, Loads, Stores, Goes, Continues, Lforks, Forks, Joins, Suspends, Yields, Returns}
+use Rattle.thread.specs.declared.Thread.{Thread}
+use Rattle.thread.specs.Thread.{blankThread, movedTo, joinedAt, none}
+use Rattle.machine.specs.declared.Machine.{Machine}
+use Rattle.machine.specs.declared.OwnStep.{OwnStep}
+use Rattle.machine.specs.declared.OwnStep.the-variants.{Moved, Joined, Other}
+use Rattle.machine.specs.State.{Job, jobOf, State, After, meaning, after, threadAt}
+use Rattle.machine.specs.Turn.{Turn, turnAt, byteOf, effectAt, tooDear, waits}
+use Rattle.machine.specs.Rules.{carriedOf, turnOf, stepOf, entryOf}
+use Rattle.machine.specs.Sound.{Sound, Used}
+use Rattle.machine.specs.Own.{steppingOf, Own, Owned, leaving, ownBy, ownEffect, ownOf}
+use Rattle.machine.proofs.Tests.{over-false}
+use Rattle.machine.proofs.Way.{record-of, effect-of}
+use Rattle.machine.proofs.Reach.{meets, core-used}
+
+-- the code's way to `ownOf`, by what its tests and calls give
+module _ (im ss ps ws ms : List ℕ) (al units : ℕ) (h : Thread) (place byte : ℕ) (wait : Bool)
+    (e1 : place ≡ getD ss (h .routine) 0 + h .position) (e2 : byte ≡ getD im place 0) (e3 : wait ≡ (eqb byte 10 && ltb 0 (h .children))) where
+  waits-as : (eqb (getD im (getD ss (h .routine) 0 + h .position) 0) 10 && ltb 0 (h .children)) ≡ wait
+  waits-as = rw (← e1, ← e2) (sym e3)
+
+  pub own-waits : wait ≡ true → Owned (ownOf (jobOf im ss ps al) h units ws ms) Other ws ms
+  unfolding ownOf
+  own-waits e4 = rw (waits-as, e4) (record { answer = refl; words = refl; memory = refl })
+
+  module _ (w left : ℕ) (e4 : wait ≡ false) (e5 : w ≡ weightOf standardWeights byte) (e6 : left ≡ al - units) where
+    weight-as : weightOf standardWeights (getD im (getD ss (h .routine) 0 + h .position) 0) ≡ w
+    weight-as = rw (← e1, ← e2) (sym e5)
+
+    pub own-dear : left < w → Owned (ownOf (jobOf im ss ps al) h units ws ms) Other ws ms
+    unfolding ownOf
+    own-dear g = rw (waits-as, e4, weight-as, ← e6, lt-ltb _ _ g) (record { answer = refl; words = refl; memory = refl })
+
+    own-is : w ≤ left → (wide next : ℕ) (command : Command) (e : Effect) → wide ≡ widthOf byte → next ≡ (h .position + wide) % 2 ^ 16
+        → command ≡ decodedAt im place → e ≡ effect-of im ws h command
+        → ownBy (h .base) (units + w) next ps ws ms e ≡ ownOf (jobOf im ss ps al) h units ws ms
+    unfolding ownOf
+    own-is g wide next command e e7 e8 e9 e10 = rw (waits-as, e4, weight-as, ← e6, le-ltb _ _ g, e8, e7, e10, e9, e2, e1)
+
+    pub own-carries : w ≤ left → (wide next : ℕ) (command : Command) (e : Effect) → wide ≡ widthOf byte → next ≡ (h .position + wide) % 2 ^ 16
+        → command ≡ decodedAt im place → e ≡ effect-of im ws h command
+        → (r : OwnStep) (ws' ms' : List ℕ) → Owned (ownBy (h .base) (units + w) next ps ws ms e) r ws' ms'
+        → Owned (ownOf (jobOf im ss ps al) h units ws ms) r ws' ms'
+    own-carries g wide next command e e7 e8 e9 e10 r ws' ms' o =
+        let q = own-is g wide next command e e7 e8 e9 e10 in
+        record {
+          answer = o .answer ∙ ap (λ (x : Own). x .answer) q;
+          words = o .words ∙ ap (λ (x : Own). x .words) q;
+          memory = o .memory ∙ ap (λ (x : Own). x .memory) q;
+        }
+
+-- the machine with another record for thread t, and these units
+abbrev pub onward : Machine → ℕ → Thread → ℕ → Machine
+onward m t h units = record {
+  threads = set (m .threads) t h;
+  cores = m .cores;
+  count = m .count;
+  stacklets = m .stacklets;
+  «free_threads» = m .«free_threads»;
+  «free_stacklets» = m .«free_stacklets»;
+  ready = m .ready;
+  units = units;
+  over = m .over;
+  result = m .result;
+  fault = m .fault;
+  «fault_thread» = m .«fault_thread»;
+  «fault_offset» = m .«fault_offset»;
+  log = 0;
+}
+
+-- what an answer means of the machine that thread t's command is carried out on: it is then as `a` says, or nothing has changed
+abbrev pub Means : Machine → ℕ → List ℕ → List ℕ → After → OwnStep → List ℕ → List ℕ → Type 0
+Means m t ws ms a (Moved p units) ws' ms' = after (onward m t (movedTo p (record-of m t)) units) ws' ms' ≡ a
+Means m t ws ms a (Joined p units) ws' ms' = after (onward m t (joinedAt p (record-of m t)) units) ws' ms' ≡ a
+Means m t ws ms a Other ws' ms' = (ws' ≡ ws) × (ms' ≡ ms)
+
+module _ (m : Machine) (t : ℕ) (ws ms : List ℕ) where
+  idle : (a : After) (r : OwnStep) (ws' ms' : List ℕ) → Owned (leaving Other ws ms) r ws' ms' → Means m t ws ms a r ws' ms'
+  idle a r ws' ms' o = rw (o .answer) (o .words, o .memory)
+
+  chosen : (b c : Bool) (x : Own) (a1 a2 a3 : After) (r : OwnStep) (ws' ms' : List ℕ) → (Owned x r ws' ms' → Means m t ws ms a3 r ws' ms')
+      → Owned (cond b (leaving Other ws ms) (cond c (leaving Other ws ms) x)) r ws' ms' → Means m t ws ms (cond b a1 (cond c a2 a3)) r ws' ms'
+  chosen true c x a1 a2 a3 r ws' ms' f o = idle a1 r ws' ms' o
+  chosen false true x a1 a2 a3 r ws' ms' f o = idle a2 r ws' ms' o
+  chosen false false x a1 a2 a3 r ws' ms' f o = f o
+
+  module _ (j : Job) (c : ℕ) where
+    -- by the effect
+    by-effect : (e : Effect) (r : OwnStep) (ws' ms' : List ℕ)
+        → Owned (ownBy (record-of m t .base) (m .units + turnAt j (meaning m ws ms) c t .weight) (turnAt j (meaning m ws ms) c t .next) (j .parameters) ws ms e) r ws' ms'
+        → Means m t ws ms (carriedOf j (meaning m ws ms) (turnAt j (meaning m ws ms) c t) e) r ws' ms'
+    unfolding ownBy carriedOf after meaning
+    by-effect (Faults n) r ws' ms' o = idle _ r ws' ms' o
+    by-effect (Sets d v) r ws' ms' o = rw (o .answer, o .words, o .memory)
+    by-effect (Loads d a) r ws' ms' o = rw (o .answer, o .words, o .memory)
+    by-effect (Stores a v) r ws' ms' o = rw (o .answer, o .words, o .memory)
+    by-effect (Goes p) r ws' ms' o = rw (o .answer, o .words, o .memory)
+    by-effect Continues r ws' ms' o = rw (o .answer, o .words, o .memory)
+    by-effect (Lforks x d a e) r ws' ms' o = idle _ r ws' ms' o
+    by-effect (Forks x d a e) r ws' ms' o = idle _ r ws' ms' o
+    by-effect Joins r ws' ms' o = rw (o .answer, o .words, o .memory)
+    by-effect Suspends r ws' ms' o = idle _ r ws' ms' o
+    by-effect Yields r ws' ms' o = idle _ r ws' ms' o
+    by-effect (Returns v) r ws' ms' o = idle _ r ws' ms' o
+
+    -- the position behind the command fits
+    own-turn : Sound j (meaning m ws ms) → Used (meaning m ws ms) t → (r : OwnStep) (ws' ms' : List ℕ)
+        → Owned (ownOf j (record-of m t) (m .units) ws ms) r ws' ms' → Means m t ws ms (turnOf j (meaning m ws ms) c t) r ws' ms'
+    unfolding ownOf turnOf effectAt meaning
+    own-turn ok used r ws' ms' o =
+        let fits : record-of m t .position + widthOf (byteOf j (record-of m t)) < 2 ^ 16 = meets j (meaning m ws ms) ok t used .next in
+        chosen (waits j (record-of m t)) (ltb (j .allowance - m .units) (weightOf (j .weights) (byteOf j (record-of m t)))) _ _ _ _ r ws' ms'
+        (λ x. by-effect (ownEffect j (record-of m t) ws) r ws' ms' (rw (mod-eq-of-lt fits) at x)) o
+
+-- an entry that steps thread t
+pub own-entry : (m : Machine) (im ss ps ws ms : List ℕ) (al : ℕ) → Sound (jobOf im ss ps al) (meaning m ws ms) → (e : Entry) (t : ℕ)
+    → t ≡ steppingOf (m .over) (m .count) (m .cores) e → t < none → (r : OwnStep) (ws' ms' : List ℕ)
+    → Owned (ownOf (jobOf im ss ps al) (record-of m t) (m .units) ws ms) r ws' ms'
+    → Means m t ws ms (entryOf (jobOf im ss ps al) (meaning m ws ms) e) r ws' ms'
+unfolding steppingOf entryOf stepOf meaning
+own-entry m im ss ps ws ms al ok (Step c) t e small r ws' ms' o = go (eqb (m .over) 0) (ltb c (m .count)) (ltb c 4) refl refl e
+  where
+    go : (x y z : Bool) → eqb (m .over) 0 ≡ x → ltb c (m .count) ≡ y → t ≡ cond (x && (y && z)) (getD (m .cores) c 0) none
+        → Means m t ws ms (stepOf (jobOf im ss ps al) (meaning m ws ms) c) r ws' ms'
+    go true true true p q f =
+        let busy : getD (m .cores) c 0 < 32 = omega (arith, small, f) in
+        let core = ltb-true c (m .count) q in
+        let used = core-used m im ss ps ws ms al ok c core busy in
+        rw (over-false m (eqb-true (m .over) 0 p), lt-leb _ _ core, lt-ltb _ _ busy, ← f)
+        (own-turn m t ws ms (jobOf im ss ps al) c ok (rw f used) r ws' ms' o)
+    go true true false p q f = absurd (omega (arith, small, f))
+    go true false z p q f = absurd (omega (arith, small, f))
+    go false y z p q f = absurd (omega (arith, small, f))
+own-entry m im ss ps ws ms al ok (Take c) t e small r ws' ms' o = absurd (omega (arith, small, e))
+own-entry m im ss ps ws ms al ok (Steal c u) t e small r ws' ms' o = absurd (omega (arith, small, e))
+own-entry m im ss ps ws ms al ok (Enable u) t e small r ws' ms' o = absurd (omega (arith, small, e))

@@ -1,0 +1,82 @@
+-- `machine::own::own_step` meets its contract. Assumes nothing.
+use Rattle.machine.proofs.OwnWay.{own-waits, own-dear, own-carries}
+use borrow.Author.Needs.{needs}
+use Rattle.machine.proofs.own.own_step.Statement.{statement}
+use Rattle.machine.proofs.own.own_step.Tie as tie
+
+place-in-image-requires : tie.Need-place-in-image-requires
+place-in-image-requires c κs = search needs
+
+byte-at-requires : tie.Need-byte-at-requires
+byte-at-requires c κs = search needs
+
+must-wait-requires : tie.Need-must-wait-requires
+must-wait-requires c κs = search needs
+
+returns : tie.Need-returns
+returns c = own-waits _ _ _ _ _ _ _ _ _ _ _ (c .before .before .before .place-in-image .ensures) (c .before .before .byte-at .ensures) (c .before .must-wait .ensures) (c .if1 .taken)
+
+weight-requires : tie.Need-weight-requires
+weight-requires c κs = search needs
+
+cast-cost : tie.Need-cast-cost
+cast-cost c = search needs
+
+left-of-requires : tie.Need-left-of-requires
+left-of-requires c κs = search needs
+
+returns-2 : tie.Need-returns-2
+returns-2 c = own-dear _ _ _ _ _ _ _ _ _ _ _ (c .before .before .before .before .before .before .place-in-image .ensures) (c .before .before .before .before .before .byte-at .ensures) (c .before .before .before .before .must-wait .ensures) _ _ (c .before .before .before .if1 .left) (c .before .before .weight .ensures) (c .before .left-of .ensures) (c .if2 .taken)
+
+width-requires : tie.Need-width-requires
+width-requires c κs = search needs
+
+cast-wrapping-add-u16 : tie.Need-cast-wrapping-add-u16
+cast-wrapping-add-u16 c = search needs
+
+wrapping-add-u16-requires : tie.Need-wrapping-add-u16-requires
+wrapping-add-u16-requires c κs = search needs
+
+fetch-requires : tie.Need-fetch-requires
+fetch-requires c κs = search needs
+
+effect-requires : tie.Need-effect-requires
+effect-requires c κs = search needs
+
+add-carry-own : tie.Need-add-carry-own
+add-carry-own c = search needs
+
+carry-own-requires : tie.Need-carry-own-requires
+carry-own-requires c κs = search needs
+
+same-length : tie.Need-same-length
+same-length c = search needs
+
+same-length-2 : tie.Need-same-length-2
+same-length-2 c = search needs
+
+returns-3 : tie.Need-returns-3
+returns-3 c = own-carries _ _ _ _ _ _ _ _ _ _ _ (c .before .before .before .before .before .before .before .before .before .before .before .before .before .before .before .before .before .before .before .place-in-image .ensures) (c .before .before .before .before .before .before .before .before .before .before .before .before .before .before .before .before .before .before .byte-at .ensures) (c .before .before .before .before .before .before .before .before .before .before .before .before .before .before .before .before .before .must-wait .ensures) _ _ (c .before .before .before .before .before .before .before .before .before .before .before .before .before .before .before .before .if1 .left) (c .before .before .before .before .before .before .before .before .before .before .before .before .before .before .before .weight .ensures) (c .before .before .before .before .before .before .before .before .before .before .before .before .before .before .left-of .ensures) (c .before .before .before .before .before .before .before .before .before .before .before .before .before .if2 .left) _ _ _ _ (c .before .before .before .before .before .before .before .before .before .before .before .before .width .ensures) (c .before .before .before .before .before .before .before .before .before .before .before .wrapping-add-u16 .ensures) (c .before .before .before .before .before .before .before .before .before .fetch .ensures) (c .before .before .before .before .before .before .before .effect .ensures) _ _ _ (c .before .before .before .before .carry-own .ensures)
+
+pub own-step-spec : {M : Type 1} → statement M
+own-step-spec =
+    tie.close
+    (tie.spec
+    place-in-image-requires
+    byte-at-requires
+    must-wait-requires
+    returns
+    weight-requires
+    cast-cost
+    left-of-requires
+    returns-2
+    width-requires
+    cast-wrapping-add-u16
+    wrapping-add-u16-requires
+    fetch-requires
+    effect-requires
+    add-carry-own
+    carry-own-requires
+    same-length
+    same-length-2
+    returns-3)

@@ -1,0 +1,118 @@
+// A step whose command changes its own thread, its slots and the memory alone: 01 to 07, and a join that passes. It is carried out on the
+// lent words, and the caller moves the thread on in place, so that a run's loop does not copy the machine for it.
+use crate::OwnStep;
+use crate::parts::left_of;
+use crate::parts::load_word;
+use crate::parts::must_wait;
+use crate::parts::place_in_image;
+use crate::parts::store_word;
+use command::byte_at;
+use command::fetch;
+use command::weight;
+use command::width;
+use schedule::Entry;
+use stacklets::set_slot;
+use std::num::wrapping_add_u16;
+use thread::Effect;
+use thread::Thread;
+use thread::effects::effect;
+ghost use mathlib.Core.Path.{_≡_};
+ghost use Rattle.machine.specs.State.{jobOf};
+ghost use Rattle.machine.specs.Own.{steppingOf, Owned, ownBy, ownOf};
+
+// The thread that an entry steps, on a core of an open machine; 32 where there is none.
+pub fn stepping(entry: Entry, over: u8, count: u8, cores: [u8; 4]) -> u8
+    ensures { λ r. ⌜ r ≡ steppingOf over count cores entry ⌝ }
+{
+    match entry {
+        Entry::Step(c) => {
+            if over != 0 {
+                return 32;
+            }
+            if count <= c {
+                return 32;
+            }
+            if 4 <= c {
+                return 32;
+            }
+            cores[c as usize]
+        }
+        Entry::Take(_) => 32,
+        Entry::Steal(_, _) => 32,
+        Entry::Enable(_) => 32,
+    }
+}
+
+// Carries out an effect on the slots of the frame at a base and on the memory; `units` has the command's weight, and `next` is the
+// position behind it.
+fn carry_own(
+    base: u16,
+    units: u32,
+    next: u16,
+    effect: Effect,
+    parameters: &[u32],
+    words: &mut [u32],
+    memory: &mut [u32],
+) -> OwnStep
+    ensures { λ r. ⌜ Owned (ownBy base units next (now (parameters .entry)) (now (words .entry)) (now (memory .entry)) effect) r (now (words .exit)) (now (memory .exit)) ⌝ }
+{
+    match effect {
+        Effect::Sets(d, v) => {
+            set_slot(words, base, d, v);
+            OwnStep::Moved(next, units)
+        }
+        Effect::Loads(d, a) => {
+            let v = load_word(parameters, memory, a);
+            set_slot(words, base, d, v);
+            OwnStep::Moved(next, units)
+        }
+        Effect::Stores(a, v) => {
+            store_word(memory, a, v);
+            OwnStep::Moved(next, units)
+        }
+        Effect::Goes(p) => OwnStep::Moved(p, units),
+        Effect::Continues => OwnStep::Moved(next, units),
+        Effect::Joins => OwnStep::Joined(next, units),
+        Effect::Faults(_) => OwnStep::Other,
+        Effect::Lforks(_, _, _, _) => OwnStep::Other,
+        Effect::Forks(_, _, _, _) => OwnStep::Other,
+        Effect::Suspends => OwnStep::Other,
+        Effect::Yields => OwnStep::Other,
+        Effect::Returns(_) => OwnStep::Other,
+    }
+}
+
+// A thread of a machine with these units meets its next command.
+pub fn own_step(
+    th: Thread,
+    units: u32,
+    image: &[u8],
+    starts: &[u16],
+    parameters: &[u32],
+    words: &mut [u32],
+    memory: &mut [u32],
+    allowance: u32,
+) -> OwnStep
+    ensures { λ r. ⌜ Owned (ownOf (jobOf (now (image .entry)) (now (starts .entry)) (now (parameters .entry)) allowance) th units (now (words .entry)) (now (memory .entry))) r (now (words .exit)) (now (memory .exit)) ⌝ }
+{
+    let place = place_in_image(starts, th.routine, th.position);
+    let byte = byte_at(image, place);
+    if must_wait(byte, th.children) {
+        return OwnStep::Other;
+    }
+    let cost = weight(byte) as u32;
+    if left_of(allowance, units) < cost {
+        return OwnStep::Other;
+    }
+    let next = wrapping_add_u16(th.position, width(byte) as u16);
+    let window = th.window;
+    let done = effect(
+        fetch(image, place),
+        image,
+        words,
+        th.base,
+        th.pending,
+        window,
+    );
+    carry_own(th.base, units + cost, next, done, parameters, words, memory)
+}
