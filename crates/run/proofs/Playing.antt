@@ -13,9 +13,16 @@ use Rattle.schedule.specs.Format.{entryAt}
 use Rattle.schedule.specs.Meaning.{entries, entriesOf, scheduleOf}
 use Rattle.schedule.proofs.Standing.{Found-at, found}
 use Rattle.schedule.proofs.Following.{Read-of, read-entry, read-end, accepted}
-use Rattle.machine.specs.State.{Job, State, After}
+use Rattle.thread.specs.Thread.{movedTo, joinedAt}
+use Rattle.machine.specs.declared.Machine.{Machine}
+use Rattle.machine.specs.declared.OwnStep.{OwnStep}
+use Rattle.machine.specs.declared.OwnStep.the-variants.{Moved, Joined, Other}
+use Rattle.machine.specs.State.{Job, jobOf, State, After, meaning, after}
 use Rattle.machine.specs.Rules.{entryOf}
 use Rattle.machine.specs.Sound.{Sound}
+use Rattle.machine.specs.Own.{steppingOf, Owned, ownOf}
+use Rattle.machine.proofs.Way.{record-of}
+use Rattle.machine.proofs.OwnWay.{onward, own-entry}
 use Rattle.soundness.proofs.Kept.{entry-sound}
 use Rattle.run.specs.Run.{runFrom, logsFrom, logged, Playable, Played}
 
@@ -106,3 +113,26 @@ module _ (j : Job) (s₀ : State) (schedule log₀ : List ℕ) where
           state = ap (runFrom j s) (sym none) ∙ left .state;
           log = left .log ∙ ap (λ (n : ℕ). left .done ++ drop n log₀) (sym (left .many)) ∙ ap (λ (l : List ℕ). l ++ drop (length l) log₀) logs;
         }
+
+-- what is left once thread t's command has met its own step: an entry less, or nothing has changed
+abbrev pub Went : Job → State → List ℕ → List ℕ → ℕ → ℕ → List ℕ → Machine → ℕ → List ℕ → List ℕ → OwnStep → List ℕ → List ℕ → Type 0
+Went j s₀ schedule log₀ next k log m t ws ms (Moved p units) ws' ms' =
+    Left j s₀ schedule log₀ (meaning (onward m t (movedTo p (record-of m t)) units) ws' ms') next (k + 1) (set log k 0)
+Went j s₀ schedule log₀ next k log m t ws ms (Joined p units) ws' ms' =
+    Left j s₀ schedule log₀ (meaning (onward m t (joinedAt p (record-of m t)) units) ws' ms') next (k + 1) (set log k 0)
+Went j s₀ schedule log₀ next k log m t ws ms Other ws' ms' = (ws' ≡ ws) × (ms' ≡ ms)
+
+module _ (im ss ps : List ℕ) (al : ℕ) (s₀ : State) (schedule log₀ : List ℕ) (m : Machine) (ws ms : List ℕ) (at k : ℕ) (log : List ℕ)
+    (left : Left (jobOf im ss ps al) s₀ schedule log₀ (meaning m ws ms) at k log) (e : Entry) (next : ℕ) (h : entryAt schedule at ≡ Found e next)
+    (t : ℕ) (steps : t ≡ steppingOf (m .over) (m .count) (m .cores) e) (small : t < 32) where
+  -- an entry that steps thread t, by the step of its own
+  pub own-goes : (r : OwnStep) (ws' ms' : List ℕ) → Owned (ownOf (jobOf im ss ps al) (record-of m t) (m .units) ws ms) r ws' ms'
+      → Went (jobOf im ss ps al) s₀ schedule log₀ next k log m t ws ms r ws' ms'
+  unfolding after
+  own-goes (Moved p units) ws' ms' o =
+      goes (jobOf im ss ps al) s₀ schedule log₀ (meaning m ws ms) at k log left e next (after (onward m t (movedTo p (record-of m t)) units) ws' ms') h
+      (own-entry m im ss ps ws ms al (left .sound) e t steps small (Moved p units) ws' ms' o)
+  own-goes (Joined p units) ws' ms' o =
+      goes (jobOf im ss ps al) s₀ schedule log₀ (meaning m ws ms) at k log left e next (after (onward m t (joinedAt p (record-of m t)) units) ws' ms') h
+      (own-entry m im ss ps ws ms al (left .sound) e t steps small (Joined p units) ws' ms' o)
+  own-goes Other ws' ms' o = own-entry m im ss ps ws ms al (left .sound) e t steps small Other ws' ms' o

@@ -1,13 +1,15 @@
 -- `run::play::play` meets its contract. The loop's invariant: the lent words keep their lengths, and what is left of the schedule gives
 -- what the whole gives. The measure is what is left of the schedule's length. Assumes nothing.
 use Prim.Native.Nat.{_-_}
-use mathlib.Core.Path.{_≡_, refl, sym, _∙_}
+use mathlib.Core.Logic.{⊎-elim}
+use mathlib.Core.Path.{_≡_, refl, sym, _∙_, ap}
 use native.Mathlib.Omega.{arith}
 use lib.ListN.{length, length-set}
 use Rattle.schedule.proofs.Standing.{found}
 use Rattle.schedule.proofs.Following.{read-malformed}
+use Rattle.machine.specs.declared.OwnStep.the-variants.{Moved, Joined, Other}
 use Rattle.machine.specs.State.{jobOf, meaning, after}
-use Rattle.run.proofs.Playing.{Left, begins, has-room, goes, ends}
+use Rattle.run.proofs.Playing.{Left, begins, has-room, goes, own-goes, ends}
 use borrow.Author.Needs.{needs}
 use Rattle.run.proofs.play.play.Statement.{statement}
 use Rattle.run.proofs.play.play.Tie as tie
@@ -29,29 +31,125 @@ read-requires c κs = search needs
 enum-known-found : tie.Need-enum-known-found Inv-loop μ-loop
 enum-known-found c = search needs
 
-entry-requires : tie.Need-entry-requires Inv-loop μ-loop
-entry-requires c κs = c .before .before .before .before .before .before .loop .inv .3 .sound
+add-number : tie.Need-add-number Inv-loop μ-loop
+add-number c =
+    let inv = c .before .before .before .before .loop .inv in
+    let r = has-room _ _ _ _ _ _ _ _ (inv .3) _ _ (sym (c .before .before .before .read .ensures) ∙ c .before .found .given .1) in
+    omega (arith, r, c .before .before .before .before .before .before .before .before .before .before .before .before .good .1 .1 .0)
+
+stepping-requires : tie.Need-stepping-requires Inv-loop μ-loop
+stepping-requires c κs = search needs
+
+cast-k : tie.Need-cast-k Inv-loop μ-loop
+cast-k c = search needs
+
+mul-th : tie.Need-mul-th Inv-loop μ-loop
+mul-th c = search needs
+
+element-copy-out-th : tie.Need-element-copy-out-th Inv-loop μ-loop
+element-copy-out-th c = search needs
+
+own-step-requires : tie.Need-own-step-requires Inv-loop μ-loop
+own-step-requires c κs = search needs
+
+enum-known-own : tie.Need-enum-known-own Inv-loop μ-loop
+enum-known-own c = search needs
+
+mul-m : tie.Need-mul-m Inv-loop μ-loop
+mul-m c = search needs
+
+way-write-given-m : tie.Need-way-write-given-m Inv-loop μ-loop
+way-write-given-m c = search needs
 
 slice-write-log : tie.Need-slice-write-log Inv-loop μ-loop
-slice-write-log c = omega (arith, has-room _ _ _ _ _ _ _ _ (c .before .before .before .before .before .before .before .before .before .before .before .loop .inv .3) _ _ (sym (c .before .before .before .before .before .before .before .before .before .before .read .ensures) ∙ c .before .before .before .before .before .before .before .before .found .given .1), c .before .before .before .before .before .before .before .before .before .before .before .loop .inv .0)
-
-add-number : tie.Need-add-number Inv-loop μ-loop
-add-number c = omega (arith, has-room _ _ _ _ _ _ _ _ (c .before .before .before .before .before .before .before .before .before .before .before .loop .inv .3) _ _ (sym (c .before .before .before .before .before .before .before .before .before .before .read .ensures) ∙ c .before .before .before .before .before .before .before .before .found .given .1), c .before .before .before .before .before .before .before .before .before .before .before .before .before .before .before .before .before .before .before .good .1 .1 .0)
+slice-write-log c =
+    let inv = c .before .before .before .before .before .before .before .before .before .before .before .before .before .before .before .before .before .before .before .loop .inv in
+    let r = has-room _ _ _ _ _ _ _ _ (inv .3) _ _ (sym (c .before .before .before .before .before .before .before .before .before .before .before .before .before .before .before .before .before .before .read .ensures) ∙ c .before .before .before .before .before .before .before .before .before .before .before .before .before .before .before .before .found .given .1) in
+    omega (arith, r, inv .0)
 
 loop-less : tie.Need-loop-less Inv-loop μ-loop
-loop-less c = omega (arith, found _ _ _ _ (sym (c .before .before .before .before .before .before .before .before .before .before .read .ensures) ∙ c .before .before .before .before .before .before .before .before .found .given .1) .wide, found _ _ _ _ (sym (c .before .before .before .before .before .before .before .before .before .before .read .ensures) ∙ c .before .before .before .before .before .before .before .before .found .given .1) .within)
+loop-less c =
+    let f = found _ _ _ _ (sym (c .before .before .before .before .before .before .before .before .before .before .before .before .before .before .before .before .before .before .read .ensures) ∙ c .before .before .before .before .before .before .before .before .before .before .before .before .before .before .before .before .found .given .1) in
+    omega (arith, f .wide, f .within)
 
 loop-again : tie.Need-loop-again Inv-loop μ-loop
-unfolding after
-loop-again c = (
-  rw length-set (c .before .before .before .before .before .before .before .before .before .before .before .loop .inv .0),
-  c .before .before .before .before .entry .kept .1 .1 .1 .1 .1 .0 ∙ c .before .before .before .before .before .before .before .before .before .before .before .loop .inv .1,
-  c .before .before .before .before .entry .kept .1 .1 .1 .1 .1 .1 .0 ∙ c .before .before .before .before .before .before .before .before .before .before .before .loop .inv .2,
-  goes _ _ _ _ _ _ _ _ (c .before .before .before .before .before .before .before .before .before .before .before .loop .inv .3) _ _ _ (sym (c .before .before .before .before .before .before .before .before .before .before .read .ensures) ∙ c .before .before .before .before .before .before .before .before .found .given .1) (c .before .before .before .before .entry .ensures),
-)
+loop-again c =
+    let inv = c .before .before .before .before .before .before .before .before .before .before .before .before .before .before .before .before .before .before .before .loop .inv in
+    let left = own-goes _ _ _ _ _ _ _ _ _ _ _ _ _ (inv .3) _ _ (sym (c .before .before .before .before .before .before .before .before .before .before .before .before .before .before .before .before .before .before .read .ensures) ∙ c .before .before .before .before .before .before .before .before .before .before .before .before .before .before .before .before .found .given .1) _ (c .before .before .before .before .before .before .before .before .before .before .before .before .before .stepping .ensures) (c .before .before .before .before .before .before .before .before .before .before .before .before .if1 .taken) (Moved _ _) _ _ (rw (c .before .before .own .given .1) at (c .before .before .before .before .before .before .before .before .own-step .ensures)) in
+    (rw length-set (inv .0), c .before .before .before .before .before .before .before .before .own-step .kept .1 .1 .1 .1 .1 .0 ∙ inv .1, c .before .before .before .before .before .before .before .before .own-step .kept .1 .1 .1 .1 .1 .1 .0 ∙ inv .2, left)
+
+enum-known-own-2 : tie.Need-enum-known-own-2 Inv-loop μ-loop
+enum-known-own-2 c = search needs
+
+joined-at-requires : tie.Need-joined-at-requires Inv-loop μ-loop
+joined-at-requires c κs = search needs
+
+mul-t43 : tie.Need-mul-t43 Inv-loop μ-loop
+mul-t43 c = search needs
+
+element-set-from-m : tie.Need-element-set-from-m Inv-loop μ-loop
+element-set-from-m c = search needs
+
+slice-write-log-2 : tie.Need-slice-write-log-2 Inv-loop μ-loop
+slice-write-log-2 c =
+    let inv = c .before .before .before .before .before .before .before .before .before .before .before .before .before .before .before .before .before .before .before .loop .inv in
+    let r = has-room _ _ _ _ _ _ _ _ (inv .3) _ _ (sym (c .before .before .before .before .before .before .before .before .before .before .before .before .before .before .before .before .before .before .read .ensures) ∙ c .before .before .before .before .before .before .before .before .before .before .before .before .before .before .before .before .found .given .1) in
+    omega (arith, r, inv .0)
+
+loop-less-2 : tie.Need-loop-less-2 Inv-loop μ-loop
+loop-less-2 c =
+    let f = found _ _ _ _ (sym (c .before .before .before .before .before .before .before .before .before .before .before .before .before .before .before .before .before .before .read .ensures) ∙ c .before .before .before .before .before .before .before .before .before .before .before .before .before .before .before .before .found .given .1) in
+    omega (arith, f .wide, f .within)
+
+loop-again-2 : tie.Need-loop-again-2 Inv-loop μ-loop
+loop-again-2 c =
+    let inv = c .before .before .before .before .before .before .before .before .before .before .before .before .before .before .before .before .before .before .before .loop .inv in
+    let left = own-goes _ _ _ _ _ _ _ _ _ _ _ _ _ (inv .3) _ _ (sym (c .before .before .before .before .before .before .before .before .before .before .before .before .before .before .before .before .before .before .read .ensures) ∙ c .before .before .before .before .before .before .before .before .before .before .before .before .before .before .before .before .found .given .1) _ (c .before .before .before .before .before .before .before .before .before .before .before .before .before .stepping .ensures) (c .before .before .before .before .before .before .before .before .before .before .before .before .if1 .taken) (Joined _ _) _ _ (rw (c .before .before .own2 .given .1) at (c .before .before .before .before .before .before .before .before .own-step .ensures)) in
+    (rw length-set (inv .0), c .before .before .before .before .before .before .before .before .own-step .kept .1 .1 .1 .1 .1 .0 ∙ inv .1, c .before .before .before .before .before .before .before .before .own-step .kept .1 .1 .1 .1 .1 .1 .0 ∙ inv .2, rw (c .joined-at .ensures) left)
 
 enum-told : tie.Need-enum-told Inv-loop μ-loop
 enum-told c = search needs
+
+entry-requires : tie.Need-entry-requires Inv-loop μ-loop
+entry-requires c κs =
+    let inv = c .before .before .before .before .before .before .before .before .before .loop .inv in
+    let same : (c .before .before .if1 .words ≡ c .before .before .before .before .before .before .before .before .before .loop .words) × (c .before .before .if1 .memory ≡ c .before .before .before .before .before .before .before .before .before .loop .memory) =
+    ⊎-elim
+    (λ x. let o = own-goes _ _ _ _ _ _ _ _ _ _ _ _ _ (inv .3) _ _ (sym (c .before .before .before .before .before .before .before .before .read .ensures) ∙ c .before .before .before .before .before .before .found .given .1) _ (c .before .before .before .stepping .ensures) (x .0 .taken) Other _ _ (rw (x .10 .given .1) at (x .4 .ensures)) in (x .11 ∙ o .0, x .12 ∙ o .1))
+    (λ x. (x .1, x .2))
+    (c .before .before .if1 .came)
+    in
+    rw (same .0, same .1) (inv .3 .sound)
+
+slice-write-log-3 : tie.Need-slice-write-log-3 Inv-loop μ-loop
+slice-write-log-3 c =
+    let inv = c .before .before .before .before .before .before .before .before .before .before .before .before .before .before .loop .inv in
+    let r = has-room _ _ _ _ _ _ _ _ (inv .3) _ _ (sym (c .before .before .before .before .before .before .before .before .before .before .before .before .before .read .ensures) ∙ c .before .before .before .before .before .before .before .before .before .before .before .found .given .1) in
+    omega (arith, r, inv .0)
+
+loop-less-3 : tie.Need-loop-less-3 Inv-loop μ-loop
+loop-less-3 c =
+    let f = found _ _ _ _ (sym (c .before .before .before .before .before .before .before .before .before .before .before .before .before .read .ensures) ∙ c .before .before .before .before .before .before .before .before .before .before .before .found .given .1) in
+    omega (arith, f .wide, f .within)
+
+loop-again-3 : tie.Need-loop-again-3 Inv-loop μ-loop
+unfolding after
+loop-again-3 c =
+    let inv = c .before .before .before .before .before .before .before .before .before .before .before .before .before .before .loop .inv in
+    let same : (c .before .before .before .before .before .before .before .if1 .words ≡ c .before .before .before .before .before .before .before .before .before .before .before .before .before .before .loop .words) × (c .before .before .before .before .before .before .before .if1 .memory ≡ c .before .before .before .before .before .before .before .before .before .before .before .before .before .before .loop .memory) =
+    ⊎-elim
+    (λ x. let o = own-goes _ _ _ _ _ _ _ _ _ _ _ _ _ (inv .3) _ _ (sym (c .before .before .before .before .before .before .before .before .before .before .before .before .before .read .ensures) ∙ c .before .before .before .before .before .before .before .before .before .before .before .found .given .1) _ (c .before .before .before .before .before .before .before .before .stepping .ensures) (x .0 .taken) Other _ _ (rw (x .10 .given .1) at (x .4 .ensures)) in (x .11 ∙ o .0, x .12 ∙ o .1))
+    (λ x. (x .1, x .2))
+    (c .before .before .before .before .before .before .before .if1 .came)
+    in (
+      rw length-set (inv .0),
+      c .before .before .before .before .entry .kept .1 .1 .1 .1 .1 .0 ∙ ap length (same .0) ∙ inv .1,
+      c .before .before .before .before .entry .kept .1 .1 .1 .1 .1 .1 .0 ∙ ap length (same .1) ∙ inv .2,
+      goes _ _ _ _ _ _ _ _ (inv .3) _ _ _ (sym (c .before .before .before .before .before .before .before .before .before .before .before .before .before .read .ensures) ∙ c .before .before .before .before .before .before .before .before .before .before .before .found .given .1) (rw (same .0, same .1) at (c .before .before .before .before .entry .ensures)),
+    )
+
+enum-told-2 : tie.Need-enum-told-2 Inv-loop μ-loop
+enum-told-2 c = search needs
 
 same-length : tie.Need-same-length Inv-loop μ-loop
 same-length c = search needs
@@ -63,10 +161,10 @@ same-length-3 : tie.Need-same-length-3 Inv-loop μ-loop
 same-length-3 c = search needs
 
 returns : tie.Need-returns Inv-loop μ-loop
-returns c = ends _ _ _ _ _ _ _ _ (c .before .before .before .loop .inv .3) (sym (c .before .before .read .ensures) ∙ c .enum-told .given .1)
+returns c = ends _ _ _ _ _ _ _ _ (c .before .before .before .loop .inv .3) (sym (c .before .before .read .ensures) ∙ c .enum-told2 .given .1)
 
-enum-told-2 : tie.Need-enum-told-2 Inv-loop μ-loop
-enum-told-2 c = search needs
+enum-told-3 : tie.Need-enum-told-3 Inv-loop μ-loop
+enum-told-3 c = search needs
 
 same-length-4 : tie.Need-same-length-4 Inv-loop μ-loop
 same-length-4 c = search needs
@@ -78,7 +176,7 @@ same-length-6 : tie.Need-same-length-6 Inv-loop μ-loop
 same-length-6 c = search needs
 
 returns-2 : tie.Need-returns-2 Inv-loop μ-loop
-returns-2 c = absurd (read-malformed _ _ _ (c .before .before .before .loop .inv .3 .here) (sym (c .before .before .read .ensures) ∙ c .enum-told2 .given .1))
+returns-2 c = absurd (read-malformed _ _ _ (c .before .before .before .loop .inv .3 .here) (sym (c .before .before .read .ensures) ∙ c .enum-told3 .given .1))
 
 pub play-spec : {M : Type 1} → statement M
 play-spec =
@@ -89,17 +187,36 @@ play-spec =
     loop-holds
     read-requires
     enum-known-found
-    entry-requires
-    slice-write-log
     add-number
+    stepping-requires
+    cast-k
+    mul-th
+    element-copy-out-th
+    own-step-requires
+    enum-known-own
+    mul-m
+    way-write-given-m
+    slice-write-log
     loop-less
     loop-again
+    enum-known-own-2
+    joined-at-requires
+    mul-t43
+    element-set-from-m
+    slice-write-log-2
+    loop-less-2
+    loop-again-2
     enum-told
+    entry-requires
+    slice-write-log-3
+    loop-less-3
+    loop-again-3
+    enum-told-2
     same-length
     same-length-2
     same-length-3
     returns
-    enum-told-2
+    enum-told-3
     same-length-4
     same-length-5
     same-length-6
