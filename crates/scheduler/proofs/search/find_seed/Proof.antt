@@ -1,0 +1,119 @@
+-- `scheduler::search::find_seed` meets its contract. The invariants: what is left of a chain has the chain's first seed, and the cores left
+-- have the first seed of all. The measures are the links and the cores left. Assumes nothing.
+use mathlib.Core.List.{List}
+use mathlib.Core.Logic.{⊎-elim}
+use mathlib.Core.Path.{_≡_, refl, sym, _∙_}
+use Prim.Native.Nat.{ℕ, _-_, _≤_}
+use native.Mathlib.Nat.{sub-zero}
+use native.Mathlib.Omega.{arith}
+use Rattle.machine.specs.State.{jobOf, meaning}
+use Rattle.scheduler.specs.Search.{seedAbove, seedOn, seedFrom, firstSeed}
+use Rattle.scheduler.proofs.Searching.{seed-is, stops, meets, goes, empty, found, missed, absent}
+use borrow.Author.Needs.{needs}
+use Rattle.scheduler.proofs.search.find_seed.Statement.{statement}
+use Rattle.scheduler.proofs.search.find_seed.Tie as tie
+use Rattle.scheduler.proofs.search.find_seed.Reads as reads
+use Rattle.scheduler.proofs.search.find_seed.Lts as lts
+use Rattle.scheduler.proofs.search.is_seed.Reads as is-seed-reads
+use Rattle.scheduler.proofs.search.lent_parent.Reads as lent-parent-reads
+
+abbrev Inv-loop : tie.InvT-loop
+Inv-loop image starts m c t₀ links₀ t links = (links ≤ 32) × ((parameters words memory : List ℕ) (allowance : ℕ) → seedAbove links (jobOf image starts parameters allowance) (meaning m words memory) t ≡ seedOn (jobOf image starts parameters allowance) (meaning m words memory) c)
+
+abbrev μ-loop : tie.MeasureT-loop
+μ-loop image starts m c t₀ links₀ t links = links
+
+abbrev Inv-search : tie.InvT-search
+Inv-search image starts m c₀ c = (c ≤ m .count) × ((parameters words memory : List ℕ) (allowance : ℕ) → seedFrom (m .count - c) (jobOf image starts parameters allowance) (meaning m words memory) c ≡ firstSeed (jobOf image starts parameters allowance) (meaning m words memory))
+
+abbrev μ-search : tie.MeasureT-search
+μ-search image starts m c₀ c = m .count - c
+
+search-holds : tie.Need-search-holds Inv-loop μ-loop Inv-search μ-search
+unfolding meaning
+search-holds c = (omega arith, λ ps ws me al. rw sub-zero)
+
+cast-t : tie.Need-cast-t Inv-loop μ-loop Inv-search μ-search
+cast-t c = search needs
+
+element-copy-out-t : tie.Need-element-copy-out-t Inv-loop μ-loop Inv-search μ-search
+element-copy-out-t c = search needs
+
+loop-holds : tie.Need-loop-holds Inv-loop μ-loop Inv-search μ-search
+unfolding meaning
+loop-holds c = (omega arith, λ ps ws me al. refl)
+
+cast-h : tie.Need-cast-h Inv-loop μ-loop Inv-search μ-search
+cast-h c = search needs
+
+mul-h : tie.Need-mul-h Inv-loop μ-loop Inv-search μ-search
+mul-h c = search needs
+
+element-copy-out-h : tie.Need-element-copy-out-h Inv-loop μ-loop Inv-search μ-search
+element-copy-out-h c = search needs
+
+is-seed-requires : tie.Need-is-seed-requires Inv-loop μ-loop Inv-search μ-search
+is-seed-requires c κs = search needs
+
+lent-parent-requires : tie.Need-lent-parent-requires Inv-loop μ-loop Inv-search μ-search
+lent-parent-requires c κs = search needs
+
+sub-links : tie.Need-sub-links Inv-loop μ-loop Inv-search μ-search
+sub-links c = search needs
+
+loop-less : tie.Need-loop-less Inv-loop μ-loop Inv-search μ-search
+loop-less c = search needs
+
+loop-again : tie.Need-loop-again Inv-loop μ-loop Inv-search μ-search
+unfolding meaning
+loop-again c = (
+  omega arith,
+  λ ps ws me al. goes _ _ _ (c .before .before .before .before .before .before .loop .t) _ (omega arith) (omega arith) (seed-is _ _ _ _ (omega arith) (sym (c .before .if3 .left) ∙ c .before .before .is-seed .ensures)) (c .lent-parent .ensures) ∙ c .before .before .before .before .before .before .loop .inv .1 ps ws me al,
+)
+
+add-c : tie.Need-add-c Inv-loop μ-loop Inv-search μ-search
+add-c c = search needs
+
+search-less : tie.Need-search-less Inv-loop μ-loop Inv-search μ-search
+search-less c = search needs
+
+search-again : tie.Need-search-again Inv-loop μ-loop Inv-search μ-search
+unfolding meaning
+search-again c = (
+  omega arith,
+  λ ps ws me al. missed _ _ _ (c .before .before .before .before .search .c) _ (omega arith) (sym (c .before .loop .inv .1 ps ws me al) ∙ ⊎-elim (λ w. empty _ _ _ _ (w .left)) (λ w. stops _ _ _ _ (w .1 .taken)) (c .loop-test .came)) ∙ c .before .before .before .before .search .inv .1 ps ws me al,
+)
+
+returns : tie.Need-returns Inv-loop μ-loop Inv-search μ-search
+unfolding meaning
+returns c = λ ps ws me al. sym (absent _ _ _ (c .before .search .c) (omega arith)) ∙ c .before .search .inv .1 ps ws me al
+
+returns-2 : tie.Need-returns-2 Inv-loop μ-loop Inv-search μ-search
+unfolding meaning
+returns-2 c = λ ps ws me al. sym (found _ _ _ (c .before .before .before .before .before .before .before .before .search .c) _ (omega arith) (sym (meets _ _ _ _ (omega arith) (omega arith) (seed-is _ _ _ _ (omega arith) (sym (c .if3 .taken) ∙ c .before .is-seed .ensures))) ∙ c .before .before .before .before .before .loop .inv .1 ps ws me al) (omega arith)) ∙ c .before .before .before .before .before .before .before .before .search .inv .1 ps ws me al
+
+pub find-seed-spec : {M : Type 1} → statement M
+find-seed-spec =
+    tie.close
+    (tie.spec
+    Inv-loop
+    μ-loop
+    Inv-search
+    μ-search
+    search-holds
+    cast-t
+    element-copy-out-t
+    loop-holds
+    cast-h
+    mul-h
+    element-copy-out-h
+    is-seed-requires
+    lent-parent-requires
+    sub-links
+    loop-less
+    loop-again
+    add-c
+    search-less
+    search-again
+    returns
+    returns-2)

@@ -1,0 +1,47 @@
+-- What `run` promises.
+use mathlib.Core.Bool.{true}
+use mathlib.Core.List.{List, []}
+use mathlib.Core.Path.{_≡_}
+use Prim.Native.Nat.{ℕ}
+use lib.ListN.{length}
+use Rattle.schedule.specs.Meaning.{entries, scheduleOf}
+use Rattle.machine.specs.Lists.{Every}
+use Rattle.machine.specs.State.{meaning}
+use Rattle.run.specs.declared.RunAnswer.the-variants.{Refused}
+use Rattle.run.specs.Run.{Input, jobIn, startIn, runFrom, logsFrom, refusalOf, answerOf, numberOfAnswer}
+use Rattle.run.specs.Demands.{Demand3}
+use Rattle.scheduler.specs.declared.Scheduled.{Scheduled}
+use Rattle.scheduler.specs.Rounds.{Progress, isWritten, scheduledOf, bytesOfAll, filled}
+
+-- 23, the image's, 24 and 25, this of the words only: the tests of a run by the empty schedule, which needs no log
+abbrev pub refusalIn : Input → ℕ
+refusalIn i = refusalOf i [] []
+
+-- a run that is refused: its number alone, and nothing written; the machine beside it is as at Start
+pub record IsRefused (i : Input) (n : ℕ) (before : List ℕ) (r : Scheduled) (memoryAfter after : List ℕ) : Type 0 where
+  pub answer : r .answer ≡ Refused n
+  pub number : numberOfAnswer (r .answer) ≡ n
+  pub memory : memoryAfter ≡ i .memory
+  pub buffer : after ≡ before
+  pub used : r .used ≡ 0
+  pub machine : meaning (r .machine) (r .words) memoryAfter ≡ startIn i
+
+-- the run of the scheduler: its state and its entries, which are written to the buffer's front
+pub record IsScheduled (p : Progress) (before : List ℕ) (r : Scheduled) (memoryAfter after : List ℕ) : Type 0 where
+  pub answer : r .answer ≡ answerOf (p .state .outcome) (p .state .units)
+  pub memory : memoryAfter ≡ p .state .memory
+  pub machine : meaning (r .machine) (r .words) memoryAfter ≡ p .state
+  pub buffer : after ≡ filled before (p .written)
+  pub used : r .used ≡ length (bytesOfAll (p .written))
+
+-- "and equals the run by them": the bytes are a schedule, the run by it ends in the same state, and each of its entries is accepted or faults
+pub record EqualsRun (i : Input) (p : Progress) : Type 0 where
+  pub means : scheduleOf (bytesOfAll (p .written)) ≡ entries (p .written)
+  pub state : runFrom (jobIn i) (startIn i) (p .written) ≡ p .state
+  pub logs : Every (λ n. isWritten n ≡ true) (logsFrom (jobIn i) (startIn i) (p .written))
+  pub demand : Demand3 i (p .state)
+
+pub record Promise (i : Input) (before : List ℕ) (r : Scheduled) (memoryAfter after : List ℕ) : Type 0 where
+  pub refused : (refusalIn i ≡ 0 → ⊥) → IsRefused i (refusalIn i) before r memoryAfter after
+  pub scheduled : refusalIn i ≡ 0 → IsScheduled (scheduledOf i (length before)) before r memoryAfter after
+  pub equals : refusalIn i ≡ 0 → EqualsRun i (scheduledOf i (length before))

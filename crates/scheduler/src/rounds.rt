@@ -1,0 +1,128 @@
+// The rounds: each core in turn tries an entry, and what is accepted or faults is written.
+use crate::search::idle_choice;
+use crate::search::lowest_suspended;
+use machine::Machine;
+use schedule::Entry;
+use schedule::Written;
+ghost use mathlib.Core.Bool.{_||_};
+ghost use mathlib.Core.Path.{_≡_};
+ghost use Prim.Native.Nat.{_+_, _≤_};
+ghost use lib.Dec.{eqb};
+ghost use lib.ListN.{length};
+ghost use Rattle.machine.specs.State.{jobOf, meaning};
+ghost use Rattle.machine.specs.Sound.{Sound};
+ghost use Rattle.scheduler.specs.Rounds.{isWritten, usable};
+ghost use Rattle.scheduler.specs.Steps.{Keeps, Rounded};
+
+// The most bytes of a buffer that are used.
+const MOST: usize = 32768;
+
+// The machine after the rounds, and how many bytes of the buffer its entries have.
+pub struct End {
+    pub machine: Machine,
+    pub used: usize,
+}
+
+// Is an entry with this log byte accepted, or does it fault?
+fn is_written(log: u8) -> bool
+    ensures { λ r. ⌜ r ≡ isWritten log ⌝ }
+{
+    if log == 0 {
+        return true;
+    }
+    if log < 9 {
+        return false;
+    }
+    log <= 12
+}
+
+// Was an entry of this round accepted, the last one with this log byte?
+fn is_moved(moved: bool, log: u8) -> bool
+    ensures { λ r. ⌜ r ≡ (moved || eqb log 0) ⌝ }
+{
+    if moved {
+        return true;
+    }
+    log == 0
+}
+
+// How many bytes of a buffer are used.
+fn usable_of(length: usize) -> usize
+    ensures { λ r. ⌜ r ≡ usable length ⌝ }
+{
+    if length < MOST {
+        return length;
+    }
+    MOST
+}
+
+// Writes an entry that is accepted or faults; gives the position behind it.
+fn keep(entry: Entry, log: u8, buffer: &mut [u8], at: usize) -> usize
+    requires { ⌜ at + 3 ≤ length (now buffer) ⌝ }
+    ensures { λ r. ⌜ Keeps entry log (now (buffer .entry)) at r (now (buffer .exit)) ⌝ }
+{
+    if !is_written(log) {
+        return at;
+    }
+    let written = schedule::write(entry, buffer, at);
+    match written {
+        Written::Bytes(many) => at + many,
+        Written::NoRoom => at,
+    }
+}
+
+// Rounds until the machine is over, the buffer is used up or nothing can be enabled.
+pub fn play_rounds(
+    start: Machine,
+    image: &[u8],
+    starts: &[u16],
+    parameters: &[u32],
+    words: &mut [u32],
+    memory: &mut [u32],
+    allowance: u32,
+    buffer: &mut [u8],
+) -> End
+    requires { ⌜ Sound (jobOf (now image) (now starts) (now parameters) allowance) (meaning start (now words) (now memory)) ⌝ }
+    ensures { λ r. ⌜ Rounded (jobOf (now (image .entry)) (now (starts .entry)) (now (parameters .entry)) allowance) (meaning start (now (words .entry)) (now (memory .entry))) (now (buffer .entry)) (meaning (r .machine) (now (words .exit)) (now (memory .exit))) (r .used) (now (buffer .exit)) ⌝ }
+{
+    let count = start.count;
+    let room = usable_of(buffer.len());
+    let mut m = start;
+    let mut at: usize = 0;
+    loop {
+        let mut moved = false;
+        let mut c: u8 = 0;
+        while c < count {
+            if m.over != 0 {
+                return End { machine: m, used: at };
+            }
+            if room - at < 3 {
+                return End { machine: m, used: at };
+            }
+            let mut entry = Entry::Step(c);
+            if 32 <= m.cores[c as usize] {
+                entry = idle_choice(m, c, image, starts);
+            }
+            m = m.entry(entry, image, starts, parameters, words, memory, allowance);
+            at = keep(entry, m.log, buffer, at);
+            moved = is_moved(moved, m.log);
+            c = c + 1;
+        }
+        if m.over != 0 {
+            return End { machine: m, used: at };
+        }
+        if room - at < 3 {
+            return End { machine: m, used: at };
+        }
+        if moved {
+            continue;
+        }
+        let t = lowest_suspended(m.threads);
+        if 32 <= t {
+            return End { machine: m, used: at };
+        }
+        let enable = Entry::Enable(t);
+        m = m.entry(enable, image, starts, parameters, words, memory, allowance);
+        at = keep(enable, m.log, buffer, at);
+    }
+}

@@ -1,0 +1,112 @@
+// What a core tries, and which thread is enabled.
+use command::byte_at;
+use machine::Machine;
+use schedule::Entry;
+use thread::Status;
+use thread::Thread;
+use thread::record::same_status;
+ghost use mathlib.Core.Bool.{_&&_, _||_};
+ghost use mathlib.Core.List.{List};
+ghost use mathlib.Core.Path.{_≡_};
+ghost use Prim.Native.Nat.{ℕ, _+_, _≤_};
+ghost use lib.Dec.{eqb};
+ghost use lib.ListN.{getD};
+ghost use Rattle.thread.specs.declared.Status.the-variants.{Lent};
+ghost use Rattle.thread.specs.Thread.{_is_};
+ghost use Rattle.machine.specs.State.{jobOf, meaning};
+ghost use Rattle.scheduler.specs.Search.{lentParent, firstSeed, idleChoice, suspendedFrom};
+
+// No thread.
+const NONE: u8 = 32;
+
+// The lent parent of a connected thread.
+fn lent_parent(h: Thread) -> u8
+    ensures { λ r. ⌜ r ≡ lentParent h ⌝ }
+{
+    if h.connected {
+        return h.parent;
+    }
+    NONE
+}
+
+// Where a position of routine r stands in the image.
+fn place_of(starts: &[u16], r: u8, position: u16) -> usize
+    ensures { λ n. ⌜ n ≡ getD (now (starts .entry)) r 0 + position ⌝ }
+{
+    let i = r as usize;
+    if i < starts.len() {
+        return (starts[i] as usize) + (position as usize);
+    }
+    position as usize
+}
+
+// Is a thread with this record lent, its next command an 08 or 09?
+fn is_seed(h: Thread, image: &[u8], starts: &[u16]) -> bool
+    ensures { λ r. ⌜ r ≡ (h .status is Lent && (eqb (getD (now (image .entry)) (getD (now (starts .entry)) (h .routine) 0 + h .position) 0) 8 || eqb (getD (now (image .entry)) (getD (now (starts .entry)) (h .routine) 0 + h .position) 0) 9)) ⌝ }
+{
+    let status = h.status;
+    if !same_status(status, Status::Lent) {
+        return false;
+    }
+    let byte = byte_at(image, place_of(starts, h.routine, h.position));
+    if byte == 8 {
+        return true;
+    }
+    byte == 9
+}
+
+// The first seed on the cores' chains of lent parents, from core 0 on.
+fn find_seed(m: Machine, image: &[u8], starts: &[u16]) -> u8
+    requires { ⌜ m .count ≤ 4 ⌝ }
+    ensures { λ r. ⌜ ((parameters words memory : List ℕ) (allowance : ℕ) → r ≡ firstSeed (jobOf (now (image .entry)) (now (starts .entry)) parameters allowance) (meaning m words memory)) ⌝ }
+{
+    let mut c: u8 = 0;
+    let found = 'search: loop {
+        if m.count <= c {
+            break NONE;
+        }
+        let mut t = m.cores[c as usize];
+        let mut links: u8 = 32;
+        while 0 < links {
+            if NONE <= t {
+                break;
+            }
+            let h = m.threads[t as usize];
+            if is_seed(h, image, starts) {
+                break 'search t;
+            }
+            t = lent_parent(h);
+            links = links - 1;
+        }
+        c = c + 1;
+    };
+    found
+}
+
+// What an idle core c tries.
+pub fn idle_choice(m: Machine, c: u8, image: &[u8], starts: &[u16]) -> Entry
+    requires { ⌜ m .count ≤ 4 ⌝ }
+    ensures { λ r. ⌜ ((parameters words memory : List ℕ) (allowance : ℕ) → r ≡ idleChoice (jobOf (now (image .entry)) (now (starts .entry)) parameters allowance) (meaning m words memory) c) ⌝ }
+{
+    let ready = m.ready;
+    if 0 < ready.len() {
+        return Entry::Take(c);
+    }
+    Entry::Steal(c, find_seed(m, image, starts))
+}
+
+// The lowest suspended thread.
+pub fn lowest_suspended(threads: [Thread; 32]) -> u8
+    ensures { λ r. ⌜ r ≡ suspendedFrom 32 threads 0 ⌝ }
+{
+    let mut t: u8 = 0;
+    while t < NONE {
+        let h = threads[t as usize];
+        let status = h.status;
+        if same_status(status, Status::Suspended) {
+            return t;
+        }
+        t = t + 1;
+    }
+    NONE
+}
