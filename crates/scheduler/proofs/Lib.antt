@@ -4,3 +4,5 @@ pub mod Keeping
 pub mod Refusing
 pub mod Trying
 pub mod Rounding
+pub mod Equalling
+pub mod Promising

@@ -7,7 +7,16 @@ use lib.ListN.{length, take, drop}
 use Rattle.schedule.specs.declared.Entry.{Entry}
 use Rattle.schedule.specs.Format.{bytesOf}
 use Rattle.machine.specs.State.{Job, State}
+use Rattle.run.specs.declared.RunAnswer.{RunAnswer}
+use Rattle.run.specs.declared.RunAnswer.the-variants.{Refused, Finished, Faulted, Open}
 use Rattle.scheduler.specs.Rounds.{isWritten, scheduledFrom, bytesOfAll, filled}
+
+-- the number of a refused run, 0 of another
+abbrev pub refusedBy : RunAnswer → ℕ
+refusedBy (Refused n) = n
+refusedBy (Finished v units) = 0
+refusedBy (Faulted n t o) = 0
+refusedBy (Open units) = 0
 
 -- what is written of an entry with a log byte: its bytes, or nothing where it is refused
 abbrev pub bytesKept : Entry → ℕ → List ℕ

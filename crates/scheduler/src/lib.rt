@@ -5,6 +5,7 @@ mod rounds;
 mod search;
 
 use crate::answer::answer;
+use crate::answer::refused_by;
 use crate::rounds::play_rounds;
 use machine::Machine;
 use run::RunAnswer;
@@ -49,50 +50,33 @@ pub fn run(
     let machine = started.machine;
     let mut words = started.words;
     let first = started.answer;
-    match first {
-        RunAnswer::Refused(number) => Scheduled {
+    let number = refused_by(first);
+    if number != 0 {
+        return Scheduled {
             answer: RunAnswer::Refused(number),
             machine,
             words,
             used: 0,
-        },
-        RunAnswer::Finished { result, units } => Scheduled {
-            answer: first,
-            machine,
-            words,
-            used: 0,
-        },
-        RunAnswer::Faulted {
-            number,
-            thread,
-            offset,
-        } => Scheduled {
-            answer: first,
-            machine,
-            words,
-            used: 0,
-        },
-        RunAnswer::Open { units } => {
-            let checked = image::check(image);
-            let program = checked.program;
-            let starts = program.starts();
-            let end = play_rounds(
-                machine,
-                image,
-                &starts,
-                parameters,
-                &mut words,
-                memory,
-                allowance,
-                buffer,
-            );
-            let last = end.machine;
-            Scheduled {
-                answer: answer(last),
-                machine: last,
-                words,
-                used: end.used,
-            }
-        }
+        };
+    }
+    let checked = image::check(image);
+    let program = checked.program;
+    let starts = program.starts();
+    let end = play_rounds(
+        machine,
+        image,
+        &starts,
+        parameters,
+        &mut words,
+        memory,
+        allowance,
+        buffer,
+    );
+    let last = end.machine;
+    Scheduled {
+        answer: answer(last),
+        machine: last,
+        words,
+        used: end.used,
     }
 }

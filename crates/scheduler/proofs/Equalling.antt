@@ -1,0 +1,113 @@
+-- The scheduler's run equals the run by the entries that it wrote. Assumes nothing.
+use borrow.Author.Tests.{leb-true}
+use mathlib.Core.Bool.{Bool, true, false, cond, not}
+use mathlib.Core.List.{List, [], _∷_, _++_}
+use mathlib.Core.Path.{_≡_, refl, sym, _∙_, ap, subst}
+use Prim.Native.Nat.{ℕ, zero, suc, _+_, _≤_, _<_}
+use native.Mathlib.Nat.{zero-add}
+use native.Mathlib.Omega.{arith}
+use lib.Dec.{leb}
+use lib.ListN.{getD, length, length-append}
+use Rattle.schedule.specs.declared.Entry.{Entry}
+use Rattle.schedule.specs.declared.Entry.the-variants.{Enable}
+use Rattle.schedule.specs.Format.{bytesOf}
+use Rattle.schedule.specs.Meaning.{entries, scheduleOf}
+use Rattle.schedule.proofs.Following.{allBytes, accepts-short}
+use Rattle.machine.specs.Lists.{Every}
+use Rattle.machine.specs.State.{Job, State, isOver}
+use Rattle.machine.specs.Rules.{entryOf}
+use Rattle.run.specs.Run.{Input, jobIn, startIn, runFrom, logsFrom}
+use Rattle.run.specs.Demands.{Demand3}
+use Rattle.soundness.proofs.EntryCases.{and-true}
+use Rattle.run.proofs.Demands.{demand-3}
+use Rattle.run.proofs.Passing.{takes}
+use Rattle.scheduler.proofs.Keeping.{short}
+use Rattle.scheduler.proofs.Trying.{bytes-snoc}
+use Rattle.scheduler.specs.Search.{choiceOf, lowestSuspended}
+use Rattle.scheduler.specs.Rounds.{Progress, isWritten, mayTry, recorded, tried, turns, fresh, round, goesOn, wakened, rounds, usable, beginning, scheduledOf, bytesOfAll}
+use Rattle.scheduler.specs.Promise.{refusalIn, EqualsRun}
+
+module _ (j : Job) where
+  run-snoc : (s : State) (es : List Entry) (e : Entry) → runFrom j s (es ++ (e ∷ [])) ≡ entryOf j (runFrom j s es) e .state
+  unfolding runFrom
+  run-snoc s [] e = refl
+  run-snoc s (d ∷ es) e = run-snoc (entryOf j s d .state) es e
+
+  logs-snoc : (P : ℕ → Type 0) (s : State) (es : List Entry) (e : Entry) → Every P (logsFrom j s es) → P (entryOf j (runFrom j s es) e .log)
+      → Every P (logsFrom j s (es ++ (e ∷ [])))
+  unfolding runFrom logsFrom
+  logs-snoc P s [] e h k = (k, tt)
+  logs-snoc P s (d ∷ es) e h k = (h .0, logs-snoc P (entryOf j s d .state) es e (h .1) k)
+
+  -- the entries written lead to the state, and their bytes were in the buffer
+  pub record Ran (s₀ : State) (room : ℕ) (p : Progress) : Type 0 where
+    pub runs : runFrom j s₀ (p .written) ≡ p .state
+    pub logs : Every (λ n. isWritten n ≡ true) (logsFrom j s₀ (p .written))
+    pub fits : length (bytesOfAll (p .written)) + p .left ≡ room
+
+  module _ (s₀ : State) (room : ℕ) where
+    ran-recorded : (p : Progress) → Ran s₀ room p → 3 ≤ p .left → (e : Entry) (b : Bool) → isWritten (entryOf j (p .state) e .log) ≡ b
+        → Ran s₀ room (recorded e (entryOf j (p .state) e) p)
+    unfolding recorded
+    ran-recorded p r l e true h =
+        rw h
+        (record {
+          runs = run-snoc s₀ (p .written) e ∙ ap (λ (x : State). entryOf j x e .state) (r .runs);
+          logs = logs-snoc (λ n. isWritten n ≡ true) s₀ (p .written) e (r .logs) (ap (λ (x : State). isWritten (entryOf j x e .log)) (r .runs) ∙ h);
+          fits = rw (bytes-snoc, length-append) (omega (arith, r .fits, short e));
+        })
+    ran-recorded p r l e false h = rw h r
+
+    -- one of two, the first only where a test is met
+    either : (b : Bool) (p q : Progress) → (b ≡ true → Ran s₀ room p) → Ran s₀ room q → Ran s₀ room (cond b p q)
+    either true p q x y = x refl
+    either false p q x y = y
+
+    ran-tried : (p : Progress) → Ran s₀ room p → (e : Entry) → Ran s₀ room (tried j e p)
+    unfolding tried
+    ran-tried p r e =
+        either (mayTry p) (recorded e (entryOf j (p .state) e) p) p
+        (λ h. ran-recorded p r (leb-true 3 (p .left) (and-true (not (isOver (p .state .outcome))) (leb 3 (p .left)) h .1)) e _ refl)
+        r
+
+    ran-turns : (n c : ℕ) (p : Progress) → Ran s₀ room p → Ran s₀ room (turns n j c p)
+    unfolding turns
+    ran-turns zero c p r = r
+    ran-turns (suc n) c p r = ran-turns n (suc c) (tried j (choiceOf j (p .state) c) p) (ran-tried p r (choiceOf j (p .state) c))
+
+    ran-round : (p : Progress) → Ran s₀ room p → Ran s₀ room (round j p)
+    ran-round p r = ran-turns (p .state .count) 0 (fresh p) (record { runs = r .runs; logs = r .logs; fits = r .fits })
+
+    ran-wakened : (p : Progress) → Ran s₀ room p → Ran s₀ room (wakened j p)
+    unfolding wakened
+    ran-wakened p r = either (p .moved) p (tried j (Enable (lowestSuspended (p .state))) p) (λ h. r) (ran-tried p r (Enable (lowestSuspended (p .state))))
+
+    pub ran-rounds : (n : ℕ) (p : Progress) → Ran s₀ room p → Ran s₀ room (rounds n j p)
+    unfolding rounds
+    ran-rounds zero p r = r
+    ran-rounds (suc n) p r =
+        let q = ran-round p r in
+        let next = ran-rounds n (wakened j (round j p)) (ran-wakened (round j p) q) in
+        either (goesOn (round j p)) (rounds n j (wakened j (round j p))) (round j p) (λ h. next) q
+
+bytes-all : (es : List Entry) → bytesOfAll es ≡ allBytes es
+unfolding bytesOfAll allBytes
+bytes-all [] = refl
+bytes-all (e ∷ es) = ap (λ (l : List ℕ). bytesOf e ++ l) (bytes-all es)
+
+module _ (i : Input) (size : ℕ) where
+  whole : Ran (jobIn i) (startIn i) (usable size) (scheduledOf i size)
+  unfolding runFrom logsFrom bytesOfAll
+  whole = ran-rounds (jobIn i) (startIn i) (usable size) (suc (usable size)) (beginning (startIn i) size)
+      (record { runs = refl; logs = tt; fits = zero-add (usable size) })
+
+  pub equals : refusalIn i ≡ 0 → ((k : ℕ) → getD (i .image) k 0 < 256) → EqualsRun i (scheduledOf i size)
+  equals passes bytes =
+      let es = scheduledOf i size .written in
+      let few : length (allBytes es) ≤ 32768 = rw (← bytes-all es) (omega (arith, whole .fits)) in
+      record {
+        means = rw (bytes-all es) (accepts-short es few);
+        state = whole .runs;
+        logs = whole .logs;
+        demand = subst (Demand3 i) (whole .runs) (demand-3 i (takes i [] [] passes bytes) es);
+      }
