@@ -122,8 +122,7 @@ module _ (j : Job) (count room : ℕ) where
         → (q : Progress) × At room first q (a .state) next after (m || eqb (a .log) 0) × (turns (count - (c + 1)) j (c + 1) q ≡ turns count j 0 p)
     goes-on first p h =
         let y = turning .follows first p h in
-        let same : e ≡ choiceOf j (y .0 .state) c = choice ∙ ap (λ (x : State). choiceOf j x c) (sym (y .1 .state)) in
-        (
+        let same : e ≡ choiceOf j (y .0 .state) c = choice ∙ ap (λ (x : State). choiceOf j x c) (sym (y .1 .state)) in (
           tried j e (y .0),
           tries j room first (y .0) s at buffer m (y .1) e a gives next after k ongoing three,
           ap (λ (d : Entry). turns (count - (c + 1)) j (c + 1) (tried j d (y .0))) same

@@ -17,6 +17,9 @@ ghost use Rattle.scheduler.specs.Steps.{Keeps, Rounded};
 // The most bytes of a buffer that are used.
 const MOST: usize = 32768;
 
+// The bytes that must be left before a try.
+const LEAST: usize = 3;
+
 // The machine after the rounds, and how many bytes of the buffer its entries have.
 pub struct End {
     pub machine: Machine,
@@ -94,10 +97,16 @@ pub fn play_rounds(
         let mut c: u8 = 0;
         while c < count {
             if m.over != 0 {
-                return End { machine: m, used: at };
+                return End {
+                    machine: m,
+                    used: at,
+                };
             }
-            if room - at < 3 {
-                return End { machine: m, used: at };
+            if room - at < LEAST {
+                return End {
+                    machine: m,
+                    used: at,
+                };
             }
             let mut entry = Entry::Step(c);
             if 32 <= m.cores[c as usize] {
@@ -109,17 +118,26 @@ pub fn play_rounds(
             c = c + 1;
         }
         if m.over != 0 {
-            return End { machine: m, used: at };
+            return End {
+                machine: m,
+                used: at,
+            };
         }
-        if room - at < 3 {
-            return End { machine: m, used: at };
+        if room - at < LEAST {
+            return End {
+                machine: m,
+                used: at,
+            };
         }
         if moved {
             continue;
         }
         let t = lowest_suspended(m.threads);
         if 32 <= t {
-            return End { machine: m, used: at };
+            return End {
+                machine: m,
+                used: at,
+            };
         }
         let enable = Entry::Enable(t);
         m = m.entry(enable, image, starts, parameters, words, memory, allowance);
