@@ -1,0 +1,594 @@
+//! Inputs for the differential tests: jobs that behave, jobs with a slip in them, random code, and damaged input of every kind.
+
+use crate::assemble::{image, Code, Routine};
+use crate::peer::command::*;
+use crate::peer::image::check;
+use crate::peer::machine::{Job, Machine, Status, IDLE};
+use crate::peer::plain::plain;
+use crate::peer::run::Fed;
+use crate::peer::PlainAnswer;
+use crate::random::Random;
+
+/// Everything that a run is fed.
+#[derive(Clone)]
+pub struct Case {
+    pub image: Vec<u8>,
+    pub cores: u8,
+    pub arguments: Vec<u32>,
+    pub parameters: Vec<u32>,
+    pub memory: Vec<u32>,
+    pub allowance: u32,
+}
+
+impl Case {
+    pub fn fed(&self) -> Fed<'_> {
+        Fed {
+            image: &self.image,
+            cores: self.cores,
+            arguments: &self.arguments,
+            parameters: &self.parameters,
+            allowance: self.allowance,
+        }
+    }
+}
+
+/// A window value that is near an edge or anywhere.
+fn edge(random: &mut Random) -> u16 {
+    match random.below(4) {
+        0 => random.pick(&[0, 31, 32, 33, 1023, 1024, 1025, 65535]),
+        1 => random.below(32) as u16,
+        2 => random.range(32, 1024) as u16,
+        _ => random.below(1100) as u16,
+    }
+}
+
+fn fork_byte(random: &mut Random) -> u8 {
+    random.pick(&[LFORK, LFORK, FORK])
+}
+
+/// Filler that does no harm: `spare` is a slot that nobody else uses.
+fn filler(random: &mut Random, code: &mut Code, spare: u8, lazy: u64) {
+    match random.below(8) {
+        0 => code.set(spare, random.below(65536) as u16),
+        1 => code.add(spare, spare, spare),
+        2 => code.subtract(spare, spare, spare),
+        3 => {
+            code.set(spare, random.below(32) as u16);
+            code.load(spare, spare);
+        }
+        4 if random.one_in(lazy) => code.suspend(),
+        5 if random.one_in(lazy) => code.yields(),
+        6 if random.one_in(2) => code.go(code.here() + 3),
+        _ => {}
+    }
+}
+
+/// A slip: a command that faults at some orders or all.
+fn slip(random: &mut Random, code: &mut Code, slots: u8) {
+    let any = |random: &mut Random| random.below(slots as u64) as u8;
+    match random.below(6) {
+        0 => {
+            let a = any(random);
+            code.returns(a);
+        }
+        1 => {
+            let (d, a, b) = (any(random), any(random), any(random));
+            code.add(d, a, b);
+        }
+        2 => {
+            let (a, b) = (any(random), any(random));
+            code.set(a, edge(random));
+            code.store(a, b);
+        }
+        3 => {
+            let (d, a) = (any(random), any(random));
+            code.set(a, edge(random));
+            code.load(d, a);
+        }
+        4 => {
+            let d = any(random);
+            code.set(d, edge(random));
+        }
+        _ => code.join(),
+    }
+}
+
+/// A tree of calls, a routine for each level: each cuts its window into parts for its children, joins them and adds up what they return.
+/// Slots: 0 lo, 1 data, 2 cut, 3 part, 4 and 5 arguments, 6 spare, 7 on results, the last one a count of rounds.
+fn tree(random: &mut Random, slips: bool) -> Vec<u8> {
+    let levels = random.range(1, 4) as u8;
+    let lazy = random.pick(&[1, 2, 8, 1000]);
+    let mut size = 992u16;
+    let mut routines = Vec::new();
+    for level in 0..levels {
+        let children = random.range(1, 5) as u8;
+        let slots = random.range(8 + children as u64, 16) as u8;
+        let part = size / (children as u16 + 1);
+        let mut code = Code::default();
+        if level == 0 {
+            code.set(0, 32);
+        }
+        let rounds = slots - 1;
+        code.set(rounds, random.range(1, 3) as u16);
+        code.set(3, part);
+        let again = code.here();
+        filler(random, &mut code, 6, lazy);
+        for child in 0..children {
+            code.set(5, 0);
+            code.add(4, if child == 0 { 0 } else { 2 }, 5);
+            code.set(5, random.below(40) as u16);
+            code.add(2, 4, 3);
+            if slips && random.one_in(12) {
+                slip(random, &mut code, slots);
+            }
+            code.fork(fork_byte(random), level + 1, 7 + child, 4, 2);
+            filler(random, &mut code, 6, lazy);
+            if random.one_in(3) {
+                code.store(2, 6);
+                code.load(6, 2);
+            }
+        }
+        filler(random, &mut code, 6, lazy);
+        code.join();
+        code.set(5, 0);
+        for child in 0..children {
+            code.add(5, 5, 7 + child);
+        }
+        if random.one_in(2) {
+            code.load(6, 0);
+            code.add(5, 5, 6);
+            code.store(0, 5);
+        }
+        code.set(6, 1);
+        code.subtract(rounds, rounds, 6);
+        let out = code.if_zero(rounds);
+        code.go(again);
+        code.land(out);
+        code.returns(5);
+        routines.push(Routine { slots, arguments: if level == 0 { 0 } else { 2 }, code: code.bytes });
+        size = part;
+    }
+    routines.push(leaf(random, lazy, slips));
+    image(&routines)
+}
+
+/// Slots: 0 lo, 1 a count, 2 one, 3 a sum.
+fn leaf(random: &mut Random, lazy: u64, slips: bool) -> Routine {
+    let slots = random.range(4, 16) as u8;
+    let mut code = Code::default();
+    code.set(2, 1);
+    if random.one_in(2) {
+        code.load(3, 0);
+    }
+    let again = code.here();
+    let out = code.if_zero(1);
+    code.subtract(1, 1, 2);
+    code.add(3, 3, 2);
+    if random.one_in(3) {
+        code.store(0, 3);
+    }
+    code.go(again);
+    code.land(out);
+    if random.one_in(lazy) {
+        if random.one_in(2) { code.suspend() } else { code.yields() }
+    }
+    if slips && random.one_in(6) {
+        slip(random, &mut code, slots);
+    }
+    code.returns(3);
+    Routine { slots, arguments: 2, code: code.bytes }
+}
+
+/// Routine 0 of a count: it calls itself of one less, once or more, in no window or in all of it.
+fn deep(random: &mut Random) -> (Vec<u8>, Vec<u32>) {
+    let calls = random.pick(&[1, 1, 1, 2]);
+    let slots = random.range(5 + calls as u64, 16) as u8;
+    let mut code = Code::default();
+    let out = code.if_zero(0);
+    code.set(1, 1);
+    code.subtract(0, 0, 1);
+    code.set(2, random.pick(&[32, 32, 32, 1024]));
+    let lazy = random.one_in(2);
+    for call in 0..calls {
+        code.fork(fork_byte(random), 0, 3 + call, 0, 2);
+        if lazy && random.one_in(2) {
+            if random.one_in(2) { code.suspend() } else { code.yields() }
+        }
+    }
+    code.join();
+    for call in 0..calls {
+        code.add(1, 1, 3 + call);
+    }
+    code.returns(1);
+    code.land(out);
+    if lazy && random.one_in(2) {
+        code.suspend();
+    }
+    code.returns(0);
+    let most = if calls == 1 { 40 } else { 9 };
+    (image(&[Routine { slots, arguments: 1, code: code.bytes }]), vec![random.below(most) as u32])
+}
+
+/// Many children of one thread, each of which may stay for long.
+fn many(random: &mut Random) -> Vec<u8> {
+    let children = random.range(1, 14) as u8;
+    let op = fork_byte(random);
+    let mixed = random.one_in(3);
+    let mut code = Code::default();
+    code.set(0, 32);
+    code.set(1, random.below(3) as u16);
+    for child in 0..children {
+        if random.one_in(4) {
+            code.add(0, 0, 1);
+        }
+        code.fork(if mixed { fork_byte(random) } else { op }, 1, 2 + child, 0, 0);
+    }
+    code.join();
+    for child in 0..children {
+        code.add(1, 1, 2 + child);
+    }
+    code.returns(1);
+    let mut child = Code::default();
+    child.set(1, random.below(9) as u16);
+    match random.below(3) {
+        0 => child.suspend(),
+        1 => child.yields(),
+        _ => {}
+    }
+    if random.one_in(2) {
+        // it forks in turn
+        child.fork(fork_byte(random), 2, 1, 0, 0);
+        child.join();
+    }
+    child.returns(1);
+    let mut last = Code::default();
+    if random.one_in(2) {
+        last.suspend();
+    }
+    last.set(0, 7);
+    last.returns(0);
+    image(&[
+        Routine { slots: 16, arguments: 0, code: code.bytes },
+        Routine { slots: random.range(2, 16) as u8, arguments: 1, code: child.bytes },
+        Routine { slots: random.range(1, 16) as u8, arguments: 0, code: last.bytes },
+    ])
+}
+
+/// Random commands, all in range, with targets at commands' starts.
+fn wild(random: &mut Random) -> (Vec<u8>, Vec<u32>) {
+    let count = random.pick(&[1, 1, 2, 3, 5, 32]) as u8;
+    let rows: Vec<(u8, u8)> = (0..count)
+        .map(|_| {
+            let slots = random.range(1, 16);
+            (slots as u8, random.below(slots.min(4) + 1) as u8)
+        })
+        .collect();
+    let mut routines = Vec::new();
+    for &(slots, arguments) in &rows {
+        let length = random.range(1, if count == 32 { 6 } else { 24 });
+        let mut code = Vec::new();
+        let mut starts = Vec::new();
+        let mut targets = Vec::new();
+        let slot = |random: &mut Random| random.below(slots as u64) as u8;
+        for _ in 0..length {
+            starts.push(code.len() as u16);
+            match random.below(16) {
+                0..=3 => {
+                    code.extend([SET, slot(random)]);
+                    code.extend(edge(random).to_le_bytes());
+                }
+                4 => code.extend([ADD, slot(random), slot(random), slot(random)]),
+                5 => code.extend([SUBTRACT, slot(random), slot(random), slot(random)]),
+                6 => code.extend([LOAD, slot(random), slot(random)]),
+                7 => code.extend([STORE, slot(random), slot(random)]),
+                8 => {
+                    code.extend([IF_ZERO, slot(random), 0, 0]);
+                    targets.push(code.len() - 2);
+                }
+                9..=11 => {
+                    let r = random.below(count as u64) as u8;
+                    let run = rows[r as usize].1;
+                    if run <= slots {
+                        let a = random.below((slots - run) as u64 + 1) as u8;
+                        code.extend([fork_byte(random), r, slot(random), a, slot(random)]);
+                    } else {
+                        code.push(JOIN);
+                    }
+                }
+                12 | 13 => code.push(JOIN),
+                14 => code.push(random.pick(&[SUSPEND, YIELD])),
+                _ => code.extend([RETURN, slot(random)]),
+            }
+        }
+        starts.push(code.len() as u16);
+        if random.one_in(4) {
+            code.extend([GO, 0, 0]);
+            targets.push(code.len() - 2);
+        } else {
+            code.extend([RETURN, slot(random)]);
+        }
+        for place in targets {
+            let to = random.pick(&starts).to_le_bytes();
+            code[place..place + 2].copy_from_slice(&to);
+        }
+        routines.push(Routine { slots, arguments, code });
+    }
+    let arguments = (0..rows[0].1).map(|_| value(random)).collect();
+    (image(&routines), arguments)
+}
+
+fn value(random: &mut Random) -> u32 {
+    match random.below(4) {
+        0 => random.next() as u32,
+        1 => edge(random) as u32,
+        _ => random.below(20) as u32,
+    }
+}
+
+/// A job that a run takes.
+pub fn job(random: &mut Random) -> Case {
+    let (image, arguments) = match random.below(10) {
+        0..=2 => (tree(random, false), vec![]),
+        3..=4 => (tree(random, true), vec![]),
+        5 => deep(random),
+        6..=7 => (many(random), vec![]),
+        _ => wild(random),
+    };
+    let parameters = (0..32).map(|_| value(random)).collect();
+    let memory = (0..992).map(|_| value(random)).collect();
+    let mut case =
+        Case { image, cores: random.range(1, 4) as u8, arguments, parameters, memory, allowance: 100_000 };
+    case.allowance = match random.below(6) {
+        0 => random.below(60) as u32,
+        1 | 2 => {
+            // near what the plain run takes
+            let units = match plain(case.fed(), &mut case.memory.clone()) {
+                PlainAnswer::Finished { units, .. } | PlainAnswer::Stopped { units, .. } => units,
+            };
+            (units + random.below(8) as u32).saturating_sub(4)
+        }
+        3 => u32::MAX,
+        _ => random.below(20_000) as u32,
+    };
+    // a plain run of a wild loop must end
+    if case.allowance > 1_000_000 && random.one_in(2) || runs_on(&case) {
+        case.allowance = case.allowance.min(random.below(200_000) as u32);
+    }
+    case
+}
+
+/// Whether the plain run takes more than a million units.
+fn runs_on(case: &Case) -> bool {
+    let fed = Fed { allowance: 1_000_000, ..case.fed() };
+    matches!(plain(fed, &mut case.memory.clone()), PlainAnswer::Stopped { number: 22, .. })
+}
+
+/// An image with something wrong in it, or not.
+pub fn damaged_image(random: &mut Random) -> Vec<u8> {
+    let mut bytes = match random.below(3) {
+        0 => wild(random).0,
+        1 => tree(random, random.clone().one_in(2)),
+        _ => many(random),
+    };
+    for _ in 0..random.pick(&[1, 1, 1, 2, 5]) {
+        if bytes.is_empty() {
+            break;
+        }
+        let at = random.below(bytes.len() as u64) as usize;
+        let head = random.below((bytes.len() as u64).min(9)) as usize;
+        match random.below(12) {
+            0..=3 => bytes[at] = random.byte(),
+            4 => bytes[at] = random.below(18) as u8,
+            5 => bytes[head] = random.pick(&[0, 1, 2, 16, 17, 32, 33, 255]),
+            6 => bytes.truncate(at),
+            7 => bytes.push(random.byte()),
+            8 => bytes[at] = bytes[at].wrapping_add(1),
+            9 => end_damaged(random, &mut bytes),
+            10 => {
+                // a last routine's code made longer or shorter, its row with it
+                bytes = resized(random, bytes);
+            }
+            _ => bytes.resize(random.pick(&[0, 1, 4095, 4096, 4097, 5000]), 0),
+        }
+    }
+    bytes
+}
+
+/// Another last command.
+fn end_damaged(random: &mut Random, bytes: &mut [u8]) {
+    let n = bytes.len();
+    if n > 2 {
+        bytes[n - 2] = random.pick(&[RETURN, JOIN, SUSPEND, 0x0E, GO, SET]);
+        if random.one_in(2) {
+            bytes[n - 1] = random.pick(&[0, JOIN, YIELD, RETURN, 15, 16]);
+        }
+    }
+}
+
+/// The last routine's code cut or grown, with a row that says so.
+fn resized(random: &mut Random, mut bytes: Vec<u8>) -> Vec<u8> {
+    let count = bytes[0] as usize;
+    let row = 4 * count - 1;
+    if count == 0 || bytes.len() < row + 2 {
+        return bytes;
+    }
+    let change = random.range(1, 4);
+    let length = u16::from_le_bytes([bytes[row], bytes[row + 1]]);
+    let to = if random.one_in(2) {
+        for _ in 0..change {
+            bytes.push(random.below(16) as u8);
+        }
+        length.wrapping_add(change as u16)
+    } else {
+        bytes.truncate(bytes.len().saturating_sub(change as usize));
+        length.wrapping_sub(change as u16)
+    };
+    if bytes.len() >= row + 2 {
+        bytes[row..row + 2].copy_from_slice(&to.to_le_bytes());
+    }
+    bytes
+}
+
+/// Images of exactly the greatest length and one more, all of one command or of many.
+pub fn large_image(random: &mut Random) -> Vec<u8> {
+    let count = random.pick(&[1u16, 1, 2, 32]);
+    let total = 4096 - 1 - 4 * count + if random.one_in(3) { 1 } else { 0 };
+    let mut routines = Vec::new();
+    for r in 0..count {
+        let length = total / count + if r == 0 { total % count } else { 0 };
+        let mut code = Code::default();
+        let kind = random.below(5);
+        while code.here() + 7 <= length {
+            match kind {
+                0 => code.join(),
+                1 => code.add(0, 1, 2),
+                2 => code.fork(LFORK, random.below(count as u64) as u8, 3, 0, 4),
+                3 => {
+                    let target = random.pick(&[0, code.here()]);
+                    code.go(target);
+                }
+                _ => {
+                    code.if_zero(0);
+                }
+            }
+        }
+        while code.here() + 2 < length {
+            code.join();
+        }
+        code.returns(0);
+        routines.push(Routine { slots: 16, arguments: 0, code: code.bytes });
+    }
+    image(&routines)
+}
+
+/// A case with one thing wrong, or two.
+pub fn damage(random: &mut Random, case: &mut Case, schedule: &mut Vec<u8>, log: &mut Vec<u8>) {
+    for _ in 0..random.pick(&[1, 1, 2]) {
+        match random.below(9) {
+            0 => case.cores = random.pick(&[0, 5, 6, 32, 255]),
+            1 => case.image = damaged_image(random),
+            2 => {
+                if random.one_in(2) || case.arguments.is_empty() {
+                    case.arguments.push(1);
+                } else {
+                    case.arguments.pop();
+                }
+            }
+            3 => case.parameters.resize(random.pick(&[0, 31, 33, 64]), 5),
+            4 => case.memory.resize(random.pick(&[0, 991, 993, 1024]), 5),
+            5 => {
+                let to = random.below(log.len() as u64 + 1) as usize;
+                log.truncate(to);
+            }
+            6 => {
+                let at = random.below(schedule.len() as u64 + 1) as usize;
+                schedule.insert(at, random.pick(&[0, 5, 6, 255]));
+            }
+            7 => {
+                schedule.pop();
+            }
+            _ => schedule.resize(random.pick(&[32_766, 32_767, 32_768, 32_769, 32_770, 40_000]), 1),
+        }
+    }
+}
+
+/// How a schedule is chosen.
+struct Policy {
+    /// one entry in so many is any entry
+    noise: u64,
+    /// one turn in so many goes to another core
+    turn: u64,
+    /// one idle core's turn in so many steals though a thread is ready
+    thief: u64,
+    /// one turn in so many enables
+    wake: u64,
+}
+
+/// Any entry, mostly of cores and threads that there are.
+fn any_entry(random: &mut Random, schedule: &mut Vec<u8>) {
+    let core = random.pick(&[0, 0, 1, 1, 2, 3, 4, 255]);
+    let thread = random.pick(&[0, 0, 1, 1, 2, 3, 4, 7, 15, 31, 32, 255]);
+    match random.below(8) {
+        0..=3 => schedule.extend([1, core]),
+        4 | 5 => schedule.extend([2, core]),
+        6 => schedule.extend([3, core, thread]),
+        _ => schedule.extend([4, thread]),
+    }
+}
+
+/// A schedule of about `length` entries. The second implementation's machine goes along, so that most entries can be ones that it accepts.
+pub fn schedule(random: &mut Random, case: &Case, length: usize) -> Vec<u8> {
+    let mut bytes = Vec::new();
+    let policy = Policy {
+        noise: random.pick(&[1, 4, 20, 200, 100_000]),
+        turn: random.pick(&[1, 2, 5, 50]),
+        thief: random.pick(&[1, 3, 100]),
+        wake: random.pick(&[2, 20, 200, 100_000]),
+    };
+    let program = check(&case.image).ok();
+    let (Some(program), Ok(parameters), Ok(memory)) =
+        (program, case.parameters[..].try_into(), case.memory[..].try_into())
+    else {
+        for _ in 0..length {
+            any_entry(random, &mut bytes);
+        }
+        return bytes;
+    };
+    let mut memory: [u32; 992] = memory;
+    let job = Job { program: &program, parameters, allowance: case.allowance };
+    let mut m = Machine::start(&program, case.cores, &case.arguments);
+    let mut core = 0;
+    for _ in 0..length {
+        if bytes.len() + 3 > 32_768 {
+            break;
+        }
+        let at = bytes.len();
+        if random.one_in(policy.noise) {
+            any_entry(random, &mut bytes);
+        } else {
+            if random.one_in(policy.turn) {
+                core = random.below(case.cores as u64) as u8;
+            }
+            chosen(random, &policy, &m, &job, core, &mut bytes);
+        }
+        let logged = match bytes[at..] {
+            [1, c] => m.step(&job, &mut memory, c),
+            [2, c] => m.take(c),
+            [3, c, t] => m.steal(&job, c, t),
+            [_, t] => m.enable(t),
+            _ => unreachable!("an entry has two or three bytes"),
+        };
+        // a core that is stuck lets another one go on; after the end a few entries are enough
+        if logged != 0 {
+            core = random.below(case.cores as u64) as u8;
+        }
+        if m.over && random.one_in(8) {
+            break;
+        }
+    }
+    bytes
+}
+
+/// An entry that the machine is likely to accept.
+fn chosen(random: &mut Random, policy: &Policy, m: &Machine, job: &Job, core: u8, bytes: &mut Vec<u8>) {
+    let suspended: Vec<u8> = (0..32).filter(|t| m.threads[*t as usize].status == Status::Suspended).collect();
+    let idle = m.cores[..case_cores(m)].iter().all(|t| *t == IDLE);
+    if !suspended.is_empty() && (random.one_in(policy.wake) || idle && m.ready.is_empty()) {
+        bytes.extend([4, random.pick(&suspended)]);
+        return;
+    }
+    if m.cores[core as usize & 3] != IDLE {
+        bytes.extend([1, core]);
+        return;
+    }
+    let seeds: Vec<u8> = (0..32).filter(|t| m.has_seed(job, *t)).collect();
+    if !seeds.is_empty() && (m.ready.is_empty() || random.one_in(policy.thief)) {
+        bytes.extend([3, core, random.pick(&seeds)]);
+    } else {
+        bytes.extend([2, core]);
+    }
+}
+
+fn case_cores(m: &Machine) -> usize {
+    m.count as usize & 7
+}

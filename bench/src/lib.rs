@@ -1,0 +1,6 @@
+//! Tests and benchmarks of the proved crates against a second implementation.
+pub mod assemble;
+pub mod generate;
+pub mod peer;
+pub mod random;
+pub mod text;

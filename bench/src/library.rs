@@ -1,0 +1,147 @@
+//! The proved crates, called through the static library (`crates/abi`). This is the only module of the tests with `unsafe` in it.
+
+#[cfg(feature = "scheduler")]
+use bench::peer::house::Housed;
+use bench::peer::run::{Fed, Ran};
+use bench::peer::{Answer, PlainAnswer};
+
+extern "C" {
+    fn hofnulda_check(image: *const u8, image_length: usize) -> u8;
+    fn hofnulda_serial(
+        image: *const u8,
+        image_length: usize,
+        arguments: *const u32,
+        arguments_length: usize,
+        parameters: *const u32,
+        parameters_length: usize,
+        memory: *mut u32,
+        memory_length: usize,
+        allowance: u32,
+        answer: *mut [u32; 3],
+    );
+    fn hofnulda_run(
+        image: *const u8,
+        image_length: usize,
+        cores: u8,
+        arguments: *const u32,
+        arguments_length: usize,
+        parameters: *const u32,
+        parameters_length: usize,
+        memory: *mut u32,
+        memory_length: usize,
+        allowance: u32,
+        schedule: *const u8,
+        schedule_length: usize,
+        log: *mut u8,
+        log_length: usize,
+        answer: *mut [u32; 4],
+        statuses: *mut [u8; 32],
+    );
+    #[cfg(feature = "scheduler")]
+    fn hofnulda_scheduled(
+        image: *const u8,
+        image_length: usize,
+        cores: u8,
+        arguments: *const u32,
+        arguments_length: usize,
+        parameters: *const u32,
+        parameters_length: usize,
+        memory: *mut u32,
+        memory_length: usize,
+        allowance: u32,
+        buffer: *mut u8,
+        buffer_length: usize,
+        answer: *mut [u32; 4],
+        statuses: *mut [u8; 32],
+    ) -> usize;
+}
+
+pub fn check(image: &[u8]) -> u8 {
+    unsafe { hofnulda_check(image.as_ptr(), image.len()) }
+}
+
+pub fn serial(fed: Fed, memory: &mut [u32]) -> PlainAnswer {
+    let mut answer = [0; 3];
+    unsafe {
+        hofnulda_serial(
+            fed.image.as_ptr(),
+            fed.image.len(),
+            fed.arguments.as_ptr(),
+            fed.arguments.len(),
+            fed.parameters.as_ptr(),
+            fed.parameters.len(),
+            memory.as_mut_ptr(),
+            memory.len(),
+            fed.allowance,
+            &mut answer,
+        );
+    }
+    match answer {
+        [1, result, units] => PlainAnswer::Finished { result, units },
+        [_, number, units] => PlainAnswer::Stopped { number: number as u8, units },
+    }
+}
+
+fn told(answer: [u32; 4], statuses: [u8; 32]) -> Ran {
+    let answer = match answer {
+        [0, number, _, _] => return Ran::refused(number as u8),
+        [1, result, units, _] => Answer::Finished { result, units },
+        [2, number, thread, offset] => {
+            Answer::Faulted { number: number as u8, thread: thread as u8, offset: offset as u16 }
+        }
+        [_, units, _, _] => Answer::Open { units },
+    };
+    Ran { answer, statuses }
+}
+
+pub fn run(fed: Fed, memory: &mut [u32], schedule: &[u8], log: &mut [u8]) -> Ran {
+    let mut answer = [0; 4];
+    let mut statuses = [0; 32];
+    unsafe {
+        hofnulda_run(
+            fed.image.as_ptr(),
+            fed.image.len(),
+            fed.cores,
+            fed.arguments.as_ptr(),
+            fed.arguments.len(),
+            fed.parameters.as_ptr(),
+            fed.parameters.len(),
+            memory.as_mut_ptr(),
+            memory.len(),
+            fed.allowance,
+            schedule.as_ptr(),
+            schedule.len(),
+            log.as_mut_ptr(),
+            log.len(),
+            &mut answer,
+            &mut statuses,
+        );
+    }
+    told(answer, statuses)
+}
+
+/// The built-in scheduler, with the bytes of its buffer that it used.
+#[cfg(feature = "scheduler")]
+pub fn scheduled(fed: Fed, memory: &mut [u32], buffer: &mut [u8]) -> Housed {
+    let mut answer = [0; 4];
+    let mut statuses = [0; 32];
+    let used = unsafe {
+        hofnulda_scheduled(
+            fed.image.as_ptr(),
+            fed.image.len(),
+            fed.cores,
+            fed.arguments.as_ptr(),
+            fed.arguments.len(),
+            fed.parameters.as_ptr(),
+            fed.parameters.len(),
+            memory.as_mut_ptr(),
+            memory.len(),
+            fed.allowance,
+            buffer.as_mut_ptr(),
+            buffer.len(),
+            &mut answer,
+            &mut statuses,
+        )
+    };
+    Housed { ran: told(answer, statuses), used }
+}

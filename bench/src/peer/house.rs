@@ -1,0 +1,172 @@
+//! The house run: the built-in scheduler.
+
+use super::image::check;
+use super::machine::{Job, Machine, Status, IDLE};
+use super::run::{Fed, Ran, LONGEST};
+
+/// The answer with the state of each record, and the bytes of the entries that it wrote.
+#[derive(Clone, Copy, Debug, PartialEq, Eq)]
+pub struct Housed {
+    pub ran: Ran,
+    pub used: usize,
+}
+
+impl Housed {
+    fn refused(number: u8) -> Housed {
+        Housed { ran: Ran::refused(number), used: 0 }
+    }
+}
+
+pub fn house(fed: Fed, memory: &mut [u32], buffer: &mut [u8]) -> Housed {
+    if fed.cores == 0 || fed.cores > 4 {
+        return Housed::refused(23);
+    }
+    let program = match check(fed.image) {
+        Ok(program) => program,
+        Err(number) => return Housed::refused(number),
+    };
+    if fed.arguments.len() != program.row(0).arguments as usize {
+        return Housed::refused(24);
+    }
+    let (Ok(parameters), Ok(memory)) = (fed.parameters.try_into(), memory.try_into()) else {
+        return Housed::refused(25);
+    };
+    let job = Job { program: &program, parameters, allowance: fed.allowance };
+    let mut m = Machine::start(&program, fed.cores, fed.arguments);
+    let most = buffer.len().min(LONGEST);
+    let mut written = Written { buffer: &mut buffer[..most], used: 0 };
+    if fed.cores == 1 {
+        alone(&mut m, &job, memory, &mut written);
+    } else {
+        rounds(&mut m, &job, memory, &mut written);
+    }
+    Housed { ran: Ran { answer: m.answer(), statuses: m.statuses() }, used: written.used }
+}
+
+struct Written<'a> {
+    buffer: &'a mut [u8],
+    used: usize,
+}
+
+impl Written<'_> {
+    /// Whether a try may be made.
+    #[inline(always)]
+    fn room(&self) -> bool {
+        self.buffer.len() - self.used >= 3
+    }
+
+    #[inline(always)]
+    fn put<const N: usize>(&mut self, entry: [u8; N]) {
+        self.buffer[self.used..self.used + N].copy_from_slice(&entry);
+        self.used += N;
+    }
+}
+
+/// Whether an entry with this log byte is written: accepted or faulting.
+#[inline(always)]
+fn stands(number: u8) -> bool {
+    number < 13
+}
+
+fn rounds(m: &mut Machine, job: &Job, memory: &mut [u32; 992], written: &mut Written) {
+    loop {
+        let mut accepted = false;
+        for core in 0..m.count {
+            if m.over {
+                return;
+            }
+            let number;
+            if m.cores[core as usize & 3] != IDLE {
+                if !written.room() {
+                    return;
+                }
+                number = m.step(job, memory, core);
+                if stands(number) {
+                    written.put([1, core]);
+                }
+            } else if !m.ready.is_empty() {
+                if !written.room() {
+                    return;
+                }
+                number = m.take(core);
+                if stands(number) {
+                    written.put([2, core]);
+                }
+            } else {
+                let Some(t) = seed(m, job) else { continue };
+                if !written.room() {
+                    return;
+                }
+                number = m.steal(job, core, t);
+                if stands(number) {
+                    written.put([3, core, t]);
+                }
+            }
+            accepted |= number == 0;
+        }
+        if m.over || (!accepted && !enable_lowest(m, written)) {
+            return;
+        }
+    }
+}
+
+/// The first seed met: cores from 0, each up its chain of lent parents.
+fn seed(m: &Machine, job: &Job) -> Option<u8> {
+    for core in 0..m.count {
+        let mut t = m.cores[core as usize & 3];
+        if t == IDLE {
+            continue;
+        }
+        while m.threads[t as usize & 31].connected {
+            t = m.threads[t as usize & 31].parent;
+            if m.has_seed(job, t) {
+                return Some(t);
+            }
+        }
+    }
+    None
+}
+
+/// After a round with nothing accepted; false where the run ends.
+fn enable_lowest(m: &mut Machine, written: &mut Written) -> bool {
+    let Some(t) = m.threads.iter().position(|thread| thread.status == Status::Suspended) else {
+        return false;
+    };
+    if !written.room() {
+        return false;
+    }
+    m.enable(t as u8);
+    written.put([4, t as u8]);
+    true
+}
+
+/// The rounds of a single core: it steps while it is busy.
+fn alone(m: &mut Machine, job: &Job, memory: &mut [u32; 992], written: &mut Written) {
+    while !m.over {
+        if m.cores[0] != IDLE {
+            if !written.room() {
+                return;
+            }
+            let mut refused = false;
+            m.steps(job, memory, 0, |number| {
+                if stands(number) {
+                    written.put([1, 0]);
+                }
+                refused = number != 0;
+                // an idle core is told 15, which ends the burst as any refusal does
+                !refused && written.room()
+            });
+            if refused && !m.over && m.cores[0] != IDLE && !enable_lowest(m, written) {
+                return;
+            }
+        } else if !m.ready.is_empty() {
+            if !written.room() {
+                return;
+            }
+            m.take(0);
+            written.put([2, 0]);
+        } else if !enable_lowest(m, written) {
+            return;
+        }
+    }
+}

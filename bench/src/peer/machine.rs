@@ -1,0 +1,624 @@
+//! The machine: tables, Start and the four entries.
+
+use super::command::*;
+use super::image::{Program, Row};
+use super::Answer;
+
+pub const IDLE: u8 = 32;
+pub const NOBODY: u8 = 32;
+
+#[derive(Clone, Copy, Debug, Default, PartialEq, Eq)]
+#[repr(u8)]
+pub enum Status {
+    #[default]
+    Free,
+    Running,
+    Ready,
+    Suspended,
+    Waiting,
+    Lent,
+}
+
+/// A thread record. `at` is the next command's first byte in the image, `base` the frame's first word among all 1,024.
+#[derive(Clone, Copy, Debug, Default)]
+pub struct Thread {
+    pub at: u16,
+    pub base: u16,
+    pub pending: u16,
+    pub lo: u16,
+    pub mark: u16,
+    pub hi: u16,
+    pub status: Status,
+    pub connected: bool,
+    pub routine: u8,
+    pub parent: u8,
+    pub result_slot: u8,
+    pub children: u8,
+}
+
+/// A line of at most 32 numbers.
+#[derive(Clone, Copy, Debug)]
+pub struct Line {
+    places: [u8; 32],
+    head: u8,
+    length: u8,
+}
+
+impl Line {
+    fn ascending(from: u8, count: u8) -> Line {
+        let mut line = Line { places: [0; 32], head: 0, length: 0 };
+        for n in from..count {
+            line.give(n);
+        }
+        line
+    }
+    #[inline(always)]
+    pub fn is_empty(&self) -> bool {
+        self.length == 0
+    }
+    pub fn len(&self) -> u8 {
+        self.length
+    }
+    #[inline(always)]
+    pub fn give(&mut self, n: u8) {
+        self.places[(self.head + self.length) as usize & 31] = n;
+        self.length += 1;
+    }
+    #[inline(always)]
+    pub fn take(&mut self) -> u8 {
+        let n = self.places[self.head as usize & 31];
+        self.head = (self.head + 1) & 31;
+        self.length -= 1;
+        n
+    }
+}
+
+/// What a run is fed and does not change.
+pub struct Job<'a> {
+    pub program: &'a Program,
+    pub parameters: &'a [u32; 32],
+    pub allowance: u32,
+}
+
+#[derive(Clone)]
+pub struct Machine {
+    pub threads: [Thread; 32],
+    pub cores: [u8; 4],
+    pub count: u8,
+    pub over: bool,
+    pub answer: Answer,
+    pub units: u32,
+    pub free_threads: Line,
+    pub free_stacklets: Line,
+    pub ready: Line,
+    pub tops: [u8; 16],
+    pub words: [u32; 1024],
+}
+
+/// How a fork's child is placed.
+#[derive(Clone, Copy, PartialEq, Eq)]
+enum Placed {
+    Called,
+    Queued,
+    Stolen(u8),
+}
+
+impl Machine {
+    pub fn start(program: &Program, cores: u8, arguments: &[u32]) -> Machine {
+        let row = program.row(0);
+        let mut m = Machine {
+            threads: [Thread { parent: NOBODY, ..Thread::default() }; 32],
+            cores: [IDLE; 4],
+            count: cores,
+            over: false,
+            answer: Answer::Open { units: 0 },
+            units: 0,
+            free_threads: Line::ascending(1, 32),
+            free_stacklets: Line::ascending(1, 16),
+            ready: Line::ascending(0, 0),
+            tops: [0; 16],
+            words: [0; 1024],
+        };
+        m.threads[0] = Thread {
+            at: row.start,
+            lo: 32,
+            mark: 32,
+            hi: 1024,
+            status: Status::Running,
+            parent: NOBODY,
+            ..Thread::default()
+        };
+        m.cores[0] = 0;
+        m.tops[0] = row.slots;
+        for (word, argument) in m.words.iter_mut().zip(arguments) {
+            *word = *argument;
+        }
+        m
+    }
+
+    pub fn answer(&self) -> Answer {
+        if self.over { self.answer } else { Answer::Open { units: self.units } }
+    }
+
+    #[inline(always)]
+    pub fn thread(&mut self, t: u8) -> &mut Thread {
+        &mut self.threads[t as usize & 31]
+    }
+
+    #[inline(always)]
+    fn slot(&self, base: u16, s: u8) -> u32 {
+        self.words[(base as usize + s as usize) & 1023]
+    }
+
+    #[cold]
+    fn fault(&mut self, number: u8, thread: u8) -> u8 {
+        let offset = self.thread(thread).at;
+        self.over = true;
+        self.answer = Answer::Faulted { number, thread, offset };
+        number
+    }
+
+    /// An entry `01 c`.
+    #[inline]
+    pub fn step(&mut self, job: &Job, memory: &mut [u32; 992], core: u8) -> u8 {
+        if self.over {
+            return 19;
+        }
+        if core >= self.count {
+            return 14;
+        }
+        let t = self.cores[core as usize & 3];
+        if t == IDLE {
+            return 15;
+        }
+        self.carry(job, memory, core, t)
+    }
+
+    /// Thread t's next command, carried out on its core.
+    #[inline]
+    pub fn carry(&mut self, job: &Job, memory: &mut [u32; 992], core: u8, t: u8) -> u8 {
+        let mut hot = Hot::of(self.thread(t));
+        let word = job.program.word(hot.at);
+        match hot.carry(job, &mut self.words, memory, &mut self.units, word) {
+            Carried::Done => {
+                let thread = self.thread(t);
+                thread.at = hot.at;
+                0
+            }
+            Carried::Met(22) => 22,
+            Carried::Met(number) => self.fault(number, t),
+            Carried::Other => self.carry_other(job, core, t, word),
+        }
+    }
+
+    /// Commands 08 to 0D.
+    pub fn carry_other(&mut self, job: &Job, core: u8, t: u8, word: Word) -> u8 {
+        let op = word.op();
+        let thread = *self.thread(t);
+        if op == JOIN && thread.children != 0 {
+            self.thread(t).status = Status::Waiting;
+            self.leave(core, t);
+            return 0;
+        }
+        let weight = WEIGHTS[op as usize & 15];
+        if weight > job.allowance - self.units {
+            return 22;
+        }
+        match op {
+            LFORK => return self.fork(job, t, word, Placed::Called, core),
+            FORK => return self.fork(job, t, word, Placed::Queued, core),
+            JOIN => {
+                self.units += weight;
+                let thread = self.thread(t);
+                thread.at += 1;
+                thread.mark = thread.lo;
+                thread.pending = 0;
+            }
+            SUSPEND => {
+                self.units += weight;
+                let thread = self.thread(t);
+                thread.at += 1;
+                thread.status = Status::Suspended;
+                self.leave(core, t);
+            }
+            YIELD => {
+                self.units += weight;
+                let thread = self.thread(t);
+                thread.at += 1;
+                thread.status = Status::Ready;
+                self.ready.give(t);
+                self.leave(core, t);
+            }
+            _ => {
+                if thread.pending != 0 {
+                    return self.fault(12, t);
+                }
+                self.units += weight;
+                self.give_back(core, t, thread, self.slot(thread.base, word.byte(1)));
+            }
+        }
+        0
+    }
+
+    /// Thread t leaves its core: to its parent where it is connected, and then it is disconnected; else the core is idle.
+    fn leave(&mut self, core: u8, t: u8) {
+        let thread = self.thread(t);
+        let next = if thread.connected { thread.parent } else { IDLE };
+        thread.connected = false;
+        self.cores[core as usize & 3] = next;
+        if next != IDLE {
+            self.thread(next).status = Status::Running;
+        }
+    }
+
+    /// A return with a value.
+    #[inline]
+    fn give_back(&mut self, core: u8, t: u8, thread: Thread, value: u32) {
+        let stacklet = (thread.base / 64) as usize & 15;
+        let low = (thread.base % 64) as u8;
+        self.tops[stacklet] = low;
+        if low == 0 {
+            self.free_stacklets.give(stacklet as u8);
+        }
+        *self.thread(t) = Thread { parent: NOBODY, ..Thread::default() };
+        self.free_threads.give(t);
+        if thread.parent == NOBODY {
+            self.cores[core as usize & 3] = IDLE;
+            self.over = true;
+            self.answer = Answer::Finished { result: value, units: self.units };
+            return;
+        }
+        let parent = &mut self.threads[thread.parent as usize & 31];
+        parent.children -= 1;
+        self.words[(parent.base as usize + thread.result_slot as usize) & 1023] = value;
+        if thread.connected {
+            parent.status = Status::Running;
+            self.cores[core as usize & 3] = thread.parent;
+        } else {
+            self.cores[core as usize & 3] = IDLE;
+            if parent.status == Status::Waiting && parent.children == 0 {
+                parent.status = Status::Ready;
+                self.ready.give(thread.parent);
+            }
+        }
+    }
+
+    /// A fork by thread t, whose weight fits: 9, 11, 20, 21, and then the child.
+    #[inline]
+    fn fork(&mut self, job: &Job, t: u8, word: Word, placed: Placed, core: u8) -> u8 {
+        let (routine, d, a, w) = (word.byte(1), word.byte(2), word.byte(3), word.byte(4));
+        let parent = *self.thread(t);
+        let row = job.program.row(routine);
+        let asked = ((1u32 << row.arguments) - 1) << (a & 31) | bit(d) | bit(w);
+        if parent.pending as u32 & asked != 0 {
+            return self.fault(9, t);
+        }
+        let cut = self.slot(parent.base, w);
+        if cut < parent.mark as u32 || cut > parent.hi as u32 {
+            return self.fault(11, t);
+        }
+        if self.free_threads.is_empty() {
+            return 20;
+        }
+        let Some(base) = self.place(job.program.row(parent.routine), row, parent.base, placed) else {
+            return 21;
+        };
+        self.frame(row, base, parent.base + a as u16);
+        self.units += WEIGHTS[word.op() as usize & 15];
+        let child = self.free_threads.take();
+        let status = match placed {
+            Placed::Queued => Status::Ready,
+            _ => Status::Running,
+        };
+        *self.thread(child) = Thread {
+            at: row.start,
+            base,
+            pending: 0,
+            lo: parent.mark,
+            mark: parent.mark,
+            hi: cut as u16,
+            status,
+            connected: placed == Placed::Called,
+            routine,
+            parent: t,
+            result_slot: d,
+            children: 0,
+        };
+        let thread = self.thread(t);
+        thread.at += 5;
+        thread.mark = cut as u16;
+        thread.pending |= bit(d) as u16;
+        thread.children += 1;
+        match placed {
+            Placed::Called => {
+                thread.status = Status::Lent;
+                self.cores[core as usize & 3] = child;
+            }
+            Placed::Queued => self.ready.give(child),
+            Placed::Stolen(c) => self.cores[c as usize & 3] = child,
+        }
+        0
+    }
+
+    /// Where a child's frame goes: above its parent's, or on a free stacklet.
+    #[inline]
+    fn place(&mut self, parent: Row, child: Row, base: u16, placed: Placed) -> Option<u16> {
+        let stacklet = (base / 64) as usize & 15;
+        let top = self.tops[stacklet];
+        if placed == Placed::Called && (base % 64) as u8 + parent.slots == top && top + child.slots <= 64 {
+            self.tops[stacklet] = top + child.slots;
+            return Some(stacklet as u16 * 64 + top as u16);
+        }
+        if self.free_stacklets.is_empty() {
+            return None;
+        }
+        let free = self.free_stacklets.take();
+        self.tops[free as usize & 15] = child.slots;
+        Some(free as u16 * 64)
+    }
+
+    /// A new frame: the arguments in its first slots, the other slots zero.
+    #[inline]
+    fn frame(&mut self, row: Row, base: u16, from: u16) {
+        for i in 0..row.slots as u16 {
+            let value = if i < row.arguments as u16 { self.words[(from + i) as usize & 1023] } else { 0 };
+            self.words[(base + i) as usize & 1023] = value;
+        }
+    }
+
+    /// An entry `02 c`.
+    pub fn take(&mut self, core: u8) -> u8 {
+        if self.over {
+            return 19;
+        }
+        if core >= self.count {
+            return 14;
+        }
+        if self.cores[core as usize & 3] != IDLE {
+            return 15;
+        }
+        if self.ready.is_empty() {
+            return 16;
+        }
+        let t = self.ready.take();
+        self.thread(t).status = Status::Running;
+        self.cores[core as usize & 3] = t;
+        0
+    }
+
+    /// Whether thread t is a seed's owner: lent, its next command an 08 or 09.
+    #[inline]
+    pub fn has_seed(&self, job: &Job, t: u8) -> bool {
+        let thread = self.threads[t as usize & 31];
+        thread.status == Status::Lent && matches!(job.program.word(thread.at).op(), LFORK | FORK)
+    }
+
+    /// An entry `03 c t`.
+    pub fn steal(&mut self, job: &Job, core: u8, t: u8) -> u8 {
+        if self.over {
+            return 19;
+        }
+        if core >= self.count {
+            return 14;
+        }
+        if self.cores[core as usize & 3] != IDLE {
+            return 15;
+        }
+        if t > 31 || !self.has_seed(job, t) {
+            return 18;
+        }
+        let word = job.program.word(self.thread(t).at);
+        if WEIGHTS[word.op() as usize & 15] > job.allowance - self.units {
+            return 22;
+        }
+        self.fork(job, t, word, Placed::Stolen(core), core)
+    }
+
+    /// An entry `04 t`.
+    pub fn enable(&mut self, t: u8) -> u8 {
+        if self.over {
+            return 19;
+        }
+        if t > 31 || self.thread(t).status != Status::Suspended {
+            return 17;
+        }
+        self.thread(t).status = Status::Ready;
+        self.ready.give(t);
+        0
+    }
+
+    /// The state of each record.
+    pub fn statuses(&self) -> [u8; 32] {
+        let mut all = [0; 32];
+        for (number, thread) in all.iter_mut().zip(&self.threads) {
+            *number = thread.status as u8;
+        }
+        all
+    }
+}
+
+/// What commands 01 to 07 need of a thread; they change only its position.
+#[derive(Clone, Copy)]
+pub struct Hot {
+    pub at: u16,
+    base: u16,
+    pending: u32,
+    mark: u32,
+    hi: u32,
+}
+
+/// What came of a command.
+pub enum Carried {
+    Done,
+    /// 22, or a fault's number
+    Met(u8),
+    /// it is none of 01 to 07
+    Other,
+}
+
+impl Hot {
+    #[inline(always)]
+    pub fn of(thread: &Thread) -> Hot {
+        Hot {
+            at: thread.at,
+            base: thread.base,
+            pending: thread.pending as u32,
+            mark: thread.mark as u32,
+            hi: thread.hi as u32,
+        }
+    }
+
+    #[inline(always)]
+    fn slot(&self, s: u8) -> usize {
+        (self.base as usize + s as usize) & 1023
+    }
+
+    /// The command `word`, if it is one of 01 to 07: 22, then 9, then 10.
+    #[inline(always)]
+    pub fn carry(
+        &mut self,
+        job: &Job,
+        words: &mut [u32; 1024],
+        memory: &mut [u32; 992],
+        units: &mut u32,
+        word: Word,
+    ) -> Carried {
+        let (a, b, c) = (word.byte(1), word.byte(2), word.byte(3));
+        let left = job.allowance - *units;
+        match word.op() {
+            SET => {
+                if left < 1 {
+                    return Carried::Met(22);
+                }
+                if self.pending & bit(a) != 0 {
+                    return Carried::Met(9);
+                }
+                words[self.slot(a)] = word.half(2) as u32;
+                *units += 1;
+                self.at += 4;
+            }
+            ADD | SUBTRACT => {
+                if left < 1 {
+                    return Carried::Met(22);
+                }
+                if self.pending & (bit(a) | bit(b) | bit(c)) != 0 {
+                    return Carried::Met(9);
+                }
+                let (x, y) = (words[self.slot(b)], words[self.slot(c)]);
+                words[self.slot(a)] = if word.op() == ADD { x.wrapping_add(y) } else { x.wrapping_sub(y) };
+                *units += 1;
+                self.at += 4;
+            }
+            LOAD => {
+                if left < 2 {
+                    return Carried::Met(22);
+                }
+                if self.pending & (bit(a) | bit(b)) != 0 {
+                    return Carried::Met(9);
+                }
+                let address = words[self.slot(b)];
+                let value = if address < 32 {
+                    job.parameters[address as usize]
+                } else if address >= self.mark && address < self.hi {
+                    memory[address as usize - 32]
+                } else {
+                    return Carried::Met(10);
+                };
+                words[self.slot(a)] = value;
+                *units += 2;
+                self.at += 3;
+            }
+            STORE => {
+                if left < 2 {
+                    return Carried::Met(22);
+                }
+                if self.pending & (bit(a) | bit(b)) != 0 {
+                    return Carried::Met(9);
+                }
+                let address = words[self.slot(a)];
+                if address < self.mark || address >= self.hi {
+                    return Carried::Met(10);
+                }
+                memory[address as usize - 32] = words[self.slot(b)];
+                *units += 2;
+                self.at += 3;
+            }
+            IF_ZERO => {
+                if left < 1 {
+                    return Carried::Met(22);
+                }
+                if self.pending & bit(a) != 0 {
+                    return Carried::Met(9);
+                }
+                *units += 1;
+                self.at = if words[self.slot(a)] == 0 { word.half(2) } else { self.at + 4 };
+            }
+            GO => {
+                if left < 1 {
+                    return Carried::Met(22);
+                }
+                *units += 1;
+                self.at = word.half(1);
+            }
+            _ => return Carried::Other,
+        }
+        Carried::Done
+    }
+}
+
+impl Machine {
+    /// Steps of one core as long as `next` says that another one follows; it is told each one's log byte. The thread's position, windows
+    /// and pending slots stay in locals between commands 01 to 07.
+    #[inline(always)]
+    pub fn steps(&mut self, job: &Job, memory: &mut [u32; 992], core: u8, mut next: impl FnMut(u8) -> bool) {
+        loop {
+            let t = self.cores[core as usize & 3];
+            if self.over || core >= self.count || t == IDLE {
+                let number = if self.over { 19 } else if core >= self.count { 14 } else { 15 };
+                if !next(number) {
+                    return;
+                }
+                continue;
+            }
+            let mut hot = Hot::of(self.thread(t));
+            let mut units = self.units;
+            let (number, again) = loop {
+                let word = job.program.word(hot.at);
+                match hot.carry(job, &mut self.words, memory, &mut units, word) {
+                    Carried::Done => {
+                        if !next(0) {
+                            break (0, false);
+                        }
+                    }
+                    Carried::Met(22) => {
+                        if !next(22) {
+                            break (0, false);
+                        }
+                    }
+                    Carried::Met(number) => break (number, true),
+                    Carried::Other => {
+                        self.thread(t).at = hot.at;
+                        self.units = units;
+                        let number = self.carry_other(job, core, t, word);
+                        if !next(number) {
+                            return;
+                        }
+                        break (0, true);
+                    }
+                }
+            };
+            if number == 0 && again {
+                continue;
+            }
+            self.thread(t).at = hot.at;
+            self.units = units;
+            if !again {
+                return;
+            }
+            self.fault(number, t);
+            if !next(number) {
+                return;
+            }
+        }
+    }
+}

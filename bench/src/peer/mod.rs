@@ -1,0 +1,27 @@
+//! A second implementation of document 01, written from the document alone and sharing nothing with the proved crates. It is what the
+//! differential tests compare with and what the benchmarks measure against: compact records, state behind `&mut`, nothing allocated,
+//! no `unsafe`.
+#![forbid(unsafe_code)]
+
+pub mod command;
+pub mod house;
+pub mod image;
+pub mod machine;
+pub mod plain;
+pub mod run;
+
+/// How a run by schedule or a house run ended.
+#[derive(Clone, Copy, Debug, PartialEq, Eq)]
+pub enum Answer {
+    Refused(u8),
+    Finished { result: u32, units: u32 },
+    Faulted { number: u8, thread: u8, offset: u16 },
+    Open { units: u32 },
+}
+
+/// How a plain run ended; the units are those so far.
+#[derive(Clone, Copy, Debug, PartialEq, Eq)]
+pub enum PlainAnswer {
+    Finished { result: u32, units: u32 },
+    Stopped { number: u8, units: u32 },
+}

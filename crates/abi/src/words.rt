@@ -1,0 +1,72 @@
+// Answers as words of an array, and the statuses of the thread records.
+
+use image::Refusal;
+use image::Verdict;
+use run::RunAnswer;
+use serial::SerialAnswer;
+use thread::Thread;
+use thread::record::status_number;
+ghost use mathlib.Core.Path.{_≡_};
+ghost use Prim.Native.Nat.{ℕ};
+ghost use mathlib.Core.List.{List};
+ghost use Rattle.image.specs.Image.{numberIn};
+ghost use Rattle.serial.specs.Serial.{endedBy};
+ghost use Rattle.abi.specs.Words.{answerWords, serialWords, statusesUpTo};
+
+// A verdict's number; 0 for an accepted image.
+pub fn image_number(verdict: Verdict) -> u8
+    ensures { λ r. ⌜ r ≡ numberIn verdict ⌝ }
+{
+    match verdict {
+        Verdict::Accepted => 0,
+        Verdict::Refused(refusal) => match refusal {
+            Refusal::BadLength => 1,
+            Refusal::BadCount => 2,
+            Refusal::BadRow => 3,
+            Refusal::UnknownByte => 4,
+            Refusal::OperandsCutOff => 5,
+            Refusal::OutOfRange => 6,
+            Refusal::BadEnd => 7,
+            Refusal::BadTarget => 8,
+        },
+    }
+}
+
+pub fn serial_words(answer: SerialAnswer) -> [u32; 3]
+    ensures { λ r. ⌜ ((memory : List ℕ) → r ≡ serialWords (endedBy answer memory)) ⌝ }
+{
+    match answer {
+        SerialAnswer::Finished(result, units) => [1, result, units],
+        SerialAnswer::Stopped(number, units) => [0, number as u32, units],
+    }
+}
+
+pub fn answer_words(answer: RunAnswer) -> [u32; 4]
+    ensures { λ r. ⌜ r ≡ answerWords answer ⌝ }
+{
+    match answer {
+        RunAnswer::Refused(number) => [0, number as u32, 0, 0],
+        RunAnswer::Finished { result, units } => [1, result, units, 0],
+        RunAnswer::Faulted {
+            number,
+            thread,
+            offset,
+        } => [2, number as u32, thread as u32, offset as u32],
+        RunAnswer::Open { units } => [3, units, 0, 0],
+    }
+}
+
+// The status number of each thread record.
+pub fn statuses_of(threads: [Thread; 32]) -> [u8; 32]
+    ensures { λ r. ⌜ r ≡ statusesUpTo threads 32 ⌝ }
+{
+    let mut all = [0u8; 32];
+    let mut i: usize = 0;
+    while i < 32 {
+        let thread = threads[i];
+        let status = thread.status;
+        all[i] = status_number(status);
+        i = i + 1;
+    }
+    all
+}
