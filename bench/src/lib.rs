@@ -4,3 +4,4 @@ pub mod generate;
 pub mod peer;
 pub mod random;
 pub mod text;
+pub mod workload;

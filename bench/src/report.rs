@@ -1,0 +1,222 @@
+//! The benchmarks' page and plot.
+
+use crate::stack::Stack;
+use std::fmt::Write;
+use std::process::Command;
+
+/// A time of both implementations, in nanoseconds.
+pub struct Row {
+    pub what: String,
+    pub unit: &'static str,
+    pub peer: f64,
+    pub ours: f64,
+    pub aim: Option<f64>,
+}
+
+impl Row {
+    fn ratio(&self) -> f64 {
+        self.ours / self.peer
+    }
+}
+
+/// A job by the built-in scheduler and by the serial run, in nanoseconds.
+pub struct Over {
+    pub what: String,
+    pub commands: u64,
+    pub forks: u64,
+    pub peer_serial: f64,
+    pub peer_scheduled: f64,
+    pub serial: f64,
+    pub scheduled: f64,
+}
+
+pub struct Report {
+    pub rows: Vec<Row>,
+    pub over: Vec<Over>,
+    pub stacks: Vec<Stack>,
+    pub undefined: Vec<String>,
+}
+
+/// The machine's structs as `crates/machine` declares them, for their sizes alone: a struct there has C's layout.
+#[allow(dead_code)]
+mod mirror {
+    #[repr(C)]
+    pub struct Thread([u8; 6], [u16; 2], [u16; 3], u16);
+    #[repr(C)]
+    pub struct Queue([u8; 32], u8, u8);
+    #[repr(C)]
+    pub struct Machine {
+        threads: [Thread; 32],
+        cores: [u8; 4],
+        count: u8,
+        stacklets: [u8; 16],
+        queues: [Queue; 3],
+        units: u32,
+        over: u8,
+        result: u32,
+        fault: u8,
+        fault_thread: u8,
+        fault_offset: u16,
+        log: u8,
+    }
+}
+
+/// What the static library leaves to be linked: the only functions outside it that it can call.
+pub fn undefined() -> Vec<String> {
+    let archive = concat!(env!("CARGO_MANIFEST_DIR"), "/../target/staticlib/libabi.a");
+    let said = Command::new("nm").args(["-u", archive]).output().map(|out| out.stdout).unwrap_or_default();
+    let said = String::from_utf8_lossy(&said);
+    let mut names: Vec<String> =
+        said.lines().filter_map(|line| line.trim().strip_prefix("U ").map(str::to_string)).collect();
+    names.sort();
+    names.dedup();
+    names
+}
+
+fn processor() -> String {
+    let text = std::fs::read_to_string("/proc/cpuinfo").unwrap_or_default();
+    let line = text.lines().find(|line| line.starts_with("model name"));
+    line.and_then(|line| line.split(": ").nth(1)).unwrap_or("unknown processor").to_string()
+}
+
+fn number(x: f64) -> String {
+    if x >= 1000.0 {
+        format!("{x:.0}")
+    } else if x >= 100.0 {
+        format!("{x:.0}")
+    } else {
+        format!("{x:.1}")
+    }
+}
+
+impl Report {
+    pub fn text(&self) -> String {
+        let mut out = String::new();
+        out += HEAD;
+        let _ = writeln!(out, "Processor: {}.\n", processor());
+        out += "| what | unit | second implementation | proved crates | ratio | aim |\n|---|---|---|---|---|---|\n";
+        for row in &self.rows {
+            let aim = row.aim.map_or(String::new(), |aim| format!("at most {aim:.1}"));
+            let (peer, ours) = (number(row.peer), number(row.ours));
+            let _ = writeln!(out, "| {} | {} | {peer} | {ours} | {:.2} | {aim} |", row.what, row.unit, row.ratio());
+        }
+        out += "\n![Ratios of the table](benchmarks.svg)\n";
+        self.over_text(&mut out);
+        self.stack_text(&mut out);
+        out
+    }
+
+    fn over_text(&self, out: &mut String) {
+        *out += OVER;
+        if self.over.is_empty() {
+            *out += "The static library has no built-in scheduler.\n";
+            return;
+        }
+        *out += "| job | commands | forks | second implementation | proved crates | ns a fork over serial (second, proved) | aim |\n";
+        *out += "|---|---|---|---|---|---|---|\n";
+        for over in &self.over {
+            let each = |scheduled: f64, serial: f64| number((scheduled - serial) / over.forks as f64);
+            let _ = writeln!(
+                out,
+                "| {} | {} | {} | {:.2} | {:.2} | {}, {} | at most 3.0 |",
+                over.what,
+                over.commands,
+                over.forks,
+                over.peer_scheduled / over.peer_serial,
+                over.scheduled / over.serial,
+                each(over.peer_scheduled, over.peer_serial),
+                each(over.scheduled, over.serial),
+            );
+        }
+    }
+
+    fn stack_text(&self, out: &mut String) {
+        *out += STACK;
+        *out += "| call | second implementation | proved crates |\n|---|---|---|\n";
+        for stack in &self.stacks {
+            let _ = writeln!(out, "| {} | {} | {} |", stack.what, stack.peer, stack.ours);
+        }
+        let machine = std::mem::size_of::<mirror::Machine>();
+        let thread = std::mem::size_of::<mirror::Thread>();
+        let _ = write!(
+            out,
+            "\nThe machine's state is a struct of {machine} bytes (32 thread records of {thread} bytes, three queues of 34, 16 stacklet tops), beside\n\
+             the 4,096 bytes of the stacklets' words; the memory words, the log and the buffer are the caller's.\n\n\
+             ## Nothing is allocated\n\n\
+             The language has no heap. The static library that the tests and benchmarks link leaves these names to the linker and no others, so it\n\
+             can call nothing else (`nm -u target/staticlib/libabi.a`): {}.\n",
+            self.undefined.iter().map(|name| format!("`{name}`")).collect::<Vec<_>>().join(", "),
+        );
+    }
+
+    /// The ratios as bars, with the aims as ticks.
+    pub fn plot(&self) -> String {
+        let mut bars: Vec<(String, f64, Option<f64>)> =
+            self.rows.iter().map(|row| (row.what.clone(), row.ratio(), row.aim)).collect();
+        for over in &self.over {
+            bars.push((format!("scheduler over serial, {}", over.what), over.scheduled / over.serial, Some(3.0)));
+        }
+        let most = bars.iter().map(|bar| bar.1.max(bar.2.unwrap_or(0.0))).fold(1.0, f64::max).ceil();
+        let (left, width, step) = (300.0, 420.0, 24.0);
+        let height = 70.0 + step * bars.len() as f64;
+        let x = |ratio: f64| left + width * ratio / most;
+        let mut out = format!(
+            "<svg xmlns=\"http://www.w3.org/2000/svg\" width=\"800\" height=\"{height}\" viewBox=\"0 0 800 {height}\" \
+             font-family=\"sans-serif\" font-size=\"12\">\n\
+             <rect width=\"800\" height=\"{height}\" fill=\"white\"/>\n\
+             <text x=\"10\" y=\"20\" font-size=\"14\">Time of the proved crates over the second implementation's (red: the aim)</text>\n"
+        );
+        let bottom = 40.0 + step * bars.len() as f64;
+        for tick in 0..=most as u32 {
+            let at = x(tick as f64);
+            let colour = if tick == 1 { "#555" } else { "#ddd" };
+            let _ = writeln!(out, "<line x1=\"{at:.1}\" y1=\"34\" x2=\"{at:.1}\" y2=\"{bottom}\" stroke=\"{colour}\"/>");
+            let _ = writeln!(out, "<text x=\"{at:.1}\" y=\"{:.1}\" text-anchor=\"middle\">{tick}</text>", bottom + 16.0);
+        }
+        for (i, (what, ratio, aim)) in bars.iter().enumerate() {
+            let y = 40.0 + step * i as f64;
+            let _ = writeln!(out, "<text x=\"{:.1}\" y=\"{:.1}\" text-anchor=\"end\">{what}</text>", left - 8.0, y + 13.0);
+            let _ = writeln!(
+                out,
+                "<rect x=\"{left}\" y=\"{y:.1}\" width=\"{:.1}\" height=\"16\" fill=\"#4a7ebb\"/>",
+                x(*ratio) - left
+            );
+            let _ = writeln!(out, "<text x=\"{:.1}\" y=\"{:.1}\">{ratio:.2}</text>", x(*ratio) + 5.0, y + 13.0);
+            if let Some(aim) = aim {
+                let at = x(*aim);
+                let _ = writeln!(
+                    out,
+                    "<line x1=\"{at:.1}\" y1=\"{:.1}\" x2=\"{at:.1}\" y2=\"{:.1}\" stroke=\"#c33\" stroke-width=\"2\"/>",
+                    y - 2.0,
+                    y + 18.0
+                );
+            }
+        }
+        out + "</svg>\n"
+    }
+}
+
+const HEAD: &str = "# Benchmarks
+
+Written by `bench/run.sh measure`, which proves and builds the static library (`rt staticlib abi`), builds `bench/` and measures both
+implementations in one run, on the same machine and input, batch by batch in turn; each time is the least mean of 40 batches. The second
+implementation (`bench/src/peer`) is Rust with `&mut` state, no `unsafe` and nothing allocated, and steps one core's commands in bursts.
+Times are of whole calls, with the image check, divided by the entries or commands.
+
+";
+
+const OVER: &str = "
+## Built-in scheduler over serial run
+
+The same job by the built-in scheduler on one core and by the serial run, as a ratio for each implementation. The job does its forks by
+lfork; the scheduler writes every entry that it uses into its buffer.
+
+";
+
+const STACK: &str = "
+## Stack and state
+
+Bytes of stack that a call writes at most, measured: the call is made on a thread whose stack was painted, and the paint that is left is
+counted, less that of a thread that does nothing. The call's own frame in the test program is in it.
+
+";
