@@ -66,12 +66,12 @@ fn filler(random: &mut Random, code: &mut Code, spare: u8, lazy: u64) {
 /// A slip: a command that faults at some orders or all.
 fn slip(random: &mut Random, code: &mut Code, slots: u8) {
     let any = |random: &mut Random| random.below(slots as u64) as u8;
-    match random.below(6) {
-        0 => {
+    match random.below(8) {
+        0 | 6 => {
             let a = any(random);
             code.returns(a);
         }
-        1 => {
+        1 | 7 => {
             let (d, a, b) = (any(random), any(random), any(random));
             code.add(d, a, b);
         }
@@ -327,11 +327,11 @@ fn value(random: &mut Random) -> u32 {
 
 /// A job that a run takes.
 pub fn job(random: &mut Random) -> Case {
-    let (image, arguments) = match random.below(10) {
-        0..=2 => (tree(random, false), vec![]),
-        3..=4 => (tree(random, true), vec![]),
-        5 => deep(random),
-        6..=7 => (many(random), vec![]),
+    let (image, arguments) = match random.below(20) {
+        0..=5 => (tree(random, false), vec![]),
+        6..=9 => (tree(random, true), vec![]),
+        10..=12 => deep(random),
+        13..=15 => (many(random), vec![]),
         _ => wild(random),
     };
     let parameters = (0..32).map(|_| value(random)).collect();
@@ -538,8 +538,11 @@ pub fn schedule(random: &mut Random, case: &Case, length: usize) -> Vec<u8> {
     let job = Job { program: &program, parameters, allowance: case.allowance };
     let mut m = Machine::start(&program, case.cores, &case.arguments);
     let mut core = 0;
+    let mut in_vain = 0;
+    // any entries at all are mostly refused: a few hundred are enough
+    let length = if policy.noise == 1 { length.min(300) } else { length };
     for _ in 0..length {
-        if bytes.len() + 3 > 32_768 {
+        if bytes.len() + 3 > 32_768 || in_vain > 40 && random.one_in(4) {
             break;
         }
         let at = bytes.len();
@@ -559,8 +562,11 @@ pub fn schedule(random: &mut Random, case: &Case, length: usize) -> Vec<u8> {
             _ => unreachable!("an entry has two or three bytes"),
         };
         // a core that is stuck lets another one go on; after the end a few entries are enough
+        in_vain += 1;
         if logged != 0 {
             core = random.below(case.cores as u64) as u8;
+        } else {
+            in_vain = 0;
         }
         if m.over && random.one_in(8) {
             break;
@@ -572,7 +578,7 @@ pub fn schedule(random: &mut Random, case: &Case, length: usize) -> Vec<u8> {
 /// An entry that the machine is likely to accept.
 fn chosen(random: &mut Random, policy: &Policy, m: &Machine, job: &Job, core: u8, bytes: &mut Vec<u8>) {
     let suspended: Vec<u8> = (0..32).filter(|t| m.threads[*t as usize].status == Status::Suspended).collect();
-    let idle = m.cores[..case_cores(m)].iter().all(|t| *t == IDLE);
+    let idle = m.cores.iter().all(|t| *t == IDLE);
     if !suspended.is_empty() && (random.one_in(policy.wake) || idle && m.ready.is_empty()) {
         bytes.extend([4, random.pick(&suspended)]);
         return;
@@ -584,11 +590,12 @@ fn chosen(random: &mut Random, policy: &Policy, m: &Machine, job: &Job, core: u8
     let seeds: Vec<u8> = (0..32).filter(|t| m.has_seed(job, *t)).collect();
     if !seeds.is_empty() && (m.ready.is_empty() || random.one_in(policy.thief)) {
         bytes.extend([3, core, random.pick(&seeds)]);
+        return;
+    }
+    let busy: Vec<u8> = (0..m.count).filter(|c| m.cores[*c as usize & 3] != IDLE).collect();
+    if m.ready.is_empty() && !busy.is_empty() && !random.one_in(20) {
+        bytes.extend([1, random.pick(&busy)]);
     } else {
         bytes.extend([2, core]);
     }
-}
-
-fn case_cores(m: &Machine) -> usize {
-    m.count as usize & 7
 }

@@ -7,7 +7,7 @@
 mod library;
 
 use bench::generate::{damage, damaged_image, job, large_image, schedule, Case};
-use bench::peer::image::check;
+use bench::peer::image::number;
 use bench::peer::plain::plain;
 use bench::peer::run::{entries, run, Ran};
 use bench::peer::{Answer, PlainAnswer};
@@ -44,7 +44,7 @@ fn differs(what: &str, case: &Case, bytes: &[u8], peer: String, library: String)
 }
 
 fn compare_images(tally: &mut Tally, image: &[u8]) {
-    let peer = check(image).err().unwrap_or(0);
+    let peer = number(image);
     let ours = library::check(image);
     if peer != ours {
         println!("DIFFERENCE in an image: {peer} and {ours}\n{}", digits(image));
@@ -153,7 +153,7 @@ fn one_case(tally: &mut Tally, random: &mut Random) {
     let mut case = job(random);
     let serial = compare_serial(tally, &case);
     for _ in 0..3 {
-        let most = random.pick(&[3, 20, 60, 200, 1000, 20_000]);
+        let most = random.pick(&[3, 60, 400, 2000, 20_000, 20_000]);
         let length = random.below(most + 1) as usize;
         case.cores = random.range(1, 4) as u8;
         let mut bytes = schedule(random, &case, length);

@@ -88,7 +88,7 @@ fn serial_row(what: &str, case: &Case, aim: Option<f64>) -> Row {
 fn check_row(what: &str, image: &[u8]) -> Row {
     let [peer, ours] = times([
         &mut || {
-            black_box(peer::image::check(black_box(image)).is_ok());
+            black_box(peer::image::number(black_box(image)));
         },
         &mut || {
             black_box(library::check(black_box(image)));

@@ -1,4 +1,4 @@
-//! Command bytes, lengths and weights.
+//! Command bytes and weights.
 
 pub const SET: u8 = 0x01;
 pub const ADD: u8 = 0x02;
@@ -13,9 +13,6 @@ pub const JOIN: u8 = 0x0A;
 pub const SUSPEND: u8 = 0x0B;
 pub const YIELD: u8 = 0x0C;
 pub const RETURN: u8 = 0x0D;
-
-/// Bytes of a command, its own among them; 0 for an unknown byte.
-pub const LENGTHS: [u8; 16] = [0, 4, 4, 4, 3, 3, 4, 3, 5, 5, 1, 1, 1, 2, 0, 0];
 
 /// Weights by command byte.
 pub const WEIGHTS: [u32; 16] = [0, 1, 1, 1, 2, 2, 1, 1, 6, 12, 1, 3, 3, 1, 0, 0];

@@ -1,6 +1,6 @@
 //! The house run: the built-in scheduler.
 
-use super::image::check;
+use super::image::{read, Program};
 use super::machine::{Job, Machine, Status, IDLE};
 use super::run::{Fed, Ran, LONGEST};
 
@@ -21,10 +21,10 @@ pub fn house(fed: Fed, memory: &mut [u32], buffer: &mut [u8]) -> Housed {
     if fed.cores == 0 || fed.cores > 4 {
         return Housed::refused(23);
     }
-    let program = match check(fed.image) {
-        Ok(program) => program,
-        Err(number) => return Housed::refused(number),
-    };
+    let mut program = Program::blank();
+    if let Err(number) = read(fed.image, &mut program) {
+        return Housed::refused(number);
+    }
     if fed.arguments.len() != program.row(0).arguments as usize {
         return Housed::refused(24);
     }

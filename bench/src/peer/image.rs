@@ -24,6 +24,10 @@ pub struct Program {
 }
 
 impl Program {
+    pub fn blank() -> Program {
+        Program { bytes: [0; PADDED], rows: [Row::default(); 32], count: 0 }
+    }
+
     /// The command at an offset of the image.
     #[inline(always)]
     pub fn word(&self, offset: u16) -> Word {
@@ -86,83 +90,106 @@ fn rows_of(image: &[u8]) -> Result<([Row; 32], u8), u8> {
     Ok((rows, count as u8))
 }
 
-/// Whether a command's slots, argument run and routine are in range (6 otherwise).
+/// A command's length, and whether its slots, argument run and routine are in range (6 otherwise); 4 for an unknown byte. Each kind has
+/// its own arm, so that the next command's place is known by prediction and not by a load.
 #[inline(always)]
-fn in_range(word: Word, slots: u8, rows: &[Row; 32], count: u8) -> bool {
+fn measure(word: Word, slots: u8, rows: &[Row; 32], count: u8) -> Result<(usize, bool), u8> {
     let (a, b, c, d) = (word.byte(1), word.byte(2), word.byte(3), word.byte(4));
-    match word.op() {
-        SET | IF_ZERO | RETURN => a < slots,
-        ADD | SUBTRACT => a < slots && b < slots && c < slots,
-        LOAD | STORE => a < slots && b < slots,
+    Ok(match word.op() {
+        SET | IF_ZERO => (4, a < slots),
+        ADD | SUBTRACT => (4, a < slots && b < slots && c < slots),
+        LOAD | STORE => (3, a < slots && b < slots),
+        GO => (3, true),
         LFORK | FORK => {
-            a < count && b < slots && d < slots && c as u32 + rows[a as usize & 31].arguments as u32 <= slots as u32
+            let run = c as u32 + rows[a as usize & 31].arguments as u32;
+            (5, a < count && b < slots && d < slots && run <= slots as u32)
         }
-        _ => true,
+        JOIN | SUSPEND | YIELD => (1, true),
+        RETURN => (2, a < slots),
+        _ => return Err(4),
+    })
+}
+
+/// Targets of a routine's code, as places of their bytes in the image.
+struct Targets {
+    places: [u16; MOST / 3],
+    count: usize,
+}
+
+impl Targets {
+    #[inline(always)]
+    fn push(&mut self, place: usize) {
+        if let Some(next) = self.places.get_mut(self.count) {
+            *next = place as u16;
+            self.count += 1;
+        }
     }
 }
 
 /// A routine's code: 4, 5 and 6 command by command, then 7, then 8.
-fn check_code(program: &mut Program, row: Row) -> Result<(), u8> {
+fn check_code(program: &mut Program, row: Row, targets: &mut Targets) -> Result<(), u8> {
     let (start, length) = (row.start as usize, row.length as usize);
     let mut starts = Starts([0; MOST / 64]);
     let mut at = 0;
     let mut last = 0;
-    let mut targets = false;
+    targets.count = 0;
     while at < length {
         starts.mark(at);
         let word = program.word((start + at) as u16);
-        let op = word.op();
-        let size = if op < 16 { LENGTHS[op as usize & 15] as usize } else { 0 };
-        if size == 0 {
-            return Err(4);
-        }
+        let (size, good) = measure(word, row.slots, &program.rows, program.count)?;
         if at + size > length {
             return Err(5);
         }
-        if !in_range(word, row.slots, &program.rows, program.count) {
+        if !good {
             return Err(6);
         }
-        targets |= op == IF_ZERO || op == GO;
-        last = op;
+        last = word.op();
+        if last == IF_ZERO {
+            targets.push(start + at + 2);
+        }
+        if last == GO {
+            targets.push(start + at + 1);
+        }
         at += size;
     }
     if last != GO && last != RETURN {
         return Err(7);
     }
-    if !targets {
-        return Ok(());
-    }
-    at = 0;
-    while at < length {
-        let word = program.word((start + at) as u16);
-        let behind = match word.op() {
-            IF_ZERO => 2,
-            GO => 1,
-            _ => 0,
-        };
-        if behind != 0 {
-            let target = word.half(behind);
-            if !starts.has(target as usize) {
-                return Err(8);
-            }
-            let to = (target + row.start).to_le_bytes();
-            let place = (start + at + behind as usize) & (MOST - 1);
-            program.bytes[place] = to[0];
-            program.bytes[place + 1] = to[1];
+    for place in targets.places.iter().take(targets.count) {
+        let place = *place as usize & (MOST - 1);
+        let target = u16::from_le_bytes([program.bytes[place], program.bytes[place + 1]]);
+        if !starts.has(target as usize) {
+            return Err(8);
         }
-        at += LENGTHS[word.op() as usize & 15] as usize;
+        let to = (target + row.start).to_le_bytes();
+        program.bytes[place] = to[0];
+        program.bytes[place + 1] = to[1];
+    }
+    Ok(())
+}
+
+/// Reads an image into a blank program, or gives the number of the first test that it meets.
+#[inline]
+pub fn read(image: &[u8], program: &mut Program) -> Result<(), u8> {
+    (program.rows, program.count) = rows_of(image)?;
+    program.bytes[..image.len()].copy_from_slice(image);
+    let mut targets = Targets { places: [0; MOST / 3], count: 0 };
+    for r in 0..program.count {
+        let row = program.row(r);
+        check_code(program, row, &mut targets)?;
     }
     Ok(())
 }
 
 /// An image's program, or the number of the first test that it meets.
 pub fn check(image: &[u8]) -> Result<Program, u8> {
-    let (rows, count) = rows_of(image)?;
-    let mut program = Program { bytes: [0; PADDED], rows, count };
-    program.bytes[..image.len()].copy_from_slice(image);
-    for r in 0..count {
-        let row = program.row(r);
-        check_code(&mut program, row)?;
-    }
+    let mut program = Program::blank();
+    read(image, &mut program)?;
     Ok(program)
+}
+
+/// An image's number; 0 where it is accepted.
+pub fn number(image: &[u8]) -> u8 {
+    let mut program = Program::blank();
+    read(image, &mut program).err().unwrap_or(0)
 }

@@ -1,7 +1,7 @@
 //! The plain run: each fork a call.
 
 use super::command::*;
-use super::image::{check, Program};
+use super::image::{read, Program};
 use super::run::Fed;
 use super::PlainAnswer;
 
@@ -13,10 +13,10 @@ struct Plain<'a> {
 }
 
 pub fn plain(fed: Fed, memory: &mut [u32]) -> PlainAnswer {
-    let program = match check(fed.image) {
-        Ok(program) => program,
-        Err(number) => return PlainAnswer::Stopped { number, units: 0 },
-    };
+    let mut program = Program::blank();
+    if let Err(number) = read(fed.image, &mut program) {
+        return PlainAnswer::Stopped { number, units: 0 };
+    }
     if fed.arguments.len() != program.row(0).arguments as usize {
         return PlainAnswer::Stopped { number: 24, units: 0 };
     }

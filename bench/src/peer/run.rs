@@ -1,6 +1,6 @@
 //! A run by schedule, with its log.
 
-use super::image::check;
+use super::image::{read, Program};
 use super::machine::{Job, Machine};
 use super::Answer;
 
@@ -33,17 +33,25 @@ pub fn entries(schedule: &[u8]) -> Result<usize, u8> {
     if schedule.len() > LONGEST {
         return Err(13);
     }
-    let mut at = 0;
+    let mut rest = schedule;
     let mut count = 0;
-    while at < schedule.len() {
-        at += match schedule[at] {
-            1 | 2 | 4 => 2,
-            3 => 3,
+    loop {
+        // four steps at once
+        while let Some(eight) = rest.first_chunk::<8>() {
+            if u64::from_le_bytes(*eight) & 0x00FF_00FF_00FF_00FF != 0x0001_0001_0001_0001 {
+                break;
+            }
+            rest = &rest[8..];
+            count += 4;
+        }
+        rest = match rest {
+            [1 | 2 | 4, _, more @ ..] => more,
+            [3, _, _, more @ ..] => more,
+            [] => return Ok(count),
             _ => return Err(13),
         };
         count += 1;
     }
-    if at == schedule.len() { Ok(count) } else { Err(13) }
 }
 
 /// What a run is fed beside its schedule and buffers.
@@ -60,10 +68,10 @@ pub fn run(fed: Fed, memory: &mut [u32], schedule: &[u8], log: &mut [u8]) -> Ran
     if fed.cores == 0 || fed.cores > 4 {
         return Ran::refused(23);
     }
-    let program = match check(fed.image) {
-        Ok(program) => program,
-        Err(number) => return Ran::refused(number),
-    };
+    let mut program = Program::blank();
+    if let Err(number) = read(fed.image, &mut program) {
+        return Ran::refused(number);
+    }
     if fed.arguments.len() != program.row(0).arguments as usize {
         return Ran::refused(24);
     }
