@@ -63,47 +63,100 @@ fn filler(random: &mut Random, code: &mut Code, spare: u8, lazy: u64) {
     }
 }
 
-/// A slip: a command that faults at some orders or all.
+/// A slip anywhere: a command on any slots.
 fn slip(random: &mut Random, code: &mut Code, slots: u8) {
     let any = |random: &mut Random| random.below(slots as u64) as u8;
+    let (a, b, c) = (any(random), any(random), any(random));
     match random.below(8) {
-        0 | 6 => {
-            let a = any(random);
-            code.returns(a);
-        }
-        1 | 7 => {
-            let (d, a, b) = (any(random), any(random), any(random));
-            code.add(d, a, b);
-        }
-        2 => {
-            let (a, b) = (any(random), any(random));
-            code.set(a, edge(random));
-            code.store(a, b);
-        }
-        3 => {
-            let (d, a) = (any(random), any(random));
-            code.set(a, edge(random));
-            code.load(d, a);
-        }
-        4 => {
-            let d = any(random);
-            code.set(d, edge(random));
+        0 => code.returns(a),
+        1 => code.add(a, b, c),
+        2 => code.subtract(a, b, c),
+        3 => code.load(a, b),
+        4 => code.store(a, b),
+        5 => code.set(a, edge(random)),
+        6 => {
+            let out = code.if_zero(a);
+            code.land(out);
         }
         _ => code.join(),
     }
 }
 
+/// Where a tree's routine stands: its level, its window's size, its slots, its children so far and those of a round.
+struct Stand {
+    level: u8,
+    size: u16,
+    slots: u8,
+    forked: u8,
+    children: u8,
+}
+
+/// A slip at an edge: a load, a store or a fork's cut at lo, at the mark or at hi, or just beside it; a pending slot in each place of a
+/// command; a return with pending slots. About half of them are good commands after all.
+fn aimed(random: &mut Random, code: &mut Code, stand: &Stand) {
+    // slot 6 becomes the address; 5 is free here
+    let base = random.pick(&[0, 0, 2]);
+    code.set(6, if base == 0 && random.one_in(2) { stand.size } else { 0 });
+    code.add(6, base, 6);
+    code.set(5, 1);
+    match random.below(3) {
+        0 => code.subtract(6, 6, 5),
+        1 => code.add(6, 6, 5),
+        _ => {}
+    }
+    let child = 7 + random.below(stand.children as u64) as u8;
+    let early = 7 + random.below(stand.forked.max(1) as u64) as u8;
+    let next = stand.level + 1;
+    let op = fork_byte(random);
+    match random.below(16) {
+        0 | 1 => code.load(6, 6),
+        2 | 3 => code.store(6, 5),
+        4 | 5 => code.fork(op, next, child, 4, 6),
+        6 => code.fork(op, next, early, 4, 2),
+        7 => code.fork(op, next, child, 4, early),
+        8 => code.fork(op, next, child, early.min(stand.slots - 2), 2),
+        9 => code.set(early, 1),
+        10 => {
+            let operands = random.pick(&[[early, 5, 5], [5, early, 6], [5, 6, early]]);
+            if random.one_in(2) {
+                code.add(operands[0], operands[1], operands[2]);
+            } else {
+                code.subtract(operands[0], operands[1], operands[2]);
+            }
+        }
+        11 => {
+            if random.one_in(2) { code.load(early, 5) } else { code.load(5, early) }
+        }
+        12 => {
+            if random.one_in(2) { code.store(early, 5) } else { code.store(6, early) }
+        }
+        13 => {
+            let out = code.if_zero(early);
+            code.land(out);
+        }
+        14 => code.returns(5),
+        _ => slip(random, code, stand.slots),
+    }
+}
+
+/// Slots of a frame: often such that frames fill a stacklet exactly.
+fn frame(random: &mut Random, least: u64) -> u8 {
+    let size = random.pick(&[16, 16, 8, 4, 0, 0]);
+    if size >= least { size as u8 } else { random.range(least, 16) as u8 }
+}
+
 /// A tree of calls, a routine for each level: each cuts its window into parts for its children, joins them and adds up what they return.
 /// Slots: 0 lo, 1 data, 2 cut, 3 part, 4 and 5 arguments, 6 spare, 7 on results, the last one a count of rounds.
-fn tree(random: &mut Random, slips: bool) -> Vec<u8> {
+fn tree(random: &mut Random, slips: u64) -> Vec<u8> {
     let levels = random.range(1, 4) as u8;
     let lazy = random.pick(&[1, 2, 8, 1000]);
     let mut size = 992u16;
     let mut routines = Vec::new();
     for level in 0..levels {
         let children = random.range(1, 5) as u8;
-        let slots = random.range(8 + children as u64, 16) as u8;
-        let part = size / (children as u16 + 1);
+        let slots = frame(random, 8 + children as u64);
+        let part = size / (children as u16 + random.below(2) as u16).max(1);
+        let mut stand = Stand { level, size, slots, forked: 0, children };
         let mut code = Code::default();
         if level == 0 {
             code.set(0, 32);
@@ -118,18 +171,19 @@ fn tree(random: &mut Random, slips: bool) -> Vec<u8> {
             code.add(4, if child == 0 { 0 } else { 2 }, 5);
             code.set(5, random.below(40) as u16);
             code.add(2, 4, 3);
-            if slips && random.one_in(12) {
-                slip(random, &mut code, slots);
-            }
             code.fork(fork_byte(random), level + 1, 7 + child, 4, 2);
-            filler(random, &mut code, 6, lazy);
-            if random.one_in(3) {
-                code.store(2, 6);
-                code.load(6, 2);
+            stand.forked = child + 1;
+            if slips != 0 && random.one_in(slips) {
+                aimed(random, &mut code, &stand);
             }
+            filler(random, &mut code, 6, lazy);
         }
         filler(random, &mut code, 6, lazy);
         code.join();
+        if slips != 0 && random.one_in(slips) {
+            aimed(random, &mut code, &stand);
+            code.join();
+        }
         code.set(5, 0);
         for child in 0..children {
             code.add(5, 5, 7 + child);
@@ -153,8 +207,8 @@ fn tree(random: &mut Random, slips: bool) -> Vec<u8> {
 }
 
 /// Slots: 0 lo, 1 a count, 2 one, 3 a sum.
-fn leaf(random: &mut Random, lazy: u64, slips: bool) -> Routine {
-    let slots = random.range(4, 16) as u8;
+fn leaf(random: &mut Random, lazy: u64, slips: u64) -> Routine {
+    let slots = frame(random, 4);
     let mut code = Code::default();
     code.set(2, 1);
     if random.one_in(2) {
@@ -172,8 +226,13 @@ fn leaf(random: &mut Random, lazy: u64, slips: bool) -> Routine {
     if random.one_in(lazy) {
         if random.one_in(2) { code.suspend() } else { code.yields() }
     }
-    if slips && random.one_in(6) {
-        slip(random, &mut code, slots);
+    if slips != 0 && random.one_in(2 * slips) {
+        if random.one_in(2) {
+            code.subtract(0, 0, 2);
+            code.store(0, 3);
+        } else {
+            slip(random, &mut code, slots);
+        }
     }
     code.returns(3);
     Routine { slots, arguments: 2, code: code.bytes }
@@ -181,16 +240,27 @@ fn leaf(random: &mut Random, lazy: u64, slips: bool) -> Routine {
 
 /// Routine 0 of a count: it calls itself of one less, once or more, in no window or in all of it.
 fn deep(random: &mut Random) -> (Vec<u8>, Vec<u32>) {
-    let calls = random.pick(&[1, 1, 1, 2]);
-    let slots = random.range(5 + calls as u64, 16) as u8;
+    let calls = random.pick(&[1, 1, 2, 2, 3]);
+    let slots = frame(random, 5 + calls as u64);
+    let kind = random.pick(&[LFORK, FORK, 0, 0]);
+    let most = if calls == 1 { 40 } else { 11 - calls as u64 };
+    let count = if calls == 1 && random.one_in(2) { random.range(30, 36) } else { random.below(most) };
     let mut code = Code::default();
     let out = code.if_zero(0);
     code.set(1, 1);
     code.subtract(0, 0, 1);
-    code.set(2, random.pick(&[32, 32, 32, 1024]));
+    if count > 29 && random.one_in(2) {
+        // the cut is what is left of the count, above 32; it is out of range from about 32 deep on
+        code.set(2, 32 + random.range(30, 32) as u16 - count as u16);
+        code.add(2, 0, 2);
+        code.set(1, 0);
+    } else {
+        code.set(2, random.pick(&[32, 32, 32, 1024]));
+    }
     let lazy = random.one_in(2);
     for call in 0..calls {
-        code.fork(fork_byte(random), 0, 3 + call, 0, 2);
+        let op = if kind == 0 { random.pick(&[LFORK, FORK]) } else { kind };
+        code.fork(op, 0, 3 + call, 0, 2);
         if lazy && random.one_in(2) {
             if random.one_in(2) { code.suspend() } else { code.yields() }
         }
@@ -205,8 +275,40 @@ fn deep(random: &mut Random) -> (Vec<u8>, Vec<u32>) {
         code.suspend();
     }
     code.returns(0);
-    let most = if calls == 1 { 40 } else { 9 };
-    (image(&[Routine { slots, arguments: 1, code: code.bytes }]), vec![random.below(most) as u32])
+    (image(&[Routine { slots, arguments: 1, code: code.bytes }]), vec![count as u32])
+}
+
+/// Routines of many frame sizes that call each other down a count, so that frames end anywhere on a stacklet and stacklets run out.
+fn crowded(random: &mut Random) -> (Vec<u8>, Vec<u32>) {
+    let count = random.range(2, 4) as u8;
+    let mut routines = Vec::new();
+    for _ in 0..count {
+        let calls = random.range(1, 3) as u8;
+        let mut code = Code::default();
+        let out = code.if_zero(0);
+        code.set(1, 1);
+        code.subtract(0, 0, 1);
+        code.set(2, 32);
+        for call in 0..calls {
+            let op = random.pick(&[LFORK, LFORK, LFORK, FORK]);
+            code.fork(op, random.below(count as u64) as u8, 3 + call, 0, 2);
+            if random.one_in(8) {
+                code.yields();
+            }
+        }
+        code.join();
+        for call in 0..calls {
+            code.add(1, 1, 3 + call);
+        }
+        code.returns(1);
+        code.land(out);
+        if random.one_in(4) {
+            code.suspend();
+        }
+        code.returns(0);
+        routines.push(Routine { slots: frame(random, 3 + calls as u64), arguments: 1, code: code.bytes });
+    }
+    (image(&routines), vec![random.range(2, 9) as u32])
 }
 
 /// Many children of one thread, each of which may stay for long.
@@ -290,7 +392,13 @@ fn wild(random: &mut Random) -> (Vec<u8>, Vec<u32>) {
                     let run = rows[r as usize].1;
                     if run <= slots {
                         let a = random.below((slots - run) as u64 + 1) as u8;
-                        code.extend([fork_byte(random), r, slot(random), a, slot(random)]);
+                        let w = slot(random);
+                        if !random.one_in(4) {
+                            code.extend([SET, w]);
+                            code.extend((random.range(30, 60) as u16).to_le_bytes());
+                            starts.push(code.len() as u16);
+                        }
+                        code.extend([fork_byte(random), r, slot(random), a, w]);
                     } else {
                         code.push(JOIN);
                     }
@@ -328,26 +436,28 @@ fn value(random: &mut Random) -> u32 {
 /// A job that a run takes.
 pub fn job(random: &mut Random) -> Case {
     let (image, arguments) = match random.below(20) {
-        0..=5 => (tree(random, false), vec![]),
-        6..=9 => (tree(random, true), vec![]),
+        0..=3 => (tree(random, 0), vec![]),
+        4..=5 => (tree(random, 4), vec![]),
+        6..=9 => (tree(random, 25), vec![]),
         10..=12 => deep(random),
-        13..=15 => (many(random), vec![]),
+        13..=14 => crowded(random),
+        15..=16 => (many(random), vec![]),
         _ => wild(random),
     };
     let parameters = (0..32).map(|_| value(random)).collect();
     let memory = (0..992).map(|_| value(random)).collect();
     let mut case =
         Case { image, cores: random.range(1, 4) as u8, arguments, parameters, memory, allowance: 100_000 };
-    case.allowance = match random.below(6) {
-        0 => random.below(60) as u32,
-        1 | 2 => {
-            // near what the plain run takes
-            let units = match plain(case.fed(), &mut case.memory.clone()) {
-                PlainAnswer::Finished { units, .. } | PlainAnswer::Stopped { units, .. } => units,
-            };
+    let ended = plain(case.fed(), &mut case.memory.clone());
+    case.allowance = match (ended, random.below(6)) {
+        // the command that faults, just not paid for or just paid for
+        (PlainAnswer::Stopped { number: 9..=12, units }, 0..=2) => units + random.pick(&[0, 0, 1, 1, 2, 5, 6, 11, 12]),
+        (_, 0) => random.below(60) as u32,
+        // near what the plain run takes
+        (PlainAnswer::Finished { units, .. } | PlainAnswer::Stopped { units, .. }, 1 | 2) => {
             (units + random.below(8) as u32).saturating_sub(4)
         }
-        3 => u32::MAX,
+        (_, 3) => u32::MAX,
         _ => random.below(20_000) as u32,
     };
     // a plain run of a wild loop must end
@@ -367,7 +477,7 @@ fn runs_on(case: &Case) -> bool {
 pub fn damaged_image(random: &mut Random) -> Vec<u8> {
     let mut bytes = match random.below(3) {
         0 => wild(random).0,
-        1 => tree(random, random.clone().one_in(2)),
+        1 => tree(random, 9),
         _ => many(random),
     };
     for _ in 0..random.pick(&[1, 1, 1, 2, 5]) {
