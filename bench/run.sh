@@ -11,6 +11,7 @@ cargo build --release --offline --quiet --manifest-path bench/Cargo.toml
 case "${1:-test}" in
 test)
     shift || true
+    cargo test --release --lib --offline --quiet --manifest-path bench/Cargo.toml
     exec bench/target/release/differ "$@"
     ;;
 measure) exec bench/target/release/measure docs ;;

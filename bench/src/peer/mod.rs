@@ -9,6 +9,8 @@ pub mod image;
 pub mod machine;
 pub mod plain;
 pub mod run;
+#[cfg(test)]
+mod tests;
 
 /// How a run by schedule or a house run ended.
 #[derive(Clone, Copy, Debug, PartialEq, Eq)]
