@@ -109,6 +109,32 @@ fn by_entries(
     compared(memory, serial);
 }
 
+// The built-in scheduler, and then the entries that it wrote.
+fn by_scheduler(image: &[u8], cores: u8, arguments: &[u32], serial: [u32; 992]) {
+    let parameters = [0u32; 32];
+    let mut memory = [0u32; 992];
+    let mut buffer = [0u8; 32768];
+    let scheduled = scheduler::run(
+        image,
+        cores,
+        arguments,
+        &parameters,
+        &mut memory,
+        ALLOWANCE,
+        &mut buffer,
+    );
+    io::write_all(1, b"built-in scheduler, cores");
+    word(cores as u32);
+    let answer = scheduled.answer;
+    line(answer);
+    compared(memory, serial);
+    let mut n = scheduled.used;
+    if 32768 < n {
+        n = 0;
+    }
+    by_entries(b"its entries", image, cores, arguments, &buffer[0..n], serial);
+}
+
 pub fn all(name: &[u8], image: &[u8], arguments: &[u32]) {
     io::write_all(1, name);
     io::write_all(1, b"\n");
@@ -131,4 +157,8 @@ pub fn all(name: &[u8], image: &[u8], arguments: &[u32]) {
     by_entries(b"backwards", image, 4, arguments, &buffer[0..29000], serial);
     mixed(&mut buffer);
     by_entries(b"mixed", image, 3, arguments, &buffer[0..32500], serial);
+    by_scheduler(image, 1, arguments, serial);
+    by_scheduler(image, 2, arguments, serial);
+    by_scheduler(image, 3, arguments, serial);
+    by_scheduler(image, 4, arguments, serial);
 }
