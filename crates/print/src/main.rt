@@ -3,7 +3,7 @@ ghost use mathlib.Core.Path.{_≡_};
 ghost use lib.ListN.{length};
 
 // All bytes of an input that matter: 2, four for each of at most 255 arguments, 4, 2, an image of at most 65,535, and one more than the
-// 32,768 that a schedule may have. Where more follow, the run is refused in any case.
+// 32,768 that a schedule may have. What follows has no part in the text (`rest-ignored` in crates/transcript/proofs/Longer.antt).
 fn input_buffer() -> [u8; 99332]
     ensures { λ r. ⌜ 99332 ≡ length r ⌝ }
 {

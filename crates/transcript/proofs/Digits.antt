@@ -9,7 +9,7 @@ use lib.Dec.{ltb}
 use lib.ListN.{length, length-append}
 use Rattle.transcript.proofs.Writing.{followed, same-text}
 use Rattle.transcript.specs.Text.{digitsOf, decimalOf}
-use Rattle.transcript.specs.Writing.{Put}
+use Rattle.transcript.specs.Parts.{Put}
 
 -- steps enough give the same digits
 steps-enough : (k j n : ℕ) → n ≤ k → n ≤ j → digitsOf k n ≡ digitsOf j n

@@ -6,4 +6,5 @@ pub mod Words
 pub mod Running
 pub mod Printing
 pub mod Longer
+pub mod Early
 pub mod Cases

@@ -13,7 +13,7 @@ use Rattle.transcript.proofs.Digits.{power, few-digits}
 use Rattle.transcript.proofs.Writing.{followed, silent, same-text}
 use Rattle.transcript.specs.Text.{ascii, decimalOf, spaced, entryLine, lastLine}
 use Rattle.transcript.specs.Transcript.{entryLines}
-use Rattle.transcript.specs.Writing.{Put, Fills}
+use Rattle.transcript.specs.Parts.{Put, Fills}
 
 -- a blank and at most k + 1 digits
 pub few-spaced : (k n : ℕ) → n < power (suc k) → length (spaced n) ≤ k + 2

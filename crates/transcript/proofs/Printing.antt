@@ -11,7 +11,8 @@ use Rattle.run.specs.declared.RunAnswer.the-variants.{Refused}
 use Rattle.transcript.specs.Text.{lastLine}
 use Rattle.transcript.specs.Reading.{pairAt, wordAt, wordsFrom, coreCount, argumentCount, allowanceAt, lengthAt, imageAt, scheduleAt, startingWith, inputOf, scheduleIn}
 use Rattle.transcript.specs.Transcript.{runText, textOf}
-use Rattle.transcript.specs.Writing.{overlaid, Put, Fills, Prints}
+use Rattle.transcript.specs.Writing.{overlaid, Prints}
+use Rattle.transcript.specs.Parts.{Put, Fills}
 
 -- stores past the first byte leave it
 sets-past : (y : ℕ) (b : List ℕ) (at : ℕ) (text : List ℕ) → sets (y ∷ b) (suc at) text ≡ y ∷ sets b at text

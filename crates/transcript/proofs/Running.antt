@@ -25,7 +25,7 @@ use Rattle.run.specs.Run.{Input, jobIn, startIn, runFrom, logsFrom, entryCount,
 use Rattle.transcript.proofs.Writing.{followed, same-text}
 use Rattle.transcript.specs.Text.{lastLine}
 use Rattle.transcript.specs.Transcript.{entryLines, playedText, numberOfRun, runText}
-use Rattle.transcript.specs.Writing.{Put, Fills, linesOf}
+use Rattle.transcript.specs.Parts.{Put, Fills, linesOf}
 
 -- an entry has at least two bytes
 two-bytes : (e : Entry) → 2 ≤ length (bytesOf e)

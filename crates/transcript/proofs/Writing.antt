@@ -7,7 +7,7 @@ use native.Mathlib.Numerals.{add-one}
 use native.Mathlib.Omega.{arith}
 use lib.ListN.{length, getD, set, take, length-append}
 use lib.Seq.{sets, set-out, length-sets, take-suc, take-all, length-take-le}
-use Rattle.transcript.specs.Writing.{Put}
+use Rattle.transcript.specs.Parts.{Put}
 
 sets-append : (b : List ℕ) (at : ℕ) (xs ys : List ℕ) → sets b at (xs ++ ys) ≡ sets (sets b at xs) (at + length xs) ys
 sets-append b at [] ys = rw (add-zero at)

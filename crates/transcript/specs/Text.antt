@@ -12,14 +12,14 @@ abbrev pub ascii : String → List ℕ
 ascii none = []
 ascii (first c s) = code c ∷ ascii s
 
--- the digits of a number: those of its tenth, and then its last; the count of steps ends the recursion
+-- the digits of a number: those of its tenth, and then its last; 48 is the character `0`, and the count of steps ends the recursion
 unfoldable pub digitsOf : ℕ → ℕ → List ℕ
 digitsOf zero n = (48 + n) ∷ []
 digitsOf (suc steps) n =
     let longer : List ℕ = digitsOf steps (n / 10) ++ ((48 + n % 10) ∷ []) in
     cond (ltb n 10) ((48 + n) ∷ []) longer
 
--- a number in decimal; it has no more digits than n + 1
+-- a number in decimal; n steps are enough (`units-only` and `tens-and-units` in proofs/Digits are its equations without them)
 unfoldable pub decimalOf : ℕ → List ℕ
 decimalOf n = digitsOf n n
 

@@ -27,7 +27,7 @@ abbrev pub entriesIn : Schedule → List Entry
 entriesIn (entries es) = es
 entriesIn malformed = []
 
--- the number of the whole run: its log has a byte for each entry, and so is never too short
+-- the number of the whole run: its log has a byte for each entry, and so is never too short (`only-early` in proofs/Early)
 unfoldable pub numberOfRun : Input → List ℕ → ℕ
 numberOfRun i schedule = refusalOf i schedule (replicate (entryCount (scheduleOf schedule)) 0)
 

@@ -18,7 +18,8 @@ ghost use Rattle.schedule.specs.Meaning.{scheduleOf};
 ghost use Rattle.run.specs.Run.{entryCount};
 ghost use Rattle.transcript.specs.Reading.{startingWith};
 ghost use Rattle.transcript.specs.Transcript.{runText};
-ghost use Rattle.transcript.specs.Writing.{Prints, Fills, linesOf};
+ghost use Rattle.transcript.specs.Writing.{Prints};
+ghost use Rattle.transcript.specs.Parts.{Fills, linesOf};
 
 // How many entries a schedule has; none where it is malformed.
 fn entry_count(schedule: &[u8]) -> usize

@@ -7,7 +7,7 @@ ghost use Prim.Native.Nat.{_<_, _≤_, _+_, _*_, _%_};
 ghost use lib.ListN.{length, take};
 ghost use Rattle.transcript.specs.Text.{ascii, decimalOf, spaced, entryLine, lastLine};
 ghost use Rattle.transcript.specs.Transcript.{entryLines};
-ghost use Rattle.transcript.specs.Writing.{Put, Fills};
+ghost use Rattle.transcript.specs.Parts.{Put, Fills};
 
 fn put(output: &mut [u8], at: usize, byte: u8) -> usize
     requires { ⌜ at < 1000000 ⌝ }

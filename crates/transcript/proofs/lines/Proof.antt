@@ -1,6 +1,6 @@
 -- `transcript::lines` meets its contract. Assumes nothing.
 use borrow.Author.Needs.{needs}
-use Rattle.transcript.specs.Writing.{linesOf}
+use Rattle.transcript.specs.Parts.{linesOf}
 use Rattle.transcript.proofs.lines.Statement.{statement}
 use Rattle.transcript.proofs.lines.Tie as tie
 

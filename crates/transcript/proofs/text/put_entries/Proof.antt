@@ -7,7 +7,7 @@ use lib.ListN.{take}
 use Rattle.transcript.proofs.Writing.{same-size}
 use Rattle.transcript.proofs.LineLaws.{one-more-line, no-lines}
 use Rattle.transcript.specs.Transcript.{entryLines}
-use Rattle.transcript.specs.Writing.{Put}
+use Rattle.transcript.specs.Parts.{Put}
 use Rattle.transcript.proofs.text.put_entries.Statement.{statement}
 use Rattle.transcript.proofs.text.put_entries.Tie as tie
 

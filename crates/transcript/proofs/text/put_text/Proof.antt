@@ -3,7 +3,7 @@ use native.Mathlib.Omega.{arith}
 use Prim.Native.Nat.{_≤_, _-_}
 use lib.ListN.{length, take}
 use Rattle.transcript.proofs.Writing.{silent, first-size, one-more, whole, same-size}
-use Rattle.transcript.specs.Writing.{Put}
+use Rattle.transcript.specs.Parts.{Put}
 use Rattle.transcript.proofs.text.put_text.Statement.{statement}
 use Rattle.transcript.proofs.text.put_text.Tie as tie
 
