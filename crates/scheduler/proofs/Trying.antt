@@ -1,7 +1,8 @@
 -- One try in the code and in the definition: the scheduler's variables stand at some progress, and go on to the next. Assumes nothing.
-use borrow.Author.Tests.{le-leb, lt-leb}
+use borrow.Author.Tests.{le-leb, lt-leb, leb-true, leb-false, eqb-true, eqb-false}
 use mathlib.Core.Bool.{Bool, true, false, cond, _&&_, _||_, not}
 use mathlib.Core.List.{List, [], _∷_, _++_, append-nil, append-assoc}
+use mathlib.Core.Logic.{_⊎_, inl, inr}
 use mathlib.Core.Path.{_≡_, refl, sym, _∙_, ap, subst}
 use Prim.Native.Nat.{ℕ, _+_, _-_, _≤_, _<_}
 use native.Mathlib.Nat.{add-zero}
@@ -11,8 +12,11 @@ use lib.ListN.{length, take, drop, length-append, take-append-drop}
 use lib.Seq.{take-at, drop-at, drop-drop}
 use Rattle.schedule.specs.declared.Entry.{Entry}
 use Rattle.schedule.specs.Format.{bytesOf}
-use Rattle.machine.specs.State.{Job, State, After, isOver}
+use Rattle.machine.specs.declared.Machine.{Machine}
+use Rattle.machine.specs.State.{Job, State, After, isOver, outcomeOf}
 use Rattle.machine.specs.Rules.{entryOf}
+use Rattle.machine.proofs.Tests.{over-true, over-false}
+use Rattle.soundness.proofs.EntryCases.{and-true}
 use Rattle.scheduler.proofs.Keeping.{short}
 use Rattle.scheduler.proofs.Refusing.{refused-stays}
 use Rattle.scheduler.specs.Rounds.{Progress, isWritten, mayTry, recorded, tried, bytesOfAll}
@@ -30,6 +34,19 @@ pub record At (room : ℕ) (first : List ℕ) (p : Progress) (s : State) (at : �
   pub moved : p .moved ≡ m
   pub many : at ≡ length (bytesOfAll (p .written))
   pub bytes : buffer ≡ bytesOfAll (p .written) ++ drop at first
+
+-- the test before a try
+pub test-met : (m : Machine) (left : ℕ) (b : Bool) → b ≡ (eqb (m .over) 0 && leb 3 left) → b ≡ true → (isOver (outcomeOf m) ≡ false) × (3 ≤ left)
+test-met m left b h t =
+    let (o, l) = and-true (eqb (m .over) 0) (leb 3 left) (sym h ∙ t) in
+    (over-false m (eqb-true (m .over) 0 o), leb-true 3 left l)
+
+pub test-failed : (m : Machine) (left : ℕ) (b : Bool) → b ≡ (eqb (m .over) 0 && leb 3 left) → b ≡ false → (isOver (outcomeOf m) ≡ true) ⊎ (left < 3)
+test-failed m left b h t = by (eqb (m .over) 0) refl (sym h ∙ t)
+  where
+    by : (x : Bool) → eqb (m .over) 0 ≡ x → (x && leb 3 left) ≡ false → (isOver (outcomeOf m) ≡ true) ⊎ (left < 3)
+    by true e f = inr (leb-false 3 left f)
+    by false e f = inl (over-true m (eqb-false (m .over) 0 e))
 
 or-none : (b : Bool) (n : ℕ) → isWritten n ≡ false → (b || eqb n 0) ≡ b
 or-none b n h = go (eqb n 0) h b

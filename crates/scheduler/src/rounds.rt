@@ -4,10 +4,10 @@ use crate::search::lowest_suspended;
 use machine::Machine;
 use schedule::Entry;
 use schedule::Written;
-ghost use mathlib.Core.Bool.{_||_};
+ghost use mathlib.Core.Bool.{_&&_, _||_};
 ghost use mathlib.Core.Path.{_≡_};
 ghost use Prim.Native.Nat.{_+_, _≤_};
-ghost use lib.Dec.{eqb};
+ghost use lib.Dec.{eqb, leb};
 ghost use lib.ListN.{length};
 ghost use Rattle.machine.specs.State.{jobOf, meaning};
 ghost use Rattle.machine.specs.Sound.{Sound};
@@ -24,6 +24,16 @@ const LEAST: usize = 3;
 pub struct End {
     pub machine: Machine,
     pub used: usize,
+}
+
+// May an entry be tried, with so many bytes left?
+fn may_try(over: u8, left: usize) -> bool
+    ensures { λ r. ⌜ r ≡ (eqb over 0 && leb 3 left) ⌝ }
+{
+    if over != 0 {
+        return false;
+    }
+    LEAST <= left
 }
 
 // Is an entry with this log byte accepted, or does it fault?
@@ -96,13 +106,7 @@ pub fn play_rounds(
         let mut moved = false;
         let mut c: u8 = 0;
         while c < count {
-            if m.over != 0 {
-                return End {
-                    machine: m,
-                    used: at,
-                };
-            }
-            if room - at < LEAST {
+            if !may_try(m.over, room - at) {
                 return End {
                     machine: m,
                     used: at,
@@ -117,13 +121,7 @@ pub fn play_rounds(
             moved = is_moved(moved, m.log);
             c = c + 1;
         }
-        if m.over != 0 {
-            return End {
-                machine: m,
-                used: at,
-            };
-        }
-        if room - at < LEAST {
+        if !may_try(m.over, room - at) {
             return End {
                 machine: m,
                 used: at,

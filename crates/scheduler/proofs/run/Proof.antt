@@ -5,14 +5,6 @@ use Rattle.scheduler.proofs.Promising.{refuses, ready, schedules}
 use borrow.Author.Needs.{needs}
 use Rattle.scheduler.proofs.run.Statement.{statement}
 use Rattle.scheduler.proofs.run.Tie as tie
-use Rattle.scheduler.proofs.run.Reads as reads
-use Rattle.scheduler.proofs.run.Lts as lts
-use Rattle.image.proofs.Program.starts.Reads as starts-reads
-use Rattle.image.proofs.check.Reads as check-reads
-use Rattle.run.proofs.run.Reads as run-reads
-use Rattle.scheduler.proofs.answer.answer.Reads as answer-reads
-use Rattle.scheduler.proofs.answer.refused_by.Reads as refused-by-reads
-use Rattle.scheduler.proofs.rounds.play_rounds.Reads as play-rounds-reads
 
 sub-run : tie.Need-sub-run
 sub-run c = search needs

@@ -6,10 +6,6 @@ use Rattle.scheduler.proofs.Keeping.{not-kept, kept, few, has-room}
 use borrow.Author.Needs.{needs}
 use Rattle.scheduler.proofs.rounds.keep.Statement.{statement}
 use Rattle.scheduler.proofs.rounds.keep.Tie as tie
-use Rattle.scheduler.proofs.rounds.keep.Reads as reads
-use Rattle.scheduler.proofs.rounds.keep.Lts as lts
-use Rattle.schedule.proofs.write.Reads as write-reads
-use Rattle.scheduler.proofs.rounds.is_written.Reads as is-written-reads
 
 is-written-requires : tie.Need-is-written-requires
 is-written-requires c κs = search needs

@@ -1,25 +1,18 @@
 -- `scheduler::rounds::play_rounds` meets its contract. The invariants: the lent words keep their lengths, the cores left lead to where the
 -- round does, and the rounds left to where all do. The measures are the cores left and the bytes left. Assumes nothing.
+use borrow.Author.Tests.{not-true, not-false}
 use mathlib.Core.Logic.{⊎-elim}
 use mathlib.Core.Path.{_≡_, refl, sym, _∙_}
 use Prim.Native.Nat.{_-_}
 use native.Mathlib.Omega.{arith}
 use lib.ListN.{length}
-use Rattle.machine.proofs.Tests.{over-true, over-false}
 use Rattle.machine.specs.State.{jobOf, meaning, after}
 use Rattle.scheduler.proofs.Searching.{busy, idle}
+use Rattle.scheduler.proofs.Trying.{test-met, test-failed}
 use Rattle.scheduler.proofs.Rounding.{Turning, Rounding, begins, enters, turns-on, started, ends-over, ends-short, ends-idle, again-moved, enabled, again-enabled}
 use borrow.Author.Needs.{needs}
 use Rattle.scheduler.proofs.rounds.play_rounds.Statement.{statement}
 use Rattle.scheduler.proofs.rounds.play_rounds.Tie as tie
-use Rattle.scheduler.proofs.rounds.play_rounds.Reads as reads
-use Rattle.scheduler.proofs.rounds.play_rounds.Lts as lts
-use Rattle.machine.proofs.Machine.entry.Reads as entry-reads
-use Rattle.scheduler.proofs.rounds.is_moved.Reads as is-moved-reads
-use Rattle.scheduler.proofs.rounds.keep.Reads as keep-reads
-use Rattle.scheduler.proofs.rounds.usable_of.Reads as usable-of-reads
-use Rattle.scheduler.proofs.search.idle_choice.Reads as idle-choice-reads
-use Rattle.scheduler.proofs.search.lowest_suspended.Reads as lowest-suspended-reads
 
 abbrev Inv-loop2 : tie.InvT-loop2
 Inv-loop2 image starts parameters words₀ memory₀ allowance buffer₀ count room m₀ at₀ moved₀ c₀ words memory buffer m at moved c =
@@ -49,6 +42,12 @@ loop-holds c = (refl, refl, refl, begins _ _ _ _ _ (c .before .before .before .b
 loop2-holds : tie.Need-loop2-holds Inv-loop2 μ-loop2 Inv-loop μ-loop
 loop2-holds c = (refl, refl, refl, enters _ _ _ _ _ _ (c .loop .inv .3 .sound) (c .loop .inv .3 .cores) (c .loop .inv .3 .within))
 
+sub-may-try : tie.Need-sub-may-try Inv-loop2 μ-loop2 Inv-loop μ-loop
+sub-may-try c = omega (arith, c .before .loop2 .inv .3 .within)
+
+may-try-requires : tie.Need-may-try-requires Inv-loop2 μ-loop2 Inv-loop μ-loop
+may-try-requires c κs = search needs
+
 same-length : tie.Need-same-length Inv-loop2 μ-loop2 Inv-loop μ-loop
 same-length c = search needs
 
@@ -60,28 +59,15 @@ same-length-3 c = search needs
 
 returns : tie.Need-returns Inv-loop2 μ-loop2 Inv-loop μ-loop
 unfolding meaning
-returns c = ends-over _ _ _ _ _ _ _ _ (c .before .before .before .loop .inv .3) _ _ _ _ _ (c .before .before .loop2 .inv .3) (over-true (c .before .before .loop2 .m) (c .if1 .taken))
+returns c =
+    ⊎-elim (λ o. ends-over _ _ _ _ _ _ _ _ (c .before .before .before .before .loop .inv .3) _ _ _ _ _ (c .before .before .before .loop2 .inv .3) o) (λ l. ends-short _ _ _ _ _ _ _ _ (c .before .before .before .before .loop .inv .3) _ _ _ _ _ (c .before .before .before .loop2 .inv .3) l)
+    (test-failed (c .before .before .before .loop2 .m) (c .before .before .before .before .before .usable-of .result - c .before .before .before .loop2 .at) _ (c .before .may-try .ensures) (not-true _ (c .if1 .taken)))
 
-sub-if2 : tie.Need-sub-if2 Inv-loop2 μ-loop2 Inv-loop μ-loop
-sub-if2 c = omega (arith, c .before .before .loop2 .inv .3 .within)
+cast-if2 : tie.Need-cast-if2 Inv-loop2 μ-loop2 Inv-loop μ-loop
+cast-if2 c = search needs
 
-same-length-4 : tie.Need-same-length-4 Inv-loop2 μ-loop2 Inv-loop μ-loop
-same-length-4 c = search needs
-
-same-length-5 : tie.Need-same-length-5 Inv-loop2 μ-loop2 Inv-loop μ-loop
-same-length-5 c = search needs
-
-same-length-6 : tie.Need-same-length-6 Inv-loop2 μ-loop2 Inv-loop μ-loop
-same-length-6 c = search needs
-
-returns-2 : tie.Need-returns-2 Inv-loop2 μ-loop2 Inv-loop μ-loop
-returns-2 c = ends-short _ _ _ _ _ _ _ _ (c .before .before .before .before .loop .inv .3) _ _ _ _ _ (c .before .before .before .loop2 .inv .3) (c .if2 .taken)
-
-cast-if3 : tie.Need-cast-if3 Inv-loop2 μ-loop2 Inv-loop μ-loop
-cast-if3 c = search needs
-
-element-copy-out-if3 : tie.Need-element-copy-out-if3 Inv-loop2 μ-loop2 Inv-loop μ-loop
-element-copy-out-if3 c = omega (arith, c .before .before .before .loop2 .inv .3 .sound .sized .most, c .before .before .before .loop2 .inv .3 .cores)
+element-copy-out-if2 : tie.Need-element-copy-out-if2 Inv-loop2 μ-loop2 Inv-loop μ-loop
+element-copy-out-if2 c = omega (arith, c .before .before .before .loop2 .inv .3 .sound .sized .most, c .before .before .before .loop2 .inv .3 .cores)
 
 idle-choice-requires : tie.Need-idle-choice-requires Inv-loop2 μ-loop2 Inv-loop μ-loop
 unfolding meaning
@@ -91,7 +77,7 @@ entry-requires : tie.Need-entry-requires Inv-loop2 μ-loop2 Inv-loop μ-loop
 entry-requires c κs = c .before .before .before .before .before .before .before .loop2 .inv .3 .sound
 
 keep-requires : tie.Need-keep-requires Inv-loop2 μ-loop2 Inv-loop μ-loop
-keep-requires c κs = omega (arith, c .before .before .before .before .before .before .before .before .before .before .before .before .before .before .before .usable-of .ensures, c .before .before .before .before .before .before .before .before .before .before .if2 .left, c .before .before .before .before .before .before .before .before .before .before .before .before .before .loop2 .inv .2, c .before .before .before .before .before .before .before .before .before .before .before .before .before .before .loop .inv .2)
+keep-requires c κs = omega (arith, c .before .before .before .before .before .before .before .before .before .before .before .before .before .before .before .usable-of .ensures, (test-met (c .before .before .before .before .before .before .before .before .before .before .before .before .before .loop2 .m) (c .before .before .before .before .before .before .before .before .before .before .before .before .before .before .before .usable-of .result - c .before .before .before .before .before .before .before .before .before .before .before .before .before .loop2 .at) _ (c .before .before .before .before .before .before .before .before .before .before .before .may-try .ensures) (not-false _ (c .before .before .before .before .before .before .before .before .before .before .if1 .left))) .1, c .before .before .before .before .before .before .before .before .before .before .before .before .before .loop2 .inv .2, c .before .before .before .before .before .before .before .before .before .before .before .before .before .before .loop .inv .2)
 
 is-moved-requires : tie.Need-is-moved-requires Inv-loop2 μ-loop2 Inv-loop μ-loop
 is-moved-requires c κs = search needs
@@ -110,10 +96,46 @@ loop2-again c = (
   c .before .before .before .keep .kept .1 .1 .0 ∙ c .before .before .before .before .before .before .before .before .before .before .before .before .before .before .before .before .before .loop2 .inv .2,
   rw (c .is-moved .ensures)
       (turns-on _ _ _ _ _ _ _ _ _ _ _ _ (c .before .before .before .before .before .before .before .before .before .before .before .before .before .before .before .before .before .loop2 .inv .3) _ _ (started _ _ _ _ _ _ _ _ (c .before .before .before .before .before .before .before .before .before .before .before .before .before .before .before .before .before .before .loop .inv .3) _ _ _ _ _ (c .before .before .before .before .before .before .before .before .before .before .before .before .before .before .before .before .before .loop2 .inv .3))
-      (c .before .before .before .before .before .before .before .before .before .before .before .before .before .before .before .before .loop2-test .taken) (over-false (c .before .before .before .before .before .before .before .before .before .before .before .before .before .before .before .before .before .loop2 .m) (c .before .before .before .before .before .before .before .before .before .before .before .before .before .before .before .if1 .left)) (c .before .before .before .before .before .before .before .before .before .before .before .before .before .before .if2 .left) _
-      (⊎-elim (λ w. idle _ _ _ _ (w .0 .taken) (w .2 ∙ w .1 .ensures _ _ _ _)) (λ w. busy _ _ _ _ (w .0 .left) (w .1)) (c .before .before .before .before .before .before .before .before .before .before .before .before .if3 .came))
+      (c .before .before .before .before .before .before .before .before .before .before .before .before .before .before .before .before .loop2-test .taken) ((test-met (c .before .before .before .before .before .before .before .before .before .before .before .before .before .before .before .before .before .loop2 .m) (c .before .before .before .before .before .before .before .before .before .before .before .before .before .before .before .before .before .before .before .usable-of .result - c .before .before .before .before .before .before .before .before .before .before .before .before .before .before .before .before .before .loop2 .at) _ (c .before .before .before .before .before .before .before .before .before .before .before .before .before .before .before .may-try .ensures) (not-false _ (c .before .before .before .before .before .before .before .before .before .before .before .before .before .before .if1 .left))) .0) ((test-met (c .before .before .before .before .before .before .before .before .before .before .before .before .before .before .before .before .before .loop2 .m) (c .before .before .before .before .before .before .before .before .before .before .before .before .before .before .before .before .before .before .before .usable-of .result - c .before .before .before .before .before .before .before .before .before .before .before .before .before .before .before .before .before .loop2 .at) _ (c .before .before .before .before .before .before .before .before .before .before .before .before .before .before .before .may-try .ensures) (not-false _ (c .before .before .before .before .before .before .before .before .before .before .before .before .before .before .if1 .left))) .1) _
+      (⊎-elim (λ w. idle _ _ _ _ (w .0 .taken) (w .2 ∙ w .1 .ensures _ _ _ _)) (λ w. busy _ _ _ _ (w .0 .left) (w .1)) (c .before .before .before .before .before .before .before .before .before .before .before .before .if2 .came))
       _ (c .before .before .before .before .before .before .before .before .before .entry .ensures) _ _ (c .before .before .before .keep .ensures)),
 )
+
+sub-may-try-2 : tie.Need-sub-may-try-2 Inv-loop2 μ-loop2 Inv-loop μ-loop
+sub-may-try-2 c = omega (arith, c .before .loop2 .inv .3 .within)
+
+may-try-requires-2 : tie.Need-may-try-requires-2 Inv-loop2 μ-loop2 Inv-loop μ-loop
+may-try-requires-2 c κs = search needs
+
+same-length-4 : tie.Need-same-length-4 Inv-loop2 μ-loop2 Inv-loop μ-loop
+same-length-4 c = search needs
+
+same-length-5 : tie.Need-same-length-5 Inv-loop2 μ-loop2 Inv-loop μ-loop
+same-length-5 c = search needs
+
+same-length-6 : tie.Need-same-length-6 Inv-loop2 μ-loop2 Inv-loop μ-loop
+same-length-6 c = search needs
+
+returns-2 : tie.Need-returns-2 Inv-loop2 μ-loop2 Inv-loop μ-loop
+unfolding meaning
+returns-2 c =
+    ⊎-elim (λ o. ends-over _ _ _ _ _ _ _ _ (c .before .before .before .before .loop .inv .3) _ _ _ _ _ (c .before .before .before .loop2 .inv .3) o) (λ l. ends-short _ _ _ _ _ _ _ _ (c .before .before .before .before .loop .inv .3) _ _ _ _ _ (c .before .before .before .loop2 .inv .3) l)
+    (test-failed (c .before .before .before .loop2 .m) (c .before .before .before .before .before .usable-of .result - c .before .before .before .loop2 .at) _ (c .before .may-try2 .ensures) (not-true _ (c .if3 .taken)))
+
+loop-less : tie.Need-loop-less Inv-loop2 μ-loop2 Inv-loop μ-loop
+loop-less c = omega (arith, c .before .before .before .before .loop2 .inv .3 .grown (c .if4 .taken), c .before .before .before .before .loop2 .inv .3 .within)
+
+loop-again : tie.Need-loop-again Inv-loop2 μ-loop2 Inv-loop μ-loop
+unfolding meaning
+loop-again c = (
+  c .before .before .before .before .loop2 .inv .0 ∙ c .before .before .before .before .before .loop .inv .0,
+  c .before .before .before .before .loop2 .inv .1 ∙ c .before .before .before .before .before .loop .inv .1,
+  c .before .before .before .before .loop2 .inv .2 ∙ c .before .before .before .before .before .loop .inv .2,
+  again-moved _ _ _ _ _ _ _ _ (c .before .before .before .before .before .loop .inv .3) _ _ _ _ _ (c .before .before .before .before .loop2 .inv .3) (c .before .before .before .loop2-test .left) ((test-met (c .before .before .before .before .loop2 .m) (c .before .before .before .before .before .before .usable-of .result - c .before .before .before .before .loop2 .at) _ (c .before .before .may-try2 .ensures) (not-false _ (c .before .if3 .left))) .0) ((test-met (c .before .before .before .before .loop2 .m) (c .before .before .before .before .before .before .usable-of .result - c .before .before .before .before .loop2 .at) _ (c .before .before .may-try2 .ensures) (not-false _ (c .before .if3 .left))) .1) (c .if4 .taken),
+)
+
+lowest-suspended-requires : tie.Need-lowest-suspended-requires Inv-loop2 μ-loop2 Inv-loop μ-loop
+lowest-suspended-requires c κs = search needs
 
 same-length-7 : tie.Need-same-length-7 Inv-loop2 μ-loop2 Inv-loop μ-loop
 same-length-7 c = search needs
@@ -126,60 +148,17 @@ same-length-9 c = search needs
 
 returns-3 : tie.Need-returns-3 Inv-loop2 μ-loop2 Inv-loop μ-loop
 unfolding meaning
-returns-3 c = ends-over _ _ _ _ _ _ _ _ (c .before .before .before .loop .inv .3) _ _ _ _ _ (c .before .before .loop2 .inv .3) (over-true (c .before .before .loop2 .m) (c .if4 .taken))
-
-sub-if5 : tie.Need-sub-if5 Inv-loop2 μ-loop2 Inv-loop μ-loop
-sub-if5 c = omega (arith, c .before .before .loop2 .inv .3 .within)
-
-same-length-10 : tie.Need-same-length-10 Inv-loop2 μ-loop2 Inv-loop μ-loop
-same-length-10 c = search needs
-
-same-length-11 : tie.Need-same-length-11 Inv-loop2 μ-loop2 Inv-loop μ-loop
-same-length-11 c = search needs
-
-same-length-12 : tie.Need-same-length-12 Inv-loop2 μ-loop2 Inv-loop μ-loop
-same-length-12 c = search needs
-
-returns-4 : tie.Need-returns-4 Inv-loop2 μ-loop2 Inv-loop μ-loop
-returns-4 c = ends-short _ _ _ _ _ _ _ _ (c .before .before .before .before .loop .inv .3) _ _ _ _ _ (c .before .before .before .loop2 .inv .3) (c .if5 .taken)
-
-loop-less : tie.Need-loop-less Inv-loop2 μ-loop2 Inv-loop μ-loop
-loop-less c = omega (arith, c .before .before .before .before .loop2 .inv .3 .grown (c .if6 .taken), c .before .before .before .before .loop2 .inv .3 .within)
-
-loop-again : tie.Need-loop-again Inv-loop2 μ-loop2 Inv-loop μ-loop
-unfolding meaning
-loop-again c = (
-  c .before .before .before .before .loop2 .inv .0 ∙ c .before .before .before .before .before .loop .inv .0,
-  c .before .before .before .before .loop2 .inv .1 ∙ c .before .before .before .before .before .loop .inv .1,
-  c .before .before .before .before .loop2 .inv .2 ∙ c .before .before .before .before .before .loop .inv .2,
-  again-moved _ _ _ _ _ _ _ _ (c .before .before .before .before .before .loop .inv .3) _ _ _ _ _ (c .before .before .before .before .loop2 .inv .3) (c .before .before .before .loop2-test .left) (over-false (c .before .before .before .before .loop2 .m) (c .before .before .if4 .left)) (c .before .if5 .left) (c .if6 .taken),
-)
-
-lowest-suspended-requires : tie.Need-lowest-suspended-requires Inv-loop2 μ-loop2 Inv-loop μ-loop
-lowest-suspended-requires c κs = search needs
-
-same-length-13 : tie.Need-same-length-13 Inv-loop2 μ-loop2 Inv-loop μ-loop
-same-length-13 c = search needs
-
-same-length-14 : tie.Need-same-length-14 Inv-loop2 μ-loop2 Inv-loop μ-loop
-same-length-14 c = search needs
-
-same-length-15 : tie.Need-same-length-15 Inv-loop2 μ-loop2 Inv-loop μ-loop
-same-length-15 c = search needs
-
-returns-5 : tie.Need-returns-5 Inv-loop2 μ-loop2 Inv-loop μ-loop
-unfolding meaning
-returns-5 c = ends-idle _ _ _ _ _ _ _ _ (c .before .before .before .before .before .before .before .before .loop .inv .3) _ _ _ _ _ (c .before .before .before .before .before .before .before .loop2 .inv .3) (c .before .before .before .before .before .before .loop2-test .left) (c .before .before .before .if6 .left) (omega (arith, c .before .lowest-suspended .ensures, c .if7 .taken))
+returns-3 c = ends-idle _ _ _ _ _ _ _ _ (c .before .before .before .before .before .before .before .before .loop .inv .3) _ _ _ _ _ (c .before .before .before .before .before .before .before .loop2 .inv .3) (c .before .before .before .before .before .before .loop2-test .left) (c .before .before .before .if4 .left) (omega (arith, c .before .lowest-suspended .ensures, c .if5 .taken))
 
 entry-requires-2 : tie.Need-entry-requires-2 Inv-loop2 μ-loop2 Inv-loop μ-loop
 entry-requires-2 c κs = c .before .before .before .before .before .before .before .before .before .loop2 .inv .3 .sound
 
 keep-requires-2 : tie.Need-keep-requires-2 Inv-loop2 μ-loop2 Inv-loop μ-loop
-keep-requires-2 c κs = omega (arith, c .before .before .before .before .before .before .before .before .before .before .before .before .before .before .before .before .before .usable-of .ensures, c .before .before .before .before .before .before .before .before .before .before .before .before .if5 .left, c .before .before .before .before .before .before .before .before .before .before .before .before .before .before .before .loop2 .inv .2, c .before .before .before .before .before .before .before .before .before .before .before .before .before .before .before .before .loop .inv .2)
+keep-requires-2 c κs = omega (arith, c .before .before .before .before .before .before .before .before .before .before .before .before .before .before .before .before .before .usable-of .ensures, (test-met (c .before .before .before .before .before .before .before .before .before .before .before .before .before .before .before .loop2 .m) (c .before .before .before .before .before .before .before .before .before .before .before .before .before .before .before .before .before .usable-of .result - c .before .before .before .before .before .before .before .before .before .before .before .before .before .before .before .loop2 .at) _ (c .before .before .before .before .before .before .before .before .before .before .before .before .before .may-try2 .ensures) (not-false _ (c .before .before .before .before .before .before .before .before .before .before .before .before .if3 .left))) .1, c .before .before .before .before .before .before .before .before .before .before .before .before .before .before .before .loop2 .inv .2, c .before .before .before .before .before .before .before .before .before .before .before .before .before .before .before .before .loop .inv .2)
 
 loop-less-2 : tie.Need-loop-less-2 Inv-loop2 μ-loop2 Inv-loop μ-loop
 unfolding after meaning
-loop-less-2 c = let more = enabled _ _ _ _ _ _ _ _ (c .before .before .before .before .before .before .before .before .before .before .before .before .before .before .before .before .before .before .before .loop .inv .3) _ _ _ _ _ (c .before .before .before .before .before .before .before .before .before .before .before .before .before .before .before .before .before .before .loop2 .inv .3) (c .before .before .before .before .before .before .before .before .before .before .before .before .before .before .before .before .before .loop2-test .left) (over-false (c .before .before .before .before .before .before .before .before .before .before .before .before .before .before .before .before .before .before .loop2 .m) (c .before .before .before .before .before .before .before .before .before .before .before .before .before .before .before .before .if4 .left)) (c .before .before .before .before .before .before .before .before .before .before .before .before .before .before .before .if5 .left) (c .before .before .before .before .before .before .before .before .before .before .before .before .before .before .if6 .left) _ (c .before .before .before .before .before .before .before .before .before .before .before .before .lowest-suspended .ensures) (c .before .before .before .before .before .before .before .before .before .before .before .if7 .left) _ (c .before .before .before .before .before .before .before .before .entry2 .ensures) _ _ (c .before .before .keep2 .ensures) in omega (arith, more .0, more .1)
+loop-less-2 c = let more = enabled _ _ _ _ _ _ _ _ (c .before .before .before .before .before .before .before .before .before .before .before .before .before .before .before .before .before .before .before .loop .inv .3) _ _ _ _ _ (c .before .before .before .before .before .before .before .before .before .before .before .before .before .before .before .before .before .before .loop2 .inv .3) (c .before .before .before .before .before .before .before .before .before .before .before .before .before .before .before .before .before .loop2-test .left) ((test-met (c .before .before .before .before .before .before .before .before .before .before .before .before .before .before .before .before .before .before .loop2 .m) (c .before .before .before .before .before .before .before .before .before .before .before .before .before .before .before .before .before .before .before .before .usable-of .result - c .before .before .before .before .before .before .before .before .before .before .before .before .before .before .before .before .before .before .loop2 .at) _ (c .before .before .before .before .before .before .before .before .before .before .before .before .before .before .before .before .may-try2 .ensures) (not-false _ (c .before .before .before .before .before .before .before .before .before .before .before .before .before .before .before .if3 .left))) .0) ((test-met (c .before .before .before .before .before .before .before .before .before .before .before .before .before .before .before .before .before .before .loop2 .m) (c .before .before .before .before .before .before .before .before .before .before .before .before .before .before .before .before .before .before .before .before .usable-of .result - c .before .before .before .before .before .before .before .before .before .before .before .before .before .before .before .before .before .before .loop2 .at) _ (c .before .before .before .before .before .before .before .before .before .before .before .before .before .before .before .before .may-try2 .ensures) (not-false _ (c .before .before .before .before .before .before .before .before .before .before .before .before .before .before .before .if3 .left))) .1) (c .before .before .before .before .before .before .before .before .before .before .before .before .before .before .if4 .left) _ (c .before .before .before .before .before .before .before .before .before .before .before .before .lowest-suspended .ensures) (c .before .before .before .before .before .before .before .before .before .before .before .if5 .left) _ (c .before .before .before .before .before .before .before .before .entry2 .ensures) _ _ (c .before .before .keep2 .ensures) in omega (arith, more .0, more .1)
 
 loop-again-2 : tie.Need-loop-again-2 Inv-loop2 μ-loop2 Inv-loop μ-loop
 unfolding after meaning
@@ -187,7 +166,7 @@ loop-again-2 c = (
   c .before .before .before .before .before .before .before .before .entry2 .kept .1 .1 .1 .1 .1 .0 ∙ c .before .before .before .before .before .before .before .before .before .before .before .before .before .before .before .before .before .before .loop2 .inv .0 ∙ c .before .before .before .before .before .before .before .before .before .before .before .before .before .before .before .before .before .before .before .loop .inv .0,
   c .before .before .before .before .before .before .before .before .entry2 .kept .1 .1 .1 .1 .1 .1 .0 ∙ c .before .before .before .before .before .before .before .before .before .before .before .before .before .before .before .before .before .before .loop2 .inv .1 ∙ c .before .before .before .before .before .before .before .before .before .before .before .before .before .before .before .before .before .before .before .loop .inv .1,
   c .before .before .keep2 .kept .1 .1 .0 ∙ c .before .before .before .before .before .before .before .before .before .before .before .before .before .before .before .before .before .before .loop2 .inv .2 ∙ c .before .before .before .before .before .before .before .before .before .before .before .before .before .before .before .before .before .before .before .loop .inv .2,
-  again-enabled _ _ _ _ _ _ _ _ (c .before .before .before .before .before .before .before .before .before .before .before .before .before .before .before .before .before .before .before .loop .inv .3) _ _ _ _ _ (c .before .before .before .before .before .before .before .before .before .before .before .before .before .before .before .before .before .before .loop2 .inv .3) (c .before .before .before .before .before .before .before .before .before .before .before .before .before .before .before .before .before .loop2-test .left) (over-false (c .before .before .before .before .before .before .before .before .before .before .before .before .before .before .before .before .before .before .loop2 .m) (c .before .before .before .before .before .before .before .before .before .before .before .before .before .before .before .before .if4 .left)) (c .before .before .before .before .before .before .before .before .before .before .before .before .before .before .before .if5 .left) (c .before .before .before .before .before .before .before .before .before .before .before .before .before .before .if6 .left) _ (c .before .before .before .before .before .before .before .before .before .before .before .before .lowest-suspended .ensures) (c .before .before .before .before .before .before .before .before .before .before .before .if7 .left) _ (c .before .before .before .before .before .before .before .before .entry2 .ensures) _ _ (c .before .before .keep2 .ensures),
+  again-enabled _ _ _ _ _ _ _ _ (c .before .before .before .before .before .before .before .before .before .before .before .before .before .before .before .before .before .before .before .loop .inv .3) _ _ _ _ _ (c .before .before .before .before .before .before .before .before .before .before .before .before .before .before .before .before .before .before .loop2 .inv .3) (c .before .before .before .before .before .before .before .before .before .before .before .before .before .before .before .before .before .loop2-test .left) ((test-met (c .before .before .before .before .before .before .before .before .before .before .before .before .before .before .before .before .before .before .loop2 .m) (c .before .before .before .before .before .before .before .before .before .before .before .before .before .before .before .before .before .before .before .before .usable-of .result - c .before .before .before .before .before .before .before .before .before .before .before .before .before .before .before .before .before .before .loop2 .at) _ (c .before .before .before .before .before .before .before .before .before .before .before .before .before .before .before .before .may-try2 .ensures) (not-false _ (c .before .before .before .before .before .before .before .before .before .before .before .before .before .before .before .if3 .left))) .0) ((test-met (c .before .before .before .before .before .before .before .before .before .before .before .before .before .before .before .before .before .before .loop2 .m) (c .before .before .before .before .before .before .before .before .before .before .before .before .before .before .before .before .before .before .before .before .usable-of .result - c .before .before .before .before .before .before .before .before .before .before .before .before .before .before .before .before .before .before .loop2 .at) _ (c .before .before .before .before .before .before .before .before .before .before .before .before .before .before .before .before .may-try2 .ensures) (not-false _ (c .before .before .before .before .before .before .before .before .before .before .before .before .before .before .before .if3 .left))) .1) (c .before .before .before .before .before .before .before .before .before .before .before .before .before .before .if4 .left) _ (c .before .before .before .before .before .before .before .before .before .before .before .before .lowest-suspended .ensures) (c .before .before .before .before .before .before .before .before .before .before .before .if5 .left) _ (c .before .before .before .before .before .before .before .before .entry2 .ensures) _ _ (c .before .before .keep2 .ensures),
 )
 
 pub play-rounds-spec : {M : Type 1} → statement M
@@ -201,17 +180,14 @@ play-rounds-spec =
     usable-of-requires
     loop-holds
     loop2-holds
+    sub-may-try
+    may-try-requires
     same-length
     same-length-2
     same-length-3
     returns
-    sub-if2
-    same-length-4
-    same-length-5
-    same-length-6
-    returns-2
-    cast-if3
-    element-copy-out-if3
+    cast-if2
+    element-copy-out-if2
     idle-choice-requires
     entry-requires
     keep-requires
@@ -219,22 +195,19 @@ play-rounds-spec =
     add-c
     loop2-less
     loop2-again
+    sub-may-try-2
+    may-try-requires-2
+    same-length-4
+    same-length-5
+    same-length-6
+    returns-2
+    loop-less
+    loop-again
+    lowest-suspended-requires
     same-length-7
     same-length-8
     same-length-9
     returns-3
-    sub-if5
-    same-length-10
-    same-length-11
-    same-length-12
-    returns-4
-    loop-less
-    loop-again
-    lowest-suspended-requires
-    same-length-13
-    same-length-14
-    same-length-15
-    returns-5
     entry-requires-2
     keep-requires-2
     loop-less-2

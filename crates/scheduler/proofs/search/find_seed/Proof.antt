@@ -12,10 +12,6 @@ use Rattle.scheduler.proofs.Searching.{seed-is, stops, meets, goes, emp
 use borrow.Author.Needs.{needs}
 use Rattle.scheduler.proofs.search.find_seed.Statement.{statement}
 use Rattle.scheduler.proofs.search.find_seed.Tie as tie
-use Rattle.scheduler.proofs.search.find_seed.Reads as reads
-use Rattle.scheduler.proofs.search.find_seed.Lts as lts
-use Rattle.scheduler.proofs.search.is_seed.Reads as is-seed-reads
-use Rattle.scheduler.proofs.search.lent_parent.Reads as lent-parent-reads
 
 abbrev Inv-loop : tie.InvT-loop
 Inv-loop image starts m c t₀ links₀ t links = (links ≤ 32) × ((parameters words memory : List ℕ) (allowance : ℕ) → seedAbove links (jobOf image starts parameters allowance) (meaning m words memory) t ≡ seedOn (jobOf image starts parameters allowance) (meaning m words memory) c)

@@ -6,10 +6,6 @@ use Rattle.scheduler.specs.Search.{idleChoice}
 use borrow.Author.Needs.{needs}
 use Rattle.scheduler.proofs.search.idle_choice.Statement.{statement}
 use Rattle.scheduler.proofs.search.idle_choice.Tie as tie
-use Rattle.scheduler.proofs.search.idle_choice.Reads as reads
-use Rattle.scheduler.proofs.search.idle_choice.Lts as lts
-use Rattle.queue.proofs.Queue.len.Reads as len-reads
-use Rattle.scheduler.proofs.search.find_seed.Reads as find-seed-reads
 
 len-requires : tie.Need-len-requires
 len-requires c κs = search needs

@@ -8,9 +8,6 @@ use Rattle.scheduler.proofs.Searching.{lowest-here, lowest-later, lowes
 use borrow.Author.Needs.{needs}
 use Rattle.scheduler.proofs.search.lowest_suspended.Statement.{statement}
 use Rattle.scheduler.proofs.search.lowest_suspended.Tie as tie
-use Rattle.scheduler.proofs.search.lowest_suspended.Reads as reads
-use Rattle.scheduler.proofs.search.lowest_suspended.Lts as lts
-use Rattle.thread.proofs.record.same_status.Reads as same-status-reads
 
 abbrev Inv-loop : tie.InvT-loop
 Inv-loop threads t₀ t = (t ≤ 32) × (suspendedFrom (32 - t) threads t ≡ suspendedFrom 32 threads 0)
