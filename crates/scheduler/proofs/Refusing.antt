@@ -1,20 +1,22 @@
 -- A refused entry changes nothing, and a suspended thread's enable is accepted. Assumes nothing.
-use borrow.Author.Tests.{le-leb, eq-eqb, lt-ltb}
-use mathlib.Core.Bool.{Bool, true, false, _&&_, _||_}
+use borrow.Author.Tests.{le-leb, lt-ltb, le-ltb, leb-true}
+use mathlib.Core.Bool.{Bool, true, false, cond, _&&_, _||_}
 use mathlib.Core.Logic.{_⊎_}
 use mathlib.Core.Path.{_≡_, refl, sym, _∙_}
 use Prim.Native.Nat.{ℕ, _≤_, _<_}
 use native.Mathlib.Omega.{arith}
-use lib.Dec.{eqb}
+use lib.Dec.{eqb, leb}
 use Rattle.schedule.specs.declared.Entry.{Entry}
-use Rattle.schedule.specs.declared.Entry.the-variants.{Enable}
+use Rattle.schedule.specs.declared.Entry.the-variants.{Step, Take, Steal, Enable}
 use Rattle.thread.specs.declared.Status.the-variants.{Suspended}
 use Rattle.thread.specs.Thread.{_is_}
-use Rattle.machine.specs.State.{Job, State, After, isOver, threadAt}
-use Rattle.machine.specs.Rules.{entryOf, enableOf}
+use Rattle.machine.specs.State.{Job, State, After, isOver, isBusy, threadAt}
+use Rattle.machine.specs.Update.{refused}
+use Rattle.machine.specs.Rules.{entryOf, enableOf, stealOf, isSeed}
 use Rattle.soundness.proofs.EntryCases.{Cases, entry-by}
 use Rattle.soundness.proofs.Tested.{fault-tested}
 use Rattle.scheduler.specs.Rounds.{isWritten}
+use Rattle.scheduler.specs.Steps.{isNothing}
 
 -- "accepted or faulting": 0 and 9 to 12 are
 fault-written : (n : ℕ) → 9 ≤ n → n ≤ 12 → isWritten n ≡ true
@@ -58,3 +60,17 @@ module _ (j : Job) (s : State) where
   pub enables : (t : ℕ) → isOver (s .outcome) ≡ false → t < 32 → (threadAt s t .status is Suspended) ≡ true → entryOf j s (Enable t) .log ≡ 0
   unfolding entryOf enableOf
   enables t o l h = rw (o, lt-ltb t 32 l, h)
+
+  -- a steal of no thread is refused
+  not-stolen : (x y z : Bool) → isWritten (cond x (refused 19 s) (cond y (refused 14 s) (cond z (refused 15 s) (refused 18 s))) .log) ≡ false
+  not-stolen true y z = refl
+  not-stolen false true z = refl
+  not-stolen false false true = refl
+  not-stolen false false false = refl
+
+  pub nothing-refused : (e : Entry) → isNothing e ≡ true → isWritten (entryOf j s e .log) ≡ false
+  unfolding entryOf stealOf isSeed
+  nothing-refused (Step c) h = never (sym h)
+  nothing-refused (Take c) h = never (sym h)
+  nothing-refused (Steal c t) h = rw (le-ltb t 32 (leb-true 32 t h)) (not-stolen (isOver (s .outcome)) (leb (s .count) c) (isBusy s c))
+  nothing-refused (Enable t) h = never (sym h)

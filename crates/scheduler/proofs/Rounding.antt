@@ -20,11 +20,11 @@ use Rattle.machine.specs.Sound.{Sound}
 use Rattle.soundness.proofs.Kept.{entry-sound}
 use Rattle.soundness.proofs.KeepSized.{keep-count}
 use Rattle.scheduler.proofs.Searching.{lowest-is}
-use Rattle.scheduler.proofs.Refusing.{enables}
+use Rattle.scheduler.proofs.Refusing.{enables, nothing-refused}
 use Rattle.scheduler.proofs.Trying.{At, may, may-not-over, may-not-left, tries, writes, adds}
 use Rattle.scheduler.specs.Search.{choiceOf, lowestSuspended}
-use Rattle.scheduler.specs.Rounds.{Progress, mayTry, tried, turns, fresh, round, goesOn, wakened, rounds, usable, beginning, scheduledFrom, bytesOfAll, filled}
-use Rattle.scheduler.specs.Steps.{Keeps, Rounded}
+use Rattle.scheduler.specs.Rounds.{Progress, isWritten, mayTry, recorded, tried, turns, fresh, round, goesOn, wakened, rounds, usable, beginning, scheduledFrom, bytesOfAll, filled}
+use Rattle.scheduler.specs.Steps.{isNothing, Keeps, Rounded}
 
 -- what may not be tried changes nothing
 pub stuck : (j : Job) (p : Progress) → mayTry p ≡ false → (n c : ℕ) → turns n j c p ≡ p
@@ -33,6 +33,15 @@ stuck j p h zero c = refl
 stuck j p h (suc n) c =
     let same : tried j (choiceOf j (p .state) c) p ≡ p = rw h in
     ap (turns n j (suc c)) same ∙ stuck j p h n (suc c)
+
+-- a refused entry leaves the progress as it is
+tried-refused : (j : Job) (e : Entry) (p : Progress) → isWritten (entryOf j (p .state) e .log) ≡ false → tried j e p ≡ p
+unfolding tried recorded
+tried-refused j e p h = rw h (same (mayTry p))
+  where
+    same : (b : Bool) → cond b p p ≡ p
+    same true = refl
+    same false = refl
 
 -- core c is next in a round that began with the variables s₀, at₀, buffer₀ and m₀
 pub record Turning (j : Job) (count room : ℕ) (s₀ : State) (at₀ : ℕ) (buffer₀ : List ℕ) (m₀ : Bool) (s : State) (at : ℕ) (buffer : List ℕ) (m : Bool) (c : ℕ) : Type 0 where
@@ -141,6 +150,28 @@ module _ (j : Job) (count room : ℕ) where
           grown = λ d. grows m refl d;
           follows = goes-on;
         }
+
+  -- core c makes no try
+  pub passes-on : (s₀ : State) (at₀ : ℕ) (buffer₀ : List ℕ) (m₀ : Bool) (s : State) (at : ℕ) (buffer : List ℕ) (m : Bool) (c : ℕ)
+      → Turning j count room s₀ at₀ buffer₀ m₀ s at buffer m c → c < count → (e : Entry) → e ≡ choiceOf j s c → isNothing e ≡ true
+      → Turning j count room s₀ at₀ buffer₀ m₀ s at buffer m (c + 1)
+  passes-on s₀ at₀ buffer₀ m₀ s at buffer m c turning l e choice h = record {
+    sound = turning .sound;
+    cores = turning .cores;
+    core = omega arith;
+    within = turning .within;
+    later = turning .later;
+    grown = turning .grown;
+    follows = λ first p k.
+        let y = turning .follows first p k in
+        let same : e ≡ choiceOf j (y .0 .state) c = choice ∙ ap (λ (x : State). choiceOf j x c) (sym (y .1 .state)) in
+        let stays : tried j e (y .0) ≡ y .0 = tried-refused j e (y .0) (nothing-refused j (y .0 .state) e h) in (
+          y .0,
+          y .1,
+          ap (turns (count - (c + 1)) j (c + 1)) (sym stays ∙ ap (λ (d : Entry). tried j d (y .0)) same)
+              ∙ sym (turn-first j (count - c) (count - (c + 1)) c (y .0) (omega arith)) ∙ y .2,
+        );
+  }
 
   -- the round that begins with the variables s₀, at₀ and buffer₀ has come to core c
   module _ (begin : State) (first : List ℕ) (s₀ : State) (at₀ : ℕ) (buffer₀ : List ℕ) (rounding : Rounding j count room begin first s₀ at₀ buffer₀)

@@ -1,5 +1,6 @@
 // The rounds: each core in turn tries an entry, and what is accepted or faults is written.
 use crate::search::idle_choice;
+use crate::search::is_nothing;
 use crate::search::lowest_suspended;
 use machine::Machine;
 use schedule::Entry;
@@ -115,6 +116,10 @@ pub fn play_rounds(
             let mut entry = Entry::Step(c);
             if 32 <= m.cores[c as usize] {
                 entry = idle_choice(m, c, image, starts);
+                if is_nothing(entry) {
+                    c = c + 1;
+                    continue;
+                }
             }
             m = m.entry(entry, image, starts, parameters, words, memory, allowance);
             at = keep(entry, m.log, buffer, at);

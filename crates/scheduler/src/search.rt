@@ -15,6 +15,7 @@ ghost use Rattle.thread.specs.declared.Status.the-variants.{Lent};
 ghost use Rattle.thread.specs.Thread.{_is_};
 ghost use Rattle.machine.specs.State.{jobOf, meaning};
 ghost use Rattle.scheduler.specs.Search.{lentParent, firstSeed, idleChoice, suspendedFrom};
+ghost use Rattle.scheduler.specs.Steps.{isNothing};
 
 // No thread.
 const NONE: u8 = 32;
@@ -93,6 +94,18 @@ pub fn idle_choice(m: Machine, c: u8, image: &[u8], starts: &[u16]) -> Entry
         return Entry::Take(c);
     }
     Entry::Steal(c, find_seed(m, image, starts))
+}
+
+// Is this the steal of no thread, which is no try?
+pub fn is_nothing(entry: Entry) -> bool
+    ensures { λ r. ⌜ r ≡ isNothing entry ⌝ }
+{
+    match entry {
+        Entry::Step(_) => false,
+        Entry::Take(_) => false,
+        Entry::Steal(_, t) => NONE <= t,
+        Entry::Enable(_) => false,
+    }
 }
 
 // The lowest suspended thread.

@@ -9,7 +9,7 @@ use lib.ListN.{length}
 use Rattle.machine.specs.State.{jobOf, meaning, after}
 use Rattle.scheduler.proofs.Searching.{busy, idle}
 use Rattle.scheduler.proofs.Trying.{test-met, test-failed}
-use Rattle.scheduler.proofs.Rounding.{Turning, Rounding, begins, enters, turns-on, started, ends-over, ends-short, ends-idle, again-moved, enabled, again-enabled}
+use Rattle.scheduler.proofs.Rounding.{Turning, Rounding, begins, enters, turns-on, passes-on, started, ends-over, ends-short, ends-idle, again-moved, enabled, again-enabled}
 use borrow.Author.Needs.{needs}
 use Rattle.scheduler.proofs.rounds.play_rounds.Statement.{statement}
 use Rattle.scheduler.proofs.rounds.play_rounds.Tie as tie
@@ -73,6 +73,25 @@ idle-choice-requires : tie.Need-idle-choice-requires Inv-loop2 μ-loop2 Inv-loop
 unfolding meaning
 idle-choice-requires c κs = c .before .before .before .before .before .loop2 .inv .3 .sound .sized .most
 
+is-nothing-requires : tie.Need-is-nothing-requires Inv-loop2 μ-loop2 Inv-loop μ-loop
+is-nothing-requires c κs = search needs
+
+add-c : tie.Need-add-c Inv-loop2 μ-loop2 Inv-loop μ-loop
+add-c c = omega (arith, c .before .before .before .before .before .before .before .before .loop2 .inv .3 .sound .sized .most, c .before .before .before .before .before .before .before .before .loop2 .inv .3 .cores, c .before .before .before .before .before .before .before .loop2-test .taken)
+
+loop2-less : tie.Need-loop2-less Inv-loop2 μ-loop2 Inv-loop μ-loop
+loop2-less c = omega (arith, c .before .before .before .before .before .before .before .loop2-test .taken)
+
+loop2-again : tie.Need-loop2-again Inv-loop2 μ-loop2 Inv-loop μ-loop
+unfolding meaning
+loop2-again c = (
+  c .before .before .before .before .before .before .before .before .loop2 .inv .0,
+  c .before .before .before .before .before .before .before .before .loop2 .inv .1,
+  c .before .before .before .before .before .before .before .before .loop2 .inv .2,
+  passes-on _ _ _ _ _ _ _ _ _ _ _ _ (c .before .before .before .before .before .before .before .before .loop2 .inv .3) (c .before .before .before .before .before .before .before .loop2-test .taken) _ (idle _ _ _ _ (c .before .before .before .if2 .taken) (c .before .before .idle-choice .ensures _ _ _ _))
+      (sym (c .before .is-nothing .ensures) ∙ c .if3 .taken),
+)
+
 entry-requires : tie.Need-entry-requires Inv-loop2 μ-loop2 Inv-loop μ-loop
 entry-requires c κs = c .before .before .before .before .before .before .before .loop2 .inv .3 .sound
 
@@ -82,22 +101,22 @@ keep-requires c κs = omega (arith, c .before .before .before .before .before .b
 is-moved-requires : tie.Need-is-moved-requires Inv-loop2 μ-loop2 Inv-loop μ-loop
 is-moved-requires c κs = search needs
 
-add-c : tie.Need-add-c Inv-loop2 μ-loop2 Inv-loop μ-loop
-add-c c = omega (arith, c .before .before .before .before .before .before .before .before .before .before .before .before .before .before .before .before .before .loop2 .inv .3 .sound .sized .most, c .before .before .before .before .before .before .before .before .before .before .before .before .before .before .before .before .before .loop2 .inv .3 .cores, c .before .before .before .before .before .before .before .before .before .before .before .before .before .before .before .before .loop2-test .taken)
+add-c-2 : tie.Need-add-c-2 Inv-loop2 μ-loop2 Inv-loop μ-loop
+add-c-2 c = omega (arith, c .before .before .before .before .before .before .before .before .before .before .before .before .before .before .before .before .before .loop2 .inv .3 .sound .sized .most, c .before .before .before .before .before .before .before .before .before .before .before .before .before .before .before .before .before .loop2 .inv .3 .cores, c .before .before .before .before .before .before .before .before .before .before .before .before .before .before .before .before .loop2-test .taken)
 
-loop2-less : tie.Need-loop2-less Inv-loop2 μ-loop2 Inv-loop μ-loop
-loop2-less c = omega (arith, c .before .before .before .before .before .before .before .before .before .before .before .before .before .before .before .before .loop2-test .taken)
+loop2-less-2 : tie.Need-loop2-less-2 Inv-loop2 μ-loop2 Inv-loop μ-loop
+loop2-less-2 c = omega (arith, c .before .before .before .before .before .before .before .before .before .before .before .before .before .before .before .before .loop2-test .taken)
 
-loop2-again : tie.Need-loop2-again Inv-loop2 μ-loop2 Inv-loop μ-loop
+loop2-again-2 : tie.Need-loop2-again-2 Inv-loop2 μ-loop2 Inv-loop μ-loop
 unfolding after meaning
-loop2-again c = (
+loop2-again-2 c = (
   c .before .before .before .before .before .before .before .before .before .entry .kept .1 .1 .1 .1 .1 .0 ∙ c .before .before .before .before .before .before .before .before .before .before .before .before .before .before .before .before .before .loop2 .inv .0,
   c .before .before .before .before .before .before .before .before .before .entry .kept .1 .1 .1 .1 .1 .1 .0 ∙ c .before .before .before .before .before .before .before .before .before .before .before .before .before .before .before .before .before .loop2 .inv .1,
   c .before .before .before .keep .kept .1 .1 .0 ∙ c .before .before .before .before .before .before .before .before .before .before .before .before .before .before .before .before .before .loop2 .inv .2,
   rw (c .is-moved .ensures)
       (turns-on _ _ _ _ _ _ _ _ _ _ _ _ (c .before .before .before .before .before .before .before .before .before .before .before .before .before .before .before .before .before .loop2 .inv .3) _ _ (started _ _ _ _ _ _ _ _ (c .before .before .before .before .before .before .before .before .before .before .before .before .before .before .before .before .before .before .loop .inv .3) _ _ _ _ _ (c .before .before .before .before .before .before .before .before .before .before .before .before .before .before .before .before .before .loop2 .inv .3))
       (c .before .before .before .before .before .before .before .before .before .before .before .before .before .before .before .before .loop2-test .taken) ((test-met (c .before .before .before .before .before .before .before .before .before .before .before .before .before .before .before .before .before .loop2 .m) (c .before .before .before .before .before .before .before .before .before .before .before .before .before .before .before .before .before .before .before .usable-of .result - c .before .before .before .before .before .before .before .before .before .before .before .before .before .before .before .before .before .loop2 .at) _ (c .before .before .before .before .before .before .before .before .before .before .before .before .before .before .before .may-try .ensures) (not-false _ (c .before .before .before .before .before .before .before .before .before .before .before .before .before .before .if1 .left))) .0) ((test-met (c .before .before .before .before .before .before .before .before .before .before .before .before .before .before .before .before .before .loop2 .m) (c .before .before .before .before .before .before .before .before .before .before .before .before .before .before .before .before .before .before .before .usable-of .result - c .before .before .before .before .before .before .before .before .before .before .before .before .before .before .before .before .before .loop2 .at) _ (c .before .before .before .before .before .before .before .before .before .before .before .before .before .before .before .may-try .ensures) (not-false _ (c .before .before .before .before .before .before .before .before .before .before .before .before .before .before .if1 .left))) .1) _
-      (⊎-elim (λ w. idle _ _ _ _ (w .0 .taken) (w .2 ∙ w .1 .ensures _ _ _ _)) (λ w. busy _ _ _ _ (w .0 .left) (w .1)) (c .before .before .before .before .before .before .before .before .before .before .before .before .if2 .came))
+      (⊎-elim (λ w. idle _ _ _ _ (w .0 .taken) (w .4 ∙ w .1 .ensures _ _ _ _)) (λ w. busy _ _ _ _ (w .0 .left) (w .1)) (c .before .before .before .before .before .before .before .before .before .before .before .before .if2 .came))
       _ (c .before .before .before .before .before .before .before .before .before .entry .ensures) _ _ (c .before .before .before .keep .ensures)),
 )
 
@@ -120,10 +139,10 @@ returns-2 : tie.Need-returns-2 Inv-loop2 μ-loop2 Inv-loop μ-loop
 unfolding meaning
 returns-2 c =
     ⊎-elim (λ o. ends-over _ _ _ _ _ _ _ _ (c .before .before .before .before .loop .inv .3) _ _ _ _ _ (c .before .before .before .loop2 .inv .3) o) (λ l. ends-short _ _ _ _ _ _ _ _ (c .before .before .before .before .loop .inv .3) _ _ _ _ _ (c .before .before .before .loop2 .inv .3) l)
-    (test-failed (c .before .before .before .loop2 .m) (c .before .before .before .before .before .usable-of .result - c .before .before .before .loop2 .at) _ (c .before .may-try2 .ensures) (not-true _ (c .if3 .taken)))
+    (test-failed (c .before .before .before .loop2 .m) (c .before .before .before .before .before .usable-of .result - c .before .before .before .loop2 .at) _ (c .before .may-try2 .ensures) (not-true _ (c .if4 .taken)))
 
 loop-less : tie.Need-loop-less Inv-loop2 μ-loop2 Inv-loop μ-loop
-loop-less c = omega (arith, c .before .before .before .before .loop2 .inv .3 .grown (c .if4 .taken), c .before .before .before .before .loop2 .inv .3 .within)
+loop-less c = omega (arith, c .before .before .before .before .loop2 .inv .3 .grown (c .if5 .taken), c .before .before .before .before .loop2 .inv .3 .within)
 
 loop-again : tie.Need-loop-again Inv-loop2 μ-loop2 Inv-loop μ-loop
 unfolding meaning
@@ -131,7 +150,7 @@ loop-again c = (
   c .before .before .before .before .loop2 .inv .0 ∙ c .before .before .before .before .before .loop .inv .0,
   c .before .before .before .before .loop2 .inv .1 ∙ c .before .before .before .before .before .loop .inv .1,
   c .before .before .before .before .loop2 .inv .2 ∙ c .before .before .before .before .before .loop .inv .2,
-  again-moved _ _ _ _ _ _ _ _ (c .before .before .before .before .before .loop .inv .3) _ _ _ _ _ (c .before .before .before .before .loop2 .inv .3) (c .before .before .before .loop2-test .left) ((test-met (c .before .before .before .before .loop2 .m) (c .before .before .before .before .before .before .usable-of .result - c .before .before .before .before .loop2 .at) _ (c .before .before .may-try2 .ensures) (not-false _ (c .before .if3 .left))) .0) ((test-met (c .before .before .before .before .loop2 .m) (c .before .before .before .before .before .before .usable-of .result - c .before .before .before .before .loop2 .at) _ (c .before .before .may-try2 .ensures) (not-false _ (c .before .if3 .left))) .1) (c .if4 .taken),
+  again-moved _ _ _ _ _ _ _ _ (c .before .before .before .before .before .loop .inv .3) _ _ _ _ _ (c .before .before .before .before .loop2 .inv .3) (c .before .before .before .loop2-test .left) ((test-met (c .before .before .before .before .loop2 .m) (c .before .before .before .before .before .before .usable-of .result - c .before .before .before .before .loop2 .at) _ (c .before .before .may-try2 .ensures) (not-false _ (c .before .if4 .left))) .0) ((test-met (c .before .before .before .before .loop2 .m) (c .before .before .before .before .before .before .usable-of .result - c .before .before .before .before .loop2 .at) _ (c .before .before .may-try2 .ensures) (not-false _ (c .before .if4 .left))) .1) (c .if5 .taken),
 )
 
 lowest-suspended-requires : tie.Need-lowest-suspended-requires Inv-loop2 μ-loop2 Inv-loop μ-loop
@@ -148,17 +167,17 @@ same-length-9 c = search needs
 
 returns-3 : tie.Need-returns-3 Inv-loop2 μ-loop2 Inv-loop μ-loop
 unfolding meaning
-returns-3 c = ends-idle _ _ _ _ _ _ _ _ (c .before .before .before .before .before .before .before .before .loop .inv .3) _ _ _ _ _ (c .before .before .before .before .before .before .before .loop2 .inv .3) (c .before .before .before .before .before .before .loop2-test .left) (c .before .before .before .if4 .left) (omega (arith, c .before .lowest-suspended .ensures, c .if5 .taken))
+returns-3 c = ends-idle _ _ _ _ _ _ _ _ (c .before .before .before .before .before .before .before .before .loop .inv .3) _ _ _ _ _ (c .before .before .before .before .before .before .before .loop2 .inv .3) (c .before .before .before .before .before .before .loop2-test .left) (c .before .before .before .if5 .left) (omega (arith, c .before .lowest-suspended .ensures, c .if6 .taken))
 
 entry-requires-2 : tie.Need-entry-requires-2 Inv-loop2 μ-loop2 Inv-loop μ-loop
 entry-requires-2 c κs = c .before .before .before .before .before .before .before .before .before .loop2 .inv .3 .sound
 
 keep-requires-2 : tie.Need-keep-requires-2 Inv-loop2 μ-loop2 Inv-loop μ-loop
-keep-requires-2 c κs = omega (arith, c .before .before .before .before .before .before .before .before .before .before .before .before .before .before .before .before .before .usable-of .ensures, (test-met (c .before .before .before .before .before .before .before .before .before .before .before .before .before .before .before .loop2 .m) (c .before .before .before .before .before .before .before .before .before .before .before .before .before .before .before .before .before .usable-of .result - c .before .before .before .before .before .before .before .before .before .before .before .before .before .before .before .loop2 .at) _ (c .before .before .before .before .before .before .before .before .before .before .before .before .before .may-try2 .ensures) (not-false _ (c .before .before .before .before .before .before .before .before .before .before .before .before .if3 .left))) .1, c .before .before .before .before .before .before .before .before .before .before .before .before .before .before .before .loop2 .inv .2, c .before .before .before .before .before .before .before .before .before .before .before .before .before .before .before .before .loop .inv .2)
+keep-requires-2 c κs = omega (arith, c .before .before .before .before .before .before .before .before .before .before .before .before .before .before .before .before .before .usable-of .ensures, (test-met (c .before .before .before .before .before .before .before .before .before .before .before .before .before .before .before .loop2 .m) (c .before .before .before .before .before .before .before .before .before .before .before .before .before .before .before .before .before .usable-of .result - c .before .before .before .before .before .before .before .before .before .before .before .before .before .before .before .loop2 .at) _ (c .before .before .before .before .before .before .before .before .before .before .before .before .before .may-try2 .ensures) (not-false _ (c .before .before .before .before .before .before .before .before .before .before .before .before .if4 .left))) .1, c .before .before .before .before .before .before .before .before .before .before .before .before .before .before .before .loop2 .inv .2, c .before .before .before .before .before .before .before .before .before .before .before .before .before .before .before .before .loop .inv .2)
 
 loop-less-2 : tie.Need-loop-less-2 Inv-loop2 μ-loop2 Inv-loop μ-loop
 unfolding after meaning
-loop-less-2 c = let more = enabled _ _ _ _ _ _ _ _ (c .before .before .before .before .before .before .before .before .before .before .before .before .before .before .before .before .before .before .before .loop .inv .3) _ _ _ _ _ (c .before .before .before .before .before .before .before .before .before .before .before .before .before .before .before .before .before .before .loop2 .inv .3) (c .before .before .before .before .before .before .before .before .before .before .before .before .before .before .before .before .before .loop2-test .left) ((test-met (c .before .before .before .before .before .before .before .before .before .before .before .before .before .before .before .before .before .before .loop2 .m) (c .before .before .before .before .before .before .before .before .before .before .before .before .before .before .before .before .before .before .before .before .usable-of .result - c .before .before .before .before .before .before .before .before .before .before .before .before .before .before .before .before .before .before .loop2 .at) _ (c .before .before .before .before .before .before .before .before .before .before .before .before .before .before .before .before .may-try2 .ensures) (not-false _ (c .before .before .before .before .before .before .before .before .before .before .before .before .before .before .before .if3 .left))) .0) ((test-met (c .before .before .before .before .before .before .before .before .before .before .before .before .before .before .before .before .before .before .loop2 .m) (c .before .before .before .before .before .before .before .before .before .before .before .before .before .before .before .before .before .before .before .before .usable-of .result - c .before .before .before .before .before .before .before .before .before .before .before .before .before .before .before .before .before .before .loop2 .at) _ (c .before .before .before .before .before .before .before .before .before .before .before .before .before .before .before .before .may-try2 .ensures) (not-false _ (c .before .before .before .before .before .before .before .before .before .before .before .before .before .before .before .if3 .left))) .1) (c .before .before .before .before .before .before .before .before .before .before .before .before .before .before .if4 .left) _ (c .before .before .before .before .before .before .before .before .before .before .before .before .lowest-suspended .ensures) (c .before .before .before .before .before .before .before .before .before .before .before .if5 .left) _ (c .before .before .before .before .before .before .before .before .entry2 .ensures) _ _ (c .before .before .keep2 .ensures) in omega (arith, more .0, more .1)
+loop-less-2 c = let more = enabled _ _ _ _ _ _ _ _ (c .before .before .before .before .before .before .before .before .before .before .before .before .before .before .before .before .before .before .before .loop .inv .3) _ _ _ _ _ (c .before .before .before .before .before .before .before .before .before .before .before .before .before .before .before .before .before .before .loop2 .inv .3) (c .before .before .before .before .before .before .before .before .before .before .before .before .before .before .before .before .before .loop2-test .left) ((test-met (c .before .before .before .before .before .before .before .before .before .before .before .before .before .before .before .before .before .before .loop2 .m) (c .before .before .before .before .before .before .before .before .before .before .before .before .before .before .before .before .before .before .before .before .usable-of .result - c .before .before .before .before .before .before .before .before .before .before .before .before .before .before .before .before .before .before .loop2 .at) _ (c .before .before .before .before .before .before .before .before .before .before .before .before .before .before .before .before .may-try2 .ensures) (not-false _ (c .before .before .before .before .before .before .before .before .before .before .before .before .before .before .before .if4 .left))) .0) ((test-met (c .before .before .before .before .before .before .before .before .before .before .before .before .before .before .before .before .before .before .loop2 .m) (c .before .before .before .before .before .before .before .before .before .before .before .before .before .before .before .before .before .before .before .before .usable-of .result - c .before .before .before .before .before .before .before .before .before .before .before .before .before .before .before .before .before .before .loop2 .at) _ (c .before .before .before .before .before .before .before .before .before .before .before .before .before .before .before .before .may-try2 .ensures) (not-false _ (c .before .before .before .before .before .before .before .before .before .before .before .before .before .before .before .if4 .left))) .1) (c .before .before .before .before .before .before .before .before .before .before .before .before .before .before .if5 .left) _ (c .before .before .before .before .before .before .before .before .before .before .before .before .lowest-suspended .ensures) (c .before .before .before .before .before .before .before .before .before .before .before .if6 .left) _ (c .before .before .before .before .before .before .before .before .entry2 .ensures) _ _ (c .before .before .keep2 .ensures) in omega (arith, more .0, more .1)
 
 loop-again-2 : tie.Need-loop-again-2 Inv-loop2 μ-loop2 Inv-loop μ-loop
 unfolding after meaning
@@ -166,7 +185,7 @@ loop-again-2 c = (
   c .before .before .before .before .before .before .before .before .entry2 .kept .1 .1 .1 .1 .1 .0 ∙ c .before .before .before .before .before .before .before .before .before .before .before .before .before .before .before .before .before .before .loop2 .inv .0 ∙ c .before .before .before .before .before .before .before .before .before .before .before .before .before .before .before .before .before .before .before .loop .inv .0,
   c .before .before .before .before .before .before .before .before .entry2 .kept .1 .1 .1 .1 .1 .1 .0 ∙ c .before .before .before .before .before .before .before .before .before .before .before .before .before .before .before .before .before .before .loop2 .inv .1 ∙ c .before .before .before .before .before .before .before .before .before .before .before .before .before .before .before .before .before .before .before .loop .inv .1,
   c .before .before .keep2 .kept .1 .1 .0 ∙ c .before .before .before .before .before .before .before .before .before .before .before .before .before .before .before .before .before .before .loop2 .inv .2 ∙ c .before .before .before .before .before .before .before .before .before .before .before .before .before .before .before .before .before .before .before .loop .inv .2,
-  again-enabled _ _ _ _ _ _ _ _ (c .before .before .before .before .before .before .before .before .before .before .before .before .before .before .before .before .before .before .before .loop .inv .3) _ _ _ _ _ (c .before .before .before .before .before .before .before .before .before .before .before .before .before .before .before .before .before .before .loop2 .inv .3) (c .before .before .before .before .before .before .before .before .before .before .before .before .before .before .before .before .before .loop2-test .left) ((test-met (c .before .before .before .before .before .before .before .before .before .before .before .before .before .before .before .before .before .before .loop2 .m) (c .before .before .before .before .before .before .before .before .before .before .before .before .before .before .before .before .before .before .before .before .usable-of .result - c .before .before .before .before .before .before .before .before .before .before .before .before .before .before .before .before .before .before .loop2 .at) _ (c .before .before .before .before .before .before .before .before .before .before .before .before .before .before .before .before .may-try2 .ensures) (not-false _ (c .before .before .before .before .before .before .before .before .before .before .before .before .before .before .before .if3 .left))) .0) ((test-met (c .before .before .before .before .before .before .before .before .before .before .before .before .before .before .before .before .before .before .loop2 .m) (c .before .before .before .before .before .before .before .before .before .before .before .before .before .before .before .before .before .before .before .before .usable-of .result - c .before .before .before .before .before .before .before .before .before .before .before .before .before .before .before .before .before .before .loop2 .at) _ (c .before .before .before .before .before .before .before .before .before .before .before .before .before .before .before .before .may-try2 .ensures) (not-false _ (c .before .before .before .before .before .before .before .before .before .before .before .before .before .before .before .if3 .left))) .1) (c .before .before .before .before .before .before .before .before .before .before .before .before .before .before .if4 .left) _ (c .before .before .before .before .before .before .before .before .before .before .before .before .lowest-suspended .ensures) (c .before .before .before .before .before .before .before .before .before .before .before .if5 .left) _ (c .before .before .before .before .before .before .before .before .entry2 .ensures) _ _ (c .before .before .keep2 .ensures),
+  again-enabled _ _ _ _ _ _ _ _ (c .before .before .before .before .before .before .before .before .before .before .before .before .before .before .before .before .before .before .before .loop .inv .3) _ _ _ _ _ (c .before .before .before .before .before .before .before .before .before .before .before .before .before .before .before .before .before .before .loop2 .inv .3) (c .before .before .before .before .before .before .before .before .before .before .before .before .before .before .before .before .before .loop2-test .left) ((test-met (c .before .before .before .before .before .before .before .before .before .before .before .before .before .before .before .before .before .before .loop2 .m) (c .before .before .before .before .before .before .before .before .before .before .before .before .before .before .before .before .before .before .before .before .usable-of .result - c .before .before .before .before .before .before .before .before .before .before .before .before .before .before .before .before .before .before .loop2 .at) _ (c .before .before .before .before .before .before .before .before .before .before .before .before .before .before .before .before .may-try2 .ensures) (not-false _ (c .before .before .before .before .before .before .before .before .before .before .before .before .before .before .before .if4 .left))) .0) ((test-met (c .before .before .before .before .before .before .before .before .before .before .before .before .before .before .before .before .before .before .loop2 .m) (c .before .before .before .before .before .before .before .before .before .before .before .before .before .before .before .before .before .before .before .before .usable-of .result - c .before .before .before .before .before .before .before .before .before .before .before .before .before .before .before .before .before .before .loop2 .at) _ (c .before .before .before .before .before .before .before .before .before .before .before .before .before .before .before .before .may-try2 .ensures) (not-false _ (c .before .before .before .before .before .before .before .before .before .before .before .before .before .before .before .if4 .left))) .1) (c .before .before .before .before .before .before .before .before .before .before .before .before .before .before .if5 .left) _ (c .before .before .before .before .before .before .before .before .before .before .before .before .lowest-suspended .ensures) (c .before .before .before .before .before .before .before .before .before .before .before .if6 .left) _ (c .before .before .before .before .before .before .before .before .entry2 .ensures) _ _ (c .before .before .keep2 .ensures),
 )
 
 pub play-rounds-spec : {M : Type 1} → statement M
@@ -189,12 +208,16 @@ play-rounds-spec =
     cast-if2
     element-copy-out-if2
     idle-choice-requires
-    entry-requires
-    keep-requires
-    is-moved-requires
+    is-nothing-requires
     add-c
     loop2-less
     loop2-again
+    entry-requires
+    keep-requires
+    is-moved-requires
+    add-c-2
+    loop2-less-2
+    loop2-again-2
     sub-may-try-2
     may-try-requires-2
     same-length-4

@@ -1,0 +1,41 @@
+-- `scheduler::search::is_nothing` meets its contract. Assumes nothing.
+use borrow.Author.Needs.{needs}
+use Rattle.scheduler.proofs.search.is_nothing.Statement.{statement}
+use Rattle.scheduler.proofs.search.is_nothing.Tie as tie
+
+enum-told : tie.Need-enum-told
+enum-told c = search needs
+
+enum-told-2 : tie.Need-enum-told-2
+enum-told-2 c = search needs
+
+enum-known-entry : tie.Need-enum-known-entry
+enum-known-entry c = search needs
+
+enum-told-3 : tie.Need-enum-told-3
+enum-told-3 c = search needs
+
+returns : tie.Need-returns
+returns c = search needs
+
+returns-2 : tie.Need-returns-2
+returns-2 c = search needs
+
+returns-3 : tie.Need-returns-3
+returns-3 c = rw (c .before .entry .given .1)
+
+returns-4 : tie.Need-returns-4
+returns-4 c = search needs
+
+pub is-nothing-spec : {M : Type 1} → statement M
+is-nothing-spec =
+    tie.close
+    (tie.spec
+    enum-told
+    enum-told-2
+    enum-known-entry
+    enum-told-3
+    returns
+    returns-2
+    returns-3
+    returns-4)
