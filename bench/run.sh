@@ -2,21 +2,37 @@
 # Over the static library of the proved crates:
 #   bench/run.sh                       differential tests against the second implementation
 #   bench/run.sh test [CASES] [SEED]   the same, so many cases from a seed
+#   bench/run.sh print [CASES] [SEED]  the print program on random inputs against the second implementation's lines
 #   bench/run.sh measure               benchmarks; writes docs/BENCHMARKS.md and docs/benchmarks.svg
 # It needs rt and cargo, and no network. It is no part of the gate.
 set -eu
 cd "$(dirname "$0")/.."
-rt staticlib abi
-cargo build --release --offline --quiet --manifest-path bench/Cargo.toml
-case "${1:-test}" in
+what=${1:-test}
+[ $# -eq 0 ] || shift
+
+build() {
+    cargo build --release --offline --quiet --manifest-path bench/Cargo.toml "$@"
+}
+
+case "$what" in
 test)
-    shift || true
+    rt staticlib abi
+    build
     cargo test --release --lib --offline --quiet --manifest-path bench/Cargo.toml
     exec bench/target/release/differ "$@"
     ;;
-measure) exec bench/target/release/measure docs ;;
+print)
+    rt check print
+    build --bin prints
+    exec bench/target/release/prints target/bin/print "$@"
+    ;;
+measure)
+    rt staticlib abi
+    build
+    exec bench/target/release/measure docs
+    ;;
 *)
-    echo "usage: bench/run.sh [test [CASES] [SEED] | measure]" >&2
+    echo "usage: bench/run.sh [test [CASES] [SEED] | print [CASES] [SEED] | measure]" >&2
     exit 2
     ;;
 esac
