@@ -112,20 +112,22 @@ impl Report {
             *out += "The static library has no built-in scheduler.\n";
             return;
         }
-        *out += "| job | commands | forks | second implementation | proved crates | ns a fork over serial (second, proved) | aim |\n";
-        *out += "|---|---|---|---|---|---|---|\n";
+        *out += "| job | commands | forks | serial, ns a command (second, proved) | scheduler, ns a command (second, proved) | scheduler over serial, second | proved | aim |\n";
+        *out += "|---|---|---|---|---|---|---|---|\n";
         for over in &self.over {
-            let each = |scheduled: f64, serial: f64| number((scheduled - serial) / over.forks as f64);
+            let each = |time: f64| number(time / over.commands as f64);
             let _ = writeln!(
                 out,
-                "| {} | {} | {} | {:.2} | {:.2} | {}, {} | at most 3.0 |",
+                "| {} | {} | {} | {}, {} | {}, {} | {:.2} | {:.2} | at most 3.0 |",
                 over.what,
                 over.commands,
                 over.forks,
+                each(over.peer_serial),
+                each(over.serial),
+                each(over.peer_scheduled),
+                each(over.scheduled),
                 over.peer_scheduled / over.peer_serial,
                 over.scheduled / over.serial,
-                each(over.peer_scheduled, over.peer_serial),
-                each(over.scheduled, over.serial),
             );
         }
     }
