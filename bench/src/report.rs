@@ -37,7 +37,7 @@ pub struct Report {
     pub undefined: Vec<String>,
 }
 
-/// The machine's structs as `crates/machine` declares them, for their sizes alone: a struct there has C's layout.
+/// The machine's structs as its crates declare them, for their sizes alone: a struct there has C's layout, an enum of names one byte.
 #[allow(dead_code)]
 mod mirror {
     #[repr(C)]
@@ -50,7 +50,9 @@ mod mirror {
         cores: [u8; 4],
         count: u8,
         stacklets: [u8; 16],
-        queues: [Queue; 3],
+        free_threads: Queue,
+        free_stacklets: Queue,
+        ready: Queue,
         units: u32,
         over: u8,
         result: u32,
@@ -59,6 +61,42 @@ mod mirror {
         fault_offset: u16,
         log: u8,
     }
+}
+
+/// The declarations that the mirror follows: crate, struct and fields.
+const DECLARED: [(&str, &str, &str); 5] = [
+    (
+        "machine",
+        "Machine",
+        "threads: [Thread; 32], cores: [u8; 4], count: u8, stacklets: Stacklets, free_threads: Queue, free_stacklets: Queue, \
+         ready: Queue, units: u32, over: u8, result: u32, fault: u8, fault_thread: u8, fault_offset: u16, log: u8",
+    ),
+    (
+        "thread",
+        "Thread",
+        "status: Status, connected: bool, routine: u8, parent: u8, result: u8, children: u8, position: u16, base: u16, \
+         window: Window, pending: u16",
+    ),
+    ("queue", "Queue", "places: [u8; 32], head: u8, len: u8"),
+    ("stacklets", "Stacklets", "tops: [u8; 16]"),
+    ("window", "Window", "lo: u16, mark: u16, hi: u16"),
+];
+
+/// The fields of a struct in a crate's source.
+fn fields(name: &str, of: &str) -> String {
+    let path = format!("{}/../crates/{name}/src/lib.rt", env!("CARGO_MANIFEST_DIR"));
+    let text = std::fs::read_to_string(path).expect("a crate's source");
+    let body = text.split(&format!("pub struct {of} {{")).nth(1).and_then(|rest| rest.split('}').next()).unwrap_or("");
+    let lines = body.lines().map(str::trim).filter(|line| !line.is_empty() && !line.starts_with("//"));
+    lines.map(|line| line.trim_start_matches("pub ").trim_end_matches(',')).collect::<Vec<_>>().join(", ")
+}
+
+/// The bytes of the machine's struct and of a thread record.
+fn sizes() -> (usize, usize) {
+    for (name, of, expected) in DECLARED {
+        assert_eq!(fields(name, of), expected, "the mirror of {name}::{of} is out of date");
+    }
+    (std::mem::size_of::<mirror::Machine>(), std::mem::size_of::<mirror::Thread>())
 }
 
 /// What the static library leaves to be linked: the only functions outside it that it can call.
@@ -80,9 +118,7 @@ fn processor() -> String {
 }
 
 fn number(x: f64) -> String {
-    if x >= 1000.0 {
-        format!("{x:.0}")
-    } else if x >= 100.0 {
+    if x >= 100.0 {
         format!("{x:.0}")
     } else {
         format!("{x:.1}")
@@ -138,8 +174,7 @@ impl Report {
         for stack in &self.stacks {
             let _ = writeln!(out, "| {} | {} | {} |", stack.what, stack.peer, stack.ours);
         }
-        let machine = std::mem::size_of::<mirror::Machine>();
-        let thread = std::mem::size_of::<mirror::Thread>();
+        let (machine, thread) = sizes();
         let _ = write!(
             out,
             "\nThe machine's state is a struct of {machine} bytes (32 thread records of {thread} bytes, three queues of 34, 16 stacklet tops), beside\n\
@@ -169,7 +204,8 @@ impl Report {
              <text x=\"10\" y=\"20\" font-size=\"14\">Time of the proved crates over the second implementation's (red: the aim)</text>\n"
         );
         let bottom = 40.0 + step * bars.len() as f64;
-        for tick in 0..=most as u32 {
+        let apart = [1, 2, 5, 10].into_iter().find(|apart| most <= 12.0 * *apart as f64).unwrap_or(50);
+        for tick in (0..=most as usize).filter(|tick| *tick == 1 || tick % apart == 0) {
             let at = x(tick as f64);
             let colour = if tick == 1 { "#555" } else { "#ddd" };
             let _ = writeln!(out, "<line x1=\"{at:.1}\" y1=\"34\" x2=\"{at:.1}\" y2=\"{bottom}\" stroke=\"{colour}\"/>");
