@@ -2,7 +2,7 @@
 -- Assumes nothing.
 use borrow.Author.Tests.{eqb-true, ltb-true, lt-ltb, le-ltb, lt-leb}
 use mathlib.Core.Bool.{Bool, true, false, cond, _&&_}
-use mathlib.Core.List.{List}
+use mathlib.Core.List.{List, [], _∷_}
 use mathlib.Core.Path.{_≡_, refl, sym, _∙_, ap}
 use Prim.Native.Nat.{ℕ, _+_, _-_, _%_, _≤_, _<_, _^_}
 use native.Mathlib.Nat.{mod-eq-of-lt}
@@ -10,15 +10,20 @@ use native.Mathlib.Omega.{arith}
 use lib.Dec.{eqb, ltb}
 use lib.ListN.{getD, set}
 use Rattle.command.specs.declared.Command.{Command}
+use Rattle.command.specs.declared.Command.the-variants.{Set, Add, Subtract, Load, Store, JumpIfZero, Jump, Lfork, Fork, Join, Suspend, Yield, Return}
 use Rattle.command.specs.Command.{decodedAt, widthOf}
 use Rattle.command.specs.Weight.{weightOf, standardWeights}
-use Rattle.command.proofs.Bools.{both}
+use Rattle.image.specs.Layout.{argumentsOf}
 use Rattle.schedule.specs.declared.Entry.{Entry}
 use Rattle.schedule.specs.declared.Entry.the-variants.{Step, Take, Steal, Enable}
 use Rattle.thread.specs.declared.Effect.{Effect}
 use Rattle.thread.specs.declared.Effect.the-variants.{Faults, Sets, Loads, Stores, Goes, Continues, Lforks, Forks, Joins, Suspends, Yields, Returns}
 use Rattle.thread.specs.declared.Thread.{Thread}
-use Rattle.thread.specs.Thread.{blankThread, movedTo, joinedAt, none}
+use Rattle.thread.specs.Effect.{run, anyPending, unlessPending, provided, forking, effectOf, ownEffectOf}
+use Rattle.thread.specs.View.{viewOf, mayCut}
+use Rattle.thread.specs.Thread.{isPending, movedTo, joinedAt, none}
+use Rattle.stacklets.specs.Frames.{slotOf}
+use Rattle.window.specs.declared.Window.{Window}
 use Rattle.machine.specs.declared.Machine.{Machine}
 use Rattle.machine.specs.declared.OwnStep.{OwnStep}
 use Rattle.machine.specs.declared.OwnStep.the-variants.{Moved, Joined, Other}
@@ -28,8 +33,34 @@ use Rattle.machine.specs.Rules.{carriedOf, turnOf, stepOf, entryOf}
 use Rattle.machine.specs.Sound.{Sound, Used}
 use Rattle.machine.specs.Own.{steppingOf, Own, Owned, leaving, ownBy, ownEffect, ownOf}
 use Rattle.machine.proofs.Tests.{over-false}
-use Rattle.machine.proofs.Way.{record-of, effect-of}
+use Rattle.machine.proofs.Way.{record-of}
 use Rattle.machine.proofs.Reach.{meets, core-used}
+
+-- a command that is no step of its own is none whatever its effect is
+module _ (base units next : ℕ) (ps ws ms : List ℕ) where
+  guarded : (n k : ℕ) (a b : Bool) (e : Effect) → ownBy base units next ps ws ms e ≡ leaving Other ws ms
+      → leaving Other ws ms ≡ ownBy base units next ps ws ms (cond a (Faults n) (cond b e (Faults k)))
+  unfolding ownBy
+  guarded n k true b e h = refl
+  guarded n k false true e h = sym h
+  guarded n k false false e h = refl
+
+  same-own : (arguments : ℕ → ℕ) (slots : ℕ → ℕ) (pending : ℕ → Bool) (w : Window) (c : Command)
+      → ownBy base units next ps ws ms (ownEffectOf (viewOf slots pending w) c) ≡ ownBy base units next ps ws ms (effectOf arguments (viewOf slots pending w) c)
+  unfolding ownBy ownEffectOf effectOf forking unlessPending provided
+  same-own arguments slots pending w (Set d v) = refl
+  same-own arguments slots pending w (Add d a b) = refl
+  same-own arguments slots pending w (Subtract d a b) = refl
+  same-own arguments slots pending w (Load d a) = refl
+  same-own arguments slots pending w (Store a b) = refl
+  same-own arguments slots pending w (JumpIfZero a t) = refl
+  same-own arguments slots pending w (Jump t) = refl
+  same-own arguments slots pending w (Lfork r d a x) = guarded 9 11 (anyPending pending (d ∷ x ∷ run a (arguments r))) (mayCut w (slots x)) (Lforks r d a (slots x)) refl
+  same-own arguments slots pending w (Fork r d a x) = guarded 9 11 (anyPending pending (d ∷ x ∷ run a (arguments r))) (mayCut w (slots x)) (Forks r d a (slots x)) refl
+  same-own arguments slots pending w Join = refl
+  same-own arguments slots pending w Suspend = refl
+  same-own arguments slots pending w Yield = refl
+  same-own arguments slots pending w (Return a) = guarded 12 12 (anyPending pending (run 0 16)) true (Returns (slots a)) refl
 
 -- the code's way to `ownOf`, by what its tests and calls give
 module _ (im ss ps ws ms : List ℕ) (al units : ℕ) (h : Thread) (place byte : ℕ) (wait : Bool)
@@ -50,13 +81,16 @@ module _ (im ss ps ws ms : List ℕ) (al units : ℕ) (h : Thread) (place byte :
     own-dear g = rw (waits-as, e4, weight-as, ← e6, lt-ltb _ _ g) (record { answer = refl; words = refl; memory = refl })
 
     own-is : w ≤ left → (wide next : ℕ) (command : Command) (e : Effect) → wide ≡ widthOf byte → next ≡ (h .position + wide) % 2 ^ 16
-        → command ≡ decodedAt im place → e ≡ effect-of im ws h command
+        → command ≡ decodedAt im place → e ≡ ownEffectOf (viewOf (slotOf ws (h .base)) (isPending (h .pending)) (h .window)) command
         → ownBy (h .base) (units + w) next ps ws ms e ≡ ownOf (jobOf im ss ps al) h units ws ms
     unfolding ownOf
-    own-is g wide next command e e7 e8 e9 e10 = rw (waits-as, e4, weight-as, ← e6, le-ltb _ _ g, e8, e7, e10, e9, e2, e1)
+    own-is g wide next command e e7 e8 e9 e10 =
+        ap (ownBy (h .base) (units + w) next ps ws ms) e10
+        ∙ same-own (h .base) (units + w) next ps ws ms (argumentsOf im) (slotOf ws (h .base)) (isPending (h .pending)) (h .window) command
+        ∙ rw (waits-as, e4, weight-as, ← e6, le-ltb _ _ g, e8, e7, e9, e2, e1)
 
     pub own-carries : w ≤ left → (wide next : ℕ) (command : Command) (e : Effect) → wide ≡ widthOf byte → next ≡ (h .position + wide) % 2 ^ 16
-        → command ≡ decodedAt im place → e ≡ effect-of im ws h command
+        → command ≡ decodedAt im place → e ≡ ownEffectOf (viewOf (slotOf ws (h .base)) (isPending (h .pending)) (h .window)) command
         → (r : OwnStep) (ws' ms' : List ℕ) → Owned (ownBy (h .base) (units + w) next ps ws ms e) r ws' ms'
         → Owned (ownOf (jobOf im ss ps al) h units ws ms) r ws' ms'
     own-carries g wide next command e e7 e8 e9 e10 r ws' ms' o =

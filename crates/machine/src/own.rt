@@ -15,7 +15,7 @@ use stacklets::set_slot;
 use std::num::wrapping_add_u16;
 use thread::Effect;
 use thread::Thread;
-use thread::effects::effect;
+use thread::effects::own_effect;
 ghost use mathlib.Core.Path.{_≡_};
 ghost use Rattle.machine.specs.State.{jobOf};
 ghost use Rattle.machine.specs.Own.{steppingOf, Owned, ownBy, ownOf};
@@ -106,13 +106,6 @@ pub fn own_step(
     }
     let next = wrapping_add_u16(th.position, width(byte) as u16);
     let window = th.window;
-    let done = effect(
-        fetch(image, place),
-        image,
-        words,
-        th.base,
-        th.pending,
-        window,
-    );
+    let done = own_effect(fetch(image, place), words, th.base, th.pending, window);
     carry_own(th.base, units + cost, next, done, parameters, words, memory)
 }

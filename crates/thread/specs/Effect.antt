@@ -65,3 +65,23 @@ effectOf arguments own Join = Joins
 effectOf arguments own Suspend = Suspends
 effectOf arguments own Yield = Yields
 effectOf arguments own (Return a) = unlessPending 12 (own .pending) (run 0 16) (Returns (own .slot a))
+
+-- does a command change its own thread, its slots and the memory alone? 01 to 07, and a join
+abbrev pub isOwn : Command → Bool
+isOwn (Set d v) = true
+isOwn (Add d a b) = true
+isOwn (Subtract d a b) = true
+isOwn (Load d a) = true
+isOwn (Store a b) = true
+isOwn (JumpIfZero a t) = true
+isOwn (Jump t) = true
+isOwn (Lfork r d a w) = false
+isOwn (Fork r d a w) = false
+isOwn Join = true
+isOwn Suspend = false
+isOwn Yield = false
+isOwn (Return a) = false
+
+-- the effect of such a command, for which routines' arguments play no part; a suspend stands for every other command
+unfoldable pub ownEffectOf : Own → Command → Effect
+ownEffectOf own c = cond (isOwn c) (effectOf (λ r. 0) own c) Suspends
