@@ -185,7 +185,13 @@ pub fn five_at(bytes: &[u8], at: usize) -> [u8; 5]
     let n = bytes.len();
     if 5 <= n {
         if at <= n - 5 {
-            return [bytes[at], bytes[at + 1], bytes[at + 2], bytes[at + 3], bytes[at + 4]];
+            return [
+                bytes[at],
+                bytes[at + 1],
+                bytes[at + 2],
+                bytes[at + 3],
+                bytes[at + 4],
+            ];
         }
     }
     if n <= at {

@@ -8,12 +8,12 @@ use native.Mathlib.Decide.{decLt}
 use native.Mathlib.Omega.{arith}
 use borrow.Author.Tests.{ltb-true, leb-true, le-ltb}
 use lib.Dec.{ltb, leb, eqb}
-use lib.ListN.{getD, set, length, take, drop, replicate, length-set, length-take, length-append, length-replicate}
+use lib.ListN.{getD, set, length, take, drop, replicate, length-set, length-take, length-drop, length-append, length-replicate}
 use Rattle.command.specs.declared.Command.{Command}
 use Rattle.command.specs.declared.Command.the-variants.{Set, Add, Subtract, Load, Store, JumpIfZero, Jump, Lfork, Fork, Join, Suspend, Yield, Return}
-use Rattle.command.specs.Command.{decodedAt, widthOf, pair}
+use Rattle.command.specs.Command.{decodedAt, widthOf, pair, bytesOf}
 use Rattle.command.specs.Weight.{weightOf}
-use Rattle.command.proofs.RoundTrip.{Stands, stands}
+use Rattle.command.proofs.RoundTrip.{Stands, stands, writes-again}
 use Rattle.image.specs.Layout.{countOf, slotsOf, argumentsOf, lengthOf, startOf, codeOf}
 use Rattle.image.specs.Code.{commandsOf, isStart, ends, targetGood}
 use Rattle.image.specs.Image.{allSlots, inRange}
@@ -34,6 +34,7 @@ use Rattle.thread.specs.Job.{Job, GoodJob, offsetAt, byteAt}
 use Rattle.serial.specs.declared.Routine.{Routine}
 use Rattle.serial.specs.Serial.{movedTo, withSlot, goesOn, joined, forked, startedOn, argumentsFrom, weightAt, effectAt}
 use Rattle.serial.specs.Steps.{GoodRoutine, InReach}
+use Rattle.serial.proofs.Widths.{Widened, wide}
 
 and-true : (a b : Bool) → (a && b) ≡ true → (a ≡ true) × (b ≡ true)
 and-true true b h = (refl, h)
@@ -192,6 +193,17 @@ module _ (j : Job) (good : GoodJob j) (l : Routine) (g : GoodRoutine j l) where
   unfolding effectAt
   met = rw (← command-is) (known _ _ _ _ _ _ _ _ (g .window) (here .command) (here .range) (here .target)
       (λ k. ap (λ z. starts j l (l .position + z)) (sym width-is) ∙ here .next k))
+
+  -- the effect tells the command's bytes
+  bytes-are : length (bytesOf (here .command)) ≡ widthOf (byteAt j (l .routine) (l .position))
+  bytes-are =
+      let whole = found .whole in
+      ap length (writes-again (j .image) (good .bytes) (startOf (j .image) (l .routine) + l .position) (here .command) (here .width) (here .found))
+      ∙ simp (length-take, length-drop) (omega arith) ∙ width-is
+
+  pub width-met : Widened (widthOf (byteAt j (l .routine) (l .position))) (effectAt j l)
+  unfolding effectAt
+  width-met = rw (← command-is, ← bytes-are) (wide _ _ (here .command))
 
 -- the routines that are open behind an effect are good
 abbrev pub Next : Job → Routine → Effect → Type 0

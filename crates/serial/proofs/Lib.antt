@@ -1,8 +1,8 @@
 pub mod Cases
 pub mod CommandMet
-pub mod Effects
 pub mod FirstSlots
 pub mod Loop
 pub mod Turns
 pub mod Unrolled
 pub mod Whole
+pub mod Widths

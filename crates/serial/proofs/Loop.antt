@@ -6,39 +6,74 @@ use Prim.Native.Nat.{ℕ, suc, _+_, _-_, _≤_, _<_}
 use native.Mathlib.Omega.{arith}
 use borrow.Author.Tests.{le-leb, lt-leb}
 use lib.Dec.{leb}
-use lib.ListN.{length, getD, set, take, drop, length-set}
-use Rattle.command.specs.Command.{widthOf}
+use lib.ListN.{length, getD, set, take, drop, length-set, length-take, length-drop}
+use Rattle.command.specs.Command.{decodedAt, fiveAt}
+use Rattle.command.specs.Weight.{standardWeights, weightOf}
 use Rattle.image.specs.Layout.{argumentsOf}
-use Rattle.window.specs.Rights.{childOf}
+use Rattle.stacklets.specs.Frames.{slotOf}
+use Rattle.window.specs.declared.Window.{Window}
+use Rattle.window.specs.Rights.{childOf, restOf, rejoined}
 use Rattle.thread.specs.declared.Effect.{Effect}
 use Rattle.thread.specs.declared.Effect.the-variants.{Faults, Sets, Loads, Stores, Goes, Continues, Lforks, Forks, Joins, Suspends, Yields, Returns}
+use Rattle.thread.specs.Effect.{effectOf}
+use Rattle.thread.specs.View.{viewOf}
+use Rattle.thread.specs.Thread.{isPending, withPending}
 use Rattle.thread.specs.Job.{Job, GoodJob}
 use Rattle.serial.specs.declared.Routine.{Routine}
-use Rattle.serial.specs.declared.Place.{Place}
-use Rattle.serial.specs.declared.Met.{Met}
 use Rattle.serial.specs.declared.Ask.{Ask}
-use Rattle.serial.specs.declared.Ask.the-variants.{GoOn, Call, End}
+use Rattle.serial.specs.declared.Ask.the-variants.{GoOn, Join, Call, Stop, Return}
 use Rattle.serial.specs.declared.SerialAnswer.{SerialAnswer}
 use Rattle.serial.specs.declared.SerialAnswer.the-variants.{Finished, Stopped}
 use Rattle.serial.specs.Serial.{Ended, done, stopped, andThen, endedBy, withSlot, goesOn, forked, startedOn, weightAt, effectAt, forkCalled, runFrom}
-use Rattle.serial.specs.Steps.{routineAt, placeOf, metAt, askAt, slotsAfter, memoryAfter, placeAfter, placeBehind, GoodRoutine, InReach, Ready, ForkReady, forkOf}
-use Rattle.serial.proofs.CommandMet.{reach-met, ForkMet, weighs, routine-few, next-small}
+use Rattle.serial.specs.Steps.{openAt, firstSlots, askedOf, bytesBy, slotsAfter, memoryAfter, childFrom, GoodRoutine, InReach, Ready, ForkReady, forkOf}
+use Rattle.serial.proofs.CommandMet.{reach-met, weighs, routine-few, next-small, nextOf}
 use Rattle.serial.proofs.Unrolled.{Between, ended, between, between-done}
-use Rattle.serial.proofs.Turns.{Calls, paid-goes, paid-calls, turn-ends, turn-goes, turn-good, turn-calls, call-runs}
+use Rattle.serial.proofs.Widths.{bytes-below}
+use Rattle.serial.proofs.Turns.{Calls, wide-here, turn-22, turn-goes, turn-joins, turn-stops, turn-returns, turn-calls}
 
 -- what is left of the run gives what the whole run from l₀ on gives
-pub record Far (j : Job) (depth : ℕ) (m₀ : List ℕ) (l₀ : Routine) (u₀ : ℕ) (m : List ℕ) (p : Place) (slots : List ℕ) (u : ℕ) : Type 0 where
-  pub ready : Ready j (routineAt p slots) m u depth
-  pub is : runFrom j (33 - depth) (routineAt p slots) m u ≡ runFrom j (33 - depth) l₀ m₀ u₀
+pub record Far (j : Job) (depth : ℕ) (m₀ : List ℕ) (l₀ : Routine) (u₀ : ℕ) (m : List ℕ) (l : Routine) (u : ℕ) : Type 0 where
+  pub ready : Ready j l m u depth
+  pub is : runFrom j (33 - depth) l m u ≡ runFrom j (33 - depth) l₀ m₀ u₀
 
-pub far-starts : (j : Job) (depth : ℕ) (m : List ℕ) (start : Routine) (u : ℕ) (p : Place) → p ≡ placeOf start → Ready j start m u depth
-    → Far j depth m (routineAt p (start .slots)) u m p (start .slots) u
-far-starts j depth m start u p e r = record { ready = rw e r; is = refl }
+pub far-starts : (j : Job) (depth : ℕ) (m : List ℕ) (r : ℕ) (arguments : List ℕ) (w : Window) (u : ℕ) (slots : List ℕ) → slots ≡ firstSlots arguments
+    → Ready j (startedOn r arguments w) m u depth → Far j depth m (startedOn r arguments w) u m (openAt r 0 0 w slots) u
+far-starts j depth m r arguments w u slots e x = rw e (record { ready = x; is = refl })
 
--- the whole run is the run from `start`
-pub far-whole : (j : Job) (depth : ℕ) (m : List ℕ) (start : Routine) (u : ℕ) (p : Place) (o : Ended) → p ≡ placeOf start
-    → o ≡ runFrom j (33 - depth) (routineAt p (start .slots)) m u → o ≡ runFrom j (33 - depth) start m u
-far-whole j depth m start u p o e h = rw e at h
+pub start-few : (j : Job) (depth : ℕ) (m : List ℕ) (r : ℕ) (arguments : List ℕ) (w : Window) (u : ℕ) → Ready j (startedOn r arguments w) m u depth → r < 32
+start-few j depth m r arguments w u x = routine-few j (x .job) (startedOn r arguments w) (x .routine)
+
+-- carrying out a fork: too deep, and else
+pub fork-deep : (j : Job) (child : Routine) (m : List ℕ) (u w depth : ℕ) → depth ≤ 1 → stopped 26 m u ≡ forkOf j (33 - depth) child m u w
+fork-deep j child m u w depth h = rw (le-leb 32 (33 - depth) (omega arith))
+
+module _ (j : Job) (slots : List ℕ) (w : Window) (e r a : ℕ) (m : List ℕ) (u cost depth : ℕ) (f : ForkReady j slots w e r a m u cost depth) where
+  pub fork-end : (count : ℕ) → count ≡ argumentsOf (j .image) r → a + count ≤ length slots
+  fork-end count q = omega (arith, f .arguments, f .sixteen)
+
+  module _ (count : ℕ) (q : count ≡ argumentsOf (j .image) r) (child : Window) (child-is : child ≡ childOf w e) (arguments : List ℕ)
+      (arguments-are : arguments ≡ take (a + count - a) (drop a slots)) where
+    same-arguments : arguments ≡ take (argumentsOf (j .image) r) (drop a slots)
+    same-arguments = let z : a + count - a ≡ argumentsOf (j .image) r = omega (arith, q) in arguments-are ∙ ap (λ i. take i (drop a slots)) z
+
+    pub fork-ready : (so-far : ℕ) → so-far ≡ u + cost → 1 < depth → Ready j (startedOn r arguments child) m so-far (depth - 1) × (length arguments ≤ 16)
+    fork-ready so-far s h = (
+      rw (same-arguments, child-is, s) (record {
+        job = f .job;
+        routine = f .routine;
+        memory = f .memory;
+        paid = f .paid;
+        some = omega arith;
+        most = omega (arith, f .most);
+      }),
+      rw same-arguments (simp (length-take, length-drop) (omega (arith, f .arguments))),
+    )
+
+    pub fork-runs : (o : Ended) → 1 < depth → o ≡ runFrom j (33 - (depth - 1)) (startedOn r arguments child) m (u + cost)
+        → o ≡ forkOf j (33 - depth) (childFrom (j .image) slots w e r a) m u cost
+    fork-runs o h p =
+        let d : 33 - (depth - 1) ≡ suc (33 - depth) = omega (arith, f .most) in
+        rw (lt-leb 32 (33 - depth) (omega arith)) (rw (same-arguments, child-is, d) at p)
 
 -- a fork, as the child's run and what follows it
 fork-splits : (b : Bool) (o x : Ended) (k : ℕ → List ℕ → ℕ → Ended) → andThen o k ≡ o → cond b o (andThen x k) ≡ andThen (cond b o x) k
@@ -49,27 +84,6 @@ fork-bounded : (j : Job) (b : Bool) (n : ℕ) (child : Routine) (m : List ℕ) (
     → Between (u + w) (j .allowance) (length m) (cond b (stopped 26 m u) (runFrom j n child m (u + w)))
 fork-bounded j true n child m u w h = ended refl
 fork-bounded j false n child m u w h = between j n child m (u + w) h
-
--- carrying out a fork: too deep, and else
-pub fork-deep : (j : Job) (child : Routine) (m : List ℕ) (u w depth : ℕ) → depth ≤ 1 → stopped 26 m u ≡ forkOf j (33 - depth) child m u w
-fork-deep j child m u w depth h = rw (le-leb 32 (33 - depth) (omega arith))
-
-pub fork-runs : (j : Job) (child : Routine) (m : List ℕ) (u w depth : ℕ) (o : Ended) → 1 < depth → depth ≤ 32
-    → o ≡ runFrom j (33 - (depth - 1)) child m (u + w) → o ≡ forkOf j (33 - depth) child m u w
-fork-runs j child m u w depth o h k e =
-    let d : 33 - (depth - 1) ≡ suc (33 - depth) = omega arith in
-    rw (lt-leb 32 (33 - depth) (omega arith)) (e ∙ ap (λ n. runFrom j n child m (u + w)) d)
-
-pub fork-ready : (j : Job) (child : Routine) (m : List ℕ) (u w depth so-far : ℕ) → ForkReady j child m u w depth → 1 < depth → so-far ≡ u + w
-    → Ready j child m so-far (depth - 1)
-fork-ready j child m u w depth so-far r h e = record {
-  job = r .job;
-  routine = r .routine;
-  memory = r .memory;
-  paid = rw e (r .paid);
-  some = omega arith;
-  most = omega (arith, r .most);
-}
 
 length-after : (m : List ℕ) (e : Effect) → length (memoryAfter m e) ≡ length m
 unfolding memoryAfter
@@ -86,11 +100,7 @@ length-after m Suspends = refl
 length-after m Yields = refl
 length-after m (Returns v) = refl
 
-module _ {j : Job} {depth : ℕ} {m₀ : List ℕ} {l₀ : Routine} {u₀ : ℕ} {m : List ℕ} {p : Place} {slots : List ℕ} {u : ℕ}
-    (far : Far j depth m₀ l₀ u₀ m p slots u) where
-  abbrev l : Routine
-  l = routineAt p slots
-
+module _ {j : Job} {depth : ℕ} {m₀ : List ℕ} {l₀ : Routine} {u₀ : ℕ} {m : List ℕ} {l : Routine} {u : ℕ} (far : Far j depth m₀ l₀ u₀ m l u) where
   abbrev n : ℕ
   n = 33 - depth
 
@@ -100,108 +110,149 @@ module _ {j : Job} {depth : ℕ} {m₀ : List ℕ} {l₀ : Routine} {u₀ : ℕ}
   well : GoodRoutine j l
   well = far .ready .routine
 
-  pub meet-ready : (p .routine < 32) × (p .position + widthOf (getD (j .image) (getD (j .starts) (p .routine) 0 + p .position) 0) < 65536)
-  meet-ready = (routine-few j good l well, next-small j good l well)
+  -- the command that is met, as the code reads it
+  module _ (code p : ℕ) (code-is : code ≡ getD (j .starts) (l .routine) 0) (p-is : p ≡ l .position) (five : List ℕ) (five-are : five ≡ fiveAt (j .image) (code + p)) where
+    pub cost-met : (weights : List ℕ) → weights ≡ j .weights → (cost : ℕ) → cost ≡ weightOf weights (getD five 0 0) → cost ≡ weightAt j l
+    cost-met weights w cost c = c ∙ rw (w, five-are, code-is, p-is)
 
-  module _ (c : Met) (is : c ≡ metAt j l) (k : Ask) (asked : k ≡ askAt (j .allowance) u c) where
-    asks : {x : Ask} → k ≡ x → askAt (j .allowance) u (metAt j l) ≡ x
-    asks h = ap (askAt (j .allowance) u) (sym is) ∙ sym asked ∙ h
+    pub effect-met : (command : _) → command ≡ decodedAt five 0 → (e : Effect)
+        → e ≡ effectOf (argumentsOf (j .image)) (viewOf (slotOf (l .slots) 0) (isPending (l .pending)) (l .window)) command → e ≡ effectAt j l
+    unfolding effectAt
+    effect-met command c e x = x ∙ rw (c, five-are, code-is, p-is)
 
-    cost-is : c .cost ≡ weightAt j l
-    cost-is = ap (λ (x : Met). x .cost) is
-
-    effect-is : c .effect ≡ effectAt j l
-    effect-is = ap (λ (x : Met). x .effect) is
-
-    pub some-cost : 1 ≤ c .cost
+  module _ (cost : ℕ) (cost-is : cost ≡ weightAt j l) where
+    pub some-cost : 1 ≤ cost
     some-cost = rw cost-is (weighs j good l well)
 
-    -- the routine ends
-    pub ends : (x : SerialAnswer) → k ≡ End x → endedBy x m ≡ runFrom j n l₀ m₀ u₀
-    ends x h = turn-ends j n p slots m u good well x (asks h) ∙ far .is
+    pub unpaid : j .allowance - u < cost → stopped 22 m u ≡ runFrom j n l₀ m₀ u₀
+    unpaid h = turn-22 j n l m u good well (omega (arith, cost-is)) ∙ far .is
 
-    -- the routine goes on by itself
-    pub go-reach : k ≡ GoOn → (length (j .parameters) ≡ 32) × (length m ≡ 992) × InReach (c .effect)
-    go-reach h = (good .parameters, far .ready .memory, rw effect-is (reach-met j good l well))
+    module _ (paid : cost ≤ j .allowance - u) (e : Effect) (e-is : e ≡ effectAt j l) where
+      paid-weight : weightAt j l ≤ j .allowance - u
+      paid-weight = omega (arith, cost-is, paid)
 
-    pub go-paid : k ≡ GoOn → u + c .cost ≤ j .allowance
-    go-paid h = omega (arith, paid-goes (j .allowance) u (metAt j l) (asks h) .0, cost-is, far .ready .paid)
+      pub paid-units : u + cost ≤ j .allowance
+      paid-units = omega (arith, paid, far .ready .paid)
 
-    pub go-again : (p' : Place) (slots' m' : List ℕ) → k ≡ GoOn → slots' ≡ slotsAfter (j .parameters) m slots (c .effect)
-        → m' ≡ memoryAfter m (c .effect) → p' ≡ placeAfter (c .effect) (c .next) p → Far j depth m₀ l₀ u₀ m' p' slots' (u + c .cost)
-    go-again p' slots' m' h e f g = rw (e, f, g) (rw is (record {
-      ready = record {
-        job = good;
-        routine = turn-good j n p slots m u good well (asks h);
-        memory = length-after m (effectAt j l) ∙ far .ready .memory;
-        paid = rw cost-is at (go-paid h);
-        some = far .ready .some;
-        most = far .ready .most;
-      };
-      is = turn-goes j n p slots m u good well (asks h) ∙ far .is;
-    }))
+      pub reach : (length (j .parameters) ≡ 32) × (length m ≡ 992) × InReach e × (l .position + bytesBy e < 65536)
+      reach = (
+        good .parameters,
+        far .ready .memory,
+        rw e-is (reach-met j good l well),
+        bytes-below (l .position) _ 65536 e (wide-here j n l m u good well paid-weight e e-is) (next-small j good l well),
+      )
 
-    -- a child runs first
-    module _ (r d a e : ℕ) (h : k ≡ Call r d a e) where
-      calls : Calls j n p slots m u r d a e (effectAt j l)
-      calls = turn-calls j n p slots m u good well r d a e (asks h)
+      module _ (k : Ask) (asked : k ≡ askedOf e (l .position)) (slots m' : List ℕ)
+          (slots-are : slots ≡ slotsAfter (j .parameters) m (l .slots) e) (memory-is : m' ≡ memoryAfter m e) where
+        same-length : length m' ≡ 992
+        same-length = ap length memory-is ∙ length-after m e ∙ far .ready .memory
 
-      call-paid : u + weightAt j l ≤ j .allowance
-      call-paid = omega (arith, paid-calls (j .allowance) u (metAt j l) r d a e (asks h) .0, far .ready .paid)
-
-      pub call-frame : (count : ℕ) → count ≡ argumentsOf (j .image) r → (a + count ≤ 16) × (e ≤ p .window .hi)
-      call-frame count q = (omega (arith, calls .asks .arguments), calls .asks .high)
-
-      pub call-slot : (d < 16) × (e ≤ p .window .hi)
-      call-slot = (calls .asks .result, calls .asks .high)
-
-      module _ (count : ℕ) (q : count ≡ argumentsOf (j .image) r) (child : Routine)
-          (child-is : child ≡ startedOn r (take count (drop a slots)) (childOf (p .window) e)) where
-        same-child : child ≡ startedOn r (take (argumentsOf (j .image) r) (drop a slots)) (childOf (p .window) e)
-        same-child = child-is ∙ ap (λ i. startedOn r (take i (drop a slots)) (childOf (p .window) e)) q
-
-        pub call-ready : ForkReady j child m u (c .cost) depth
-        call-ready = record {
-          job = good;
-          routine = rw same-child (calls .child);
-          memory = far .ready .memory;
-          paid = rw cost-is call-paid;
-          some = far .ready .some;
-          most = far .ready .most;
+        -- the run goes on from another routine
+        far-on : (l' : Routine) → (runFrom j n l' (memoryAfter m e) (u + weightAt j l) ≡ runFrom j n l m u) × GoodRoutine j l'
+            → Far j depth m₀ l₀ u₀ m' l' (u + cost)
+        far-on l' x = record {
+          ready = record {
+            job = good;
+            routine = x .1;
+            memory = same-length;
+            paid = paid-units;
+            some = far .ready .some;
+            most = far .ready .most;
+          };
+          is = rw (memory-is, cost-is) (x .0 ∙ far .is);
         }
 
-        module _ (answer : SerialAnswer) (m' : List ℕ) (ran : endedBy answer m' ≡ forkOf j n child m u (c .cost)) where
-          abbrev goes : ℕ → List ℕ → ℕ → Ended
-          goes v w x = runFrom j n (withSlot d v (goesOn j (forked d e l))) w x
+        pub goes-again : (p : ℕ) → k ≡ GoOn p → Far j depth m₀ l₀ u₀ m' (openAt (l .routine) p (l .pending) (l .window) slots) (u + cost)
+        goes-again p h = far-on _ (rw slots-are (turn-goes j n l m u good well paid-weight e e-is p (sym asked ∙ h)))
 
-          fork-is : forkOf j n child m u (c .cost)
-              ≡ forkOf j n (startedOn r (take (argumentsOf (j .image) r) (drop a slots)) (childOf (p .window) e)) m u (weightAt j l)
-          fork-is = rw (same-child, cost-is)
+        pub join-fits : k ≡ Join → l .position + 1 < 65536
+        join-fits h = omega (arith, turn-joins j n l m u good well paid-weight e e-is (sym asked ∙ h) .2, next-small j good l well)
 
-          whole : andThen (endedBy answer m') goes ≡ runFrom j n l₀ m₀ u₀
-          whole = ap (λ o. andThen o goes) (ran ∙ fork-is) ∙ sym (fork-splits (leb 32 n) (stopped 26 m u)
-              (runFrom j (suc n) (startedOn r (take (argumentsOf (j .image) r) (drop a slots)) (childOf (p .window) e)) m (u + weightAt j l)) goes refl)
-              ∙ sym (call-runs j n p slots m u good well r d a e (asks h)) ∙ far .is
+        pub joins-again : (w : Window) → w ≡ rejoined (l .window) → k ≡ Join
+            → Far j depth m₀ l₀ u₀ m' (openAt (l .routine) (l .position + 1) 0 w slots) (u + cost)
+        joins-again w f h =
+            let x = turn-joins j n l m u good well paid-weight e e-is (sym asked ∙ h) in
+            far-on _ (rw (slots-are, f) (x .0, x .1))
 
-          -- it ended by a number
-          pub call-stops : (x u' : ℕ) → answer ≡ Stopped x u' → endedBy (Stopped x u') m' ≡ runFrom j n l₀ m₀ u₀
-          call-stops x u' s = rw s at whole
+        pub stops-run : (x : ℕ) → k ≡ Stop x → stopped x m' u ≡ runFrom j n l₀ m₀ u₀
+        stops-run x h = rw memory-is (turn-stops j n l m u good well paid-weight e e-is x (sym asked ∙ h) ∙ far .is)
 
-          module _ (v u' : ℕ) (s : answer ≡ Finished v u') where
-            pub call-units : (u + c .cost ≤ u') × (u' ≤ j .allowance) × (length m' ≡ length m)
-            call-units = between-done {v = v} {m = m'} (subst (Between (u + c .cost) (j .allowance) (length m)) (sym ran ∙ ap (λ z. endedBy z m') s)
-                (fork-bounded j (leb 32 n) (suc n) child m u (c .cost) (rw cost-is call-paid)))
+        pub returns-run : (v : ℕ) → k ≡ Return v → done v m' (u + cost) ≡ runFrom j n l₀ m₀ u₀
+        returns-run v h = rw (memory-is, cost-is) (turn-returns j n l m u good well paid-weight e e-is v (sym asked ∙ h) ∙ far .is)
 
-            pub call-again : (p' : Place) (slots' : List ℕ) → slots' ≡ set slots d v → p' ≡ placeBehind d e (c .next) p → length m' ≡ length m
-                → Far j depth m₀ l₀ u₀ m' p' slots' u'
-            call-again p' slots' f g same = rw (f, g, is) (record {
-              ready = record {
-                job = good;
-                routine = calls .parent v;
-                memory = same ∙ far .ready .memory;
-                paid = call-units .1;
-                some = far .ready .some;
-                most = far .ready .most;
-              };
-              is = rw s at whole;
-            })
+        -- a child runs first
+        module _ (c r d a : ℕ) (h : k ≡ Call c r d a) where
+          called : (runFrom j n l m u ≡ forkCalled j (runFrom j) n l r d a c m u) × Calls j n l m u c r d a e
+          called = turn-calls j n l m u good well paid-weight e e-is c r d a (sym asked ∙ h)
+
+          same-slots : slots ≡ l .slots
+          same-slots = slots-are ∙ called .1 .slots
+
+          same-memory : m' ≡ m
+          same-memory = memory-is ∙ called .1 .memory
+
+          pub call-ready : ForkReady j slots (l .window) c r a m' u cost depth
+          call-ready = record {
+            job = good;
+            routine = rw same-slots (called .1 .child);
+            sixteen = ap length same-slots ∙ well .slots;
+            arguments = called .1 .asks .arguments;
+            cut = called .1 .asks .high;
+            memory = same-length;
+            paid = paid-units;
+            some = far .ready .some;
+            most = far .ready .most;
+          }
+
+          pub call-slot : d < 16
+          call-slot = called .1 .asks .result
+
+          pub call-cut : c ≤ l .window .hi
+          call-cut = called .1 .asks .high
+
+          pub call-fits : l .position + 5 < 65536
+          call-fits = omega (arith, called .1 .five, next-small j good l well)
+
+          module _ (answer : SerialAnswer) (m'' : List ℕ)
+              (ran : endedBy answer m'' ≡ forkOf j n (childFrom (j .image) slots (l .window) c r a) m' u cost) where
+            abbrev onward : ℕ → List ℕ → ℕ → Ended
+            onward v x y = runFrom j n (withSlot d v (goesOn j (forked d c l))) x y
+
+            abbrev child : Routine
+            child = childFrom (j .image) (l .slots) (l .window) c r a
+
+            ran-here : endedBy answer m'' ≡ forkOf j n child m u (weightAt j l)
+            ran-here = rw (same-slots, same-memory, cost-is) at ran
+
+            whole : andThen (endedBy answer m'') onward ≡ runFrom j n l₀ m₀ u₀
+            whole = ap (λ o. andThen o onward) ran-here
+                ∙ sym (fork-splits (leb 32 n) (stopped 26 m u) (runFrom j (suc n) child m (u + weightAt j l)) onward refl)
+                ∙ sym (called .0) ∙ far .is
+
+            -- it ended by a number
+            pub call-stops : (x u' : ℕ) → answer ≡ Stopped x u' → endedBy (Stopped x u') m'' ≡ runFrom j n l₀ m₀ u₀
+            call-stops x u' s = rw s at whole
+
+            module _ (v u' : ℕ) (s : answer ≡ Finished v u') where
+              pub call-units : (u + cost ≤ u') × (u' ≤ j .allowance) × (length m'' ≡ 992)
+              call-units =
+                  let x = between-done {v = v} {m = m''} (subst (Between (u + weightAt j l) (j .allowance) (length m))
+                  (sym ran-here ∙ ap (λ z. endedBy z m'') s)
+                  (fork-bounded j (leb 32 n) (suc n) child m u (weightAt j l) (rw cost-is at paid-units))) in
+                  (omega (arith, x .0, cost-is), x .1, x .2 ∙ far .ready .memory)
+
+              pub call-again : (q : ℕ) (w : Window) (slots' : List ℕ) → q ≡ withPending (l .pending) d → w ≡ restOf (l .window) c → slots' ≡ set slots d v
+                  → Far j depth m₀ l₀ u₀ m'' (openAt (l .routine) (l .position + 5) q w slots') u'
+              call-again q w slots' f g i =
+                  let next : l .position + 5 ≡ nextOf j l = omega (arith, called .1 .five) in
+                  rw (f, g, i, same-slots, next) (record {
+                    ready = record {
+                      job = good;
+                      routine = called .1 .parent v;
+                      memory = call-units .2;
+                      paid = call-units .1;
+                      some = far .ready .some;
+                      most = far .ready .most;
+                    };
+                    is = rw s at whole;
+                  })

@@ -1,175 +1,203 @@
--- One turn of the loop over a routine's commands, by what the command asks of the run: the run goes on from where the code goes on, or ends
--- as the code ends. `Far` is what holds at the head of the loop. Assumes nothing.
-use mathlib.Core.Bool.{Bool, true, false, cond}
+-- One turn of the loop over a routine's commands, by what the command's effect leaves to the run: the run goes on from where the code goes
+-- on, or ends as the code ends. Assumes nothing.
+use mathlib.Core.Bool.{cond}
 use mathlib.Core.List.{List}
-use mathlib.Core.Path.{_≡_, refl, sym, _∙_, ap}
-use Prim.Native.Nat.{ℕ, suc, _+_, _-_, _≤_, _<_}
+use mathlib.Core.Path.{_≡_, refl, sym, _∙_, ap, subst}
+use Prim.Native.Nat.{ℕ, _+_, _-_, _≤_, _<_}
 use native.Mathlib.Omega.{arith}
-use borrow.Author.Tests.{ltb-true, ltb-false, lt-ltb, le-ltb}
-use lib.Dec.{ltb, leb}
-use lib.ListN.{length, set, length-set}
-use Rattle.image.specs.Layout.{argumentsOf}
-use Rattle.window.specs.Rights.{childOf}
+use borrow.Author.Tests.{lt-ltb, le-ltb}
+use Rattle.command.specs.Command.{widthOf}
+use Rattle.window.specs.Rights.{childOf, rejoined}
 use Rattle.thread.specs.declared.Effect.{Effect}
 use Rattle.thread.specs.declared.Effect.the-variants.{Faults, Sets, Loads, Stores, Goes, Continues, Lforks, Forks, Joins, Suspends, Yields, Returns}
-use Rattle.thread.specs.Job.{Job, GoodJob}
+use Rattle.thread.specs.Job.{Job, GoodJob, byteAt}
 use Rattle.serial.specs.declared.Routine.{Routine}
-use Rattle.serial.specs.declared.Place.{Place}
-use Rattle.serial.specs.declared.Met.{Met}
 use Rattle.serial.specs.declared.Ask.{Ask}
-use Rattle.serial.specs.declared.Ask.the-variants.{GoOn, Call, End}
-use Rattle.serial.specs.declared.SerialAnswer.{SerialAnswer}
-use Rattle.serial.specs.declared.SerialAnswer.the-variants.{Finished, Stopped}
-use Rattle.serial.specs.Serial.{Ended, done, stopped, andThen, endedBy, withSlot, goesOn, forked, startedOn, argumentsFrom, weightAt, effectAt, forkCalled, carried, runFrom}
-use Rattle.serial.specs.Steps.{routineAt, placeOf, metAt, askedOf, askAt, slotsAfter, memoryAfter, placeAfter, placeBehind, GoodRoutine, InReach, Ready, ForkReady, forkOf}
-use Rattle.serial.proofs.CommandMet.{Next, next-met, reach-met, met, ForkMet, KnownHere, nextOf, weighs, routine-few, next-small}
-use Rattle.serial.proofs.Unrolled.{Between, between, between-done, unrolled}
+use Rattle.serial.specs.declared.Ask.the-variants.{GoOn, Join, Call, Stop, Return}
+use Rattle.serial.specs.Serial.{Ended, done, stopped, withSlot, goesOn, forked, startedOn, argumentsFrom, weightAt, effectAt, forkCalled, carried, runFrom}
+use Rattle.serial.specs.Steps.{openAt, askedOf, slotsAfter, memoryAfter, GoodRoutine}
+use Rattle.serial.proofs.CommandMet.{Next, next-met, met, ForkMet, KnownHere, width-met}
+use Rattle.serial.proofs.Unrolled.{unrolled}
+use Rattle.serial.proofs.Widths.{Widened}
 
 -- a number for each case, by which two are told apart
 kind : Ask → ℕ
-kind GoOn = 0
-kind (Call r d a e) = 1
-kind (End x) = 2
+kind (GoOn p) = 0
+kind Join = 1
+kind (Call c r d a) = 2
+kind (Stop x) = 3
+kind (Return v) = 4
 
 unlike : {A : Type 0} (x y : Ask) → x ≡ y → (kind x ≡ kind y → ⊥) → A
 unlike x y e f = absurd (f (ap kind e))
 
--- the command is paid for, unless the run ends
-pub paid-goes : (a u : ℕ) (c : Met) → askAt a u c ≡ GoOn → (c .cost ≤ a - u) × (askedOf (c .effect) u (c .cost) ≡ GoOn)
-unfolding askAt kind
-paid-goes a u c h = go (ltb (a - u) (c .cost)) refl h
-  where
-    go : (b : Bool) → ltb (a - u) (c .cost) ≡ b → cond b (End (Stopped 22 u)) (askedOf (c .effect) u (c .cost)) ≡ GoOn
-        → (c .cost ≤ a - u) × (askedOf (c .effect) u (c .cost) ≡ GoOn)
-    go true e f = unlike _ _ f (λ z. omega arith)
-    go false e f = (ltb-false (a - u) (c .cost) e, f)
+same-go : (p q : ℕ) → GoOn p ≡ GoOn q → p ≡ q
+same-go p q h = cc
 
-pub paid-calls : (a u : ℕ) (c : Met) (r d x e : ℕ) → askAt a u c ≡ Call r d x e → (c .cost ≤ a - u) × (askedOf (c .effect) u (c .cost) ≡ Call r d x e)
-unfolding askAt kind
-paid-calls a u c r d x e h = go (ltb (a - u) (c .cost)) refl h
-  where
-    go : (b : Bool) → ltb (a - u) (c .cost) ≡ b → cond b (End (Stopped 22 u)) (askedOf (c .effect) u (c .cost)) ≡ Call r d x e
-        → (c .cost ≤ a - u) × (askedOf (c .effect) u (c .cost) ≡ Call r d x e)
-    go true e f = unlike _ _ f (λ z. omega arith)
-    go false e f = (ltb-false (a - u) (c .cost) e, f)
+same-call : (c r d a c' r' d' a' : ℕ) → Call c r d a ≡ Call c' r' d' a' → (c ≡ c') × (r ≡ r') × (d ≡ d') × (a ≡ a')
+same-call c r d a c' r' d' a' h = (cc, cc, cc, cc)
 
-same-end : (x y : SerialAnswer) → End x ≡ End y → x ≡ y
-same-end x y h = cc
+same-stop : (x y : ℕ) → Stop x ≡ Stop y → x ≡ y
+same-stop x y h = cc
 
-same-call : (r d a e r' d' a' e' : ℕ) → Call r d a e ≡ Call r' d' a' e' → (r ≡ r') × (d ≡ d') × (a ≡ a') × (e ≡ e')
-same-call r d a e r' d' a' e' h = (cc, cc, cc, cc)
+same-return : (x y : ℕ) → Return x ≡ Return y → x ≡ y
+same-return x y h = cc
 
-module _ (j : Job) (n : ℕ) (p : Place) (slots m : List ℕ) (u : ℕ) where
-  abbrev l : Routine
-  l = routineAt p slots
+-- the position that the code goes on at is the one behind the command
+behind : (p i width next : ℕ) → GoOn (p + i) ≡ GoOn next → width ≡ i → next ≡ p + width
+behind p i width next h e = sym (same-go (p + i) next h) ∙ ap (λ z. p + z) (sym e)
 
-  -- the routine behind a command by which it goes on
-  abbrev pub onwards : Effect → Routine
-  onwards e = routineAt (placeAfter e (nextOf j l) p) (slotsAfter (j .parameters) m slots e)
+module _ (j : Job) (n : ℕ) (l : Routine) (m : List ℕ) (u : ℕ) where
+  abbrev width : ℕ
+  width = widthOf (byteAt j (l .routine) (l .position))
 
-  goes-carried : (e : Effect) → askedOf e u (weightAt j l) ≡ GoOn
-      → carried j (runFrom j) n l m u e ≡ runFrom j n (onwards e) (memoryAfter m e) (u + weightAt j l)
-  unfolding askedOf carried placeAfter slotsAfter memoryAfter kind
-  goes-carried (Faults x) h = unlike _ _ h (λ z. omega arith)
-  goes-carried (Sets d v) h = refl
-  goes-carried (Loads d a) h = refl
-  goes-carried (Stores a v) h = refl
-  goes-carried (Goes t) h = refl
-  goes-carried Continues h = refl
-  goes-carried (Lforks r d a e) h = unlike _ _ h (λ z. omega arith)
-  goes-carried (Forks r d a e) h = unlike _ _ h (λ z. omega arith)
-  goes-carried Joins h = refl
-  goes-carried Suspends h = refl
-  goes-carried Yields h = refl
-  goes-carried (Returns v) h = unlike _ _ h (λ z. omega arith)
+  abbrev after : Effect → List ℕ
+  after e = slotsAfter (j .parameters) m (l .slots) e
 
-  goes-good : (e : Effect) → askedOf e u (weightAt j l) ≡ GoOn → Next j l e → GoodRoutine j (onwards e)
-  unfolding askedOf placeAfter slotsAfter kind
-  goes-good (Faults x) h g = unlike _ _ h (λ z. omega arith)
-  goes-good (Sets d v) h g = g
-  goes-good (Loads d a) h g = g _
-  goes-good (Stores a v) h g = g
-  goes-good (Goes t) h g = g
-  goes-good Continues h g = g
-  goes-good (Lforks r d a e) h g = unlike _ _ h (λ z. omega arith)
-  goes-good (Forks r d a e) h g = unlike _ _ h (λ z. omega arith)
-  goes-good Joins h g = g
-  goes-good Suspends h g = g
-  goes-good Yields h g = g
-  goes-good (Returns v) h g = unlike _ _ h (λ z. omega arith)
+  -- the run goes on from a good routine
+  pub record Leads (e : Effect) (l' : Routine) : Type 0 where
+    pub is : carried j (runFrom j) n l m u e ≡ runFrom j n l' (memoryAfter m e) (u + weightAt j l)
+    pub good : GoodRoutine j l'
 
-  ends-carried : (e : Effect) (x : SerialAnswer) → askedOf e u (weightAt j l) ≡ End x → carried j (runFrom j) n l m u e ≡ endedBy x m
-  unfolding askedOf carried kind
-  ends-carried (Faults y) x h = ap (λ z. endedBy z m) (same-end (Stopped y u) x h)
-  ends-carried (Sets d v) x h = unlike _ _ h (λ z. omega arith)
-  ends-carried (Loads d a) x h = unlike _ _ h (λ z. omega arith)
-  ends-carried (Stores a v) x h = unlike _ _ h (λ z. omega arith)
-  ends-carried (Goes t) x h = unlike _ _ h (λ z. omega arith)
-  ends-carried Continues x h = unlike _ _ h (λ z. omega arith)
-  ends-carried (Lforks r d a e) x h = unlike _ _ h (λ z. omega arith)
-  ends-carried (Forks r d a e) x h = unlike _ _ h (λ z. omega arith)
-  ends-carried Joins x h = unlike _ _ h (λ z. omega arith)
-  ends-carried Suspends x h = unlike _ _ h (λ z. omega arith)
-  ends-carried Yields x h = unlike _ _ h (λ z. omega arith)
-  ends-carried (Returns v) x h = ap (λ z. endedBy z m) (same-end (Finished v (u + weightAt j l)) x h)
+  pub goes : (e : Effect) (next : ℕ) → askedOf e (l .position) ≡ GoOn next → Widened width e → Next j l e
+      → Leads e (openAt (l .routine) next (l .pending) (l .window) (after e))
+  unfolding askedOf carried slotsAfter memoryAfter kind
+  goes (Faults x) next h k g = unlike _ _ h (λ z. omega arith)
+  goes (Sets d v) next h k g = rw (behind (l .position) 4 width next h (k .is)) (record { is = refl; good = g })
+  goes (Loads d a) next h k g = rw (behind (l .position) 3 width next h (k .is)) (record { is = refl; good = g _ })
+  goes (Stores a v) next h k g = rw (behind (l .position) 3 width next h (k .is)) (record { is = refl; good = g })
+  goes (Goes t) next h k g = rw (sym (same-go t next h)) (record { is = refl; good = g })
+  goes Continues next h k g = rw (behind (l .position) 4 width next h (k .is)) (record { is = refl; good = g })
+  goes (Lforks r d a e) next h k g = unlike _ _ h (λ z. omega arith)
+  goes (Forks r d a e) next h k g = unlike _ _ h (λ z. omega arith)
+  goes Joins next h k g = unlike _ _ h (λ z. omega arith)
+  goes Suspends next h k g = rw (behind (l .position) 1 width next h (k .is)) (record { is = refl; good = g })
+  goes Yields next h k g = rw (behind (l .position) 1 width next h (k .is)) (record { is = refl; good = g })
+  goes (Returns v) next h k g = unlike _ _ h (λ z. omega arith)
 
-  -- what a fork leads to: the run's equation, what it asks for, and good routines
-  pub record Calls (r d a c : ℕ) (e : Effect) : Type 0 where
+  pub joins : (e : Effect) → askedOf e (l .position) ≡ Join → Widened width e → Next j l e
+      → (width ≡ 1) × (Leads e (openAt (l .routine) (l .position + width) 0 (rejoined (l .window)) (after e)))
+  unfolding askedOf carried slotsAfter memoryAfter kind
+  joins (Faults x) h k g = unlike _ _ h (λ z. omega arith)
+  joins (Sets d v) h k g = unlike _ _ h (λ z. omega arith)
+  joins (Loads d a) h k g = unlike _ _ h (λ z. omega arith)
+  joins (Stores a v) h k g = unlike _ _ h (λ z. omega arith)
+  joins (Goes t) h k g = unlike _ _ h (λ z. omega arith)
+  joins Continues h k g = unlike _ _ h (λ z. omega arith)
+  joins (Lforks r d a e) h k g = unlike _ _ h (λ z. omega arith)
+  joins (Forks r d a e) h k g = unlike _ _ h (λ z. omega arith)
+  joins Joins h k g = (k .is, record { is = refl; good = g })
+  joins Suspends h k g = unlike _ _ h (λ z. omega arith)
+  joins Yields h k g = unlike _ _ h (λ z. omega arith)
+  joins (Returns v) h k g = unlike _ _ h (λ z. omega arith)
+
+  pub stops : (e : Effect) (x : ℕ) → askedOf e (l .position) ≡ Stop x → carried j (runFrom j) n l m u e ≡ stopped x (memoryAfter m e) u
+  unfolding askedOf carried memoryAfter kind
+  stops (Faults y) x h = ap (λ z. stopped z m u) (same-stop y x h)
+  stops (Sets d v) x h = unlike _ _ h (λ z. omega arith)
+  stops (Loads d a) x h = unlike _ _ h (λ z. omega arith)
+  stops (Stores a v) x h = unlike _ _ h (λ z. omega arith)
+  stops (Goes t) x h = unlike _ _ h (λ z. omega arith)
+  stops Continues x h = unlike _ _ h (λ z. omega arith)
+  stops (Lforks r d a e) x h = unlike _ _ h (λ z. omega arith)
+  stops (Forks r d a e) x h = unlike _ _ h (λ z. omega arith)
+  stops Joins x h = unlike _ _ h (λ z. omega arith)
+  stops Suspends x h = unlike _ _ h (λ z. omega arith)
+  stops Yields x h = unlike _ _ h (λ z. omega arith)
+  stops (Returns v) x h = unlike _ _ h (λ z. omega arith)
+
+  pub returns : (e : Effect) (v : ℕ) → askedOf e (l .position) ≡ Return v
+      → carried j (runFrom j) n l m u e ≡ done v (memoryAfter m e) (u + weightAt j l)
+  unfolding askedOf carried memoryAfter kind
+  returns (Faults y) v h = unlike _ _ h (λ z. omega arith)
+  returns (Sets d x) v h = unlike _ _ h (λ z. omega arith)
+  returns (Loads d a) v h = unlike _ _ h (λ z. omega arith)
+  returns (Stores a x) v h = unlike _ _ h (λ z. omega arith)
+  returns (Goes t) v h = unlike _ _ h (λ z. omega arith)
+  returns Continues v h = unlike _ _ h (λ z. omega arith)
+  returns (Lforks r d a e) v h = unlike _ _ h (λ z. omega arith)
+  returns (Forks r d a e) v h = unlike _ _ h (λ z. omega arith)
+  returns Joins v h = unlike _ _ h (λ z. omega arith)
+  returns Suspends v h = unlike _ _ h (λ z. omega arith)
+  returns Yields v h = unlike _ _ h (λ z. omega arith)
+  returns (Returns x) v h = ap (λ z. done z m (u + weightAt j l)) (same-return x v h)
+
+  -- what a fork leads to: the run's equation, what it asks for, and good routines; slots and memory are as they were
+  pub record Calls (c r d a : ℕ) (e : Effect) : Type 0 where
     pub is : carried j (runFrom j) n l m u e ≡ forkCalled j (runFrom j) n l r d a c m u
-    pub asks : ForkMet (j .image) (p .window) r d a c
-    pub child : GoodRoutine j (startedOn r (argumentsFrom j l r a) (childOf (p .window) c))
+    pub asks : ForkMet (j .image) (l .window) r d a c
+    pub child : GoodRoutine j (startedOn r (argumentsFrom j l r a) (childOf (l .window) c))
     pub parent : (v : ℕ) → GoodRoutine j (withSlot d v (goesOn j (forked d c l)))
+    pub five : width ≡ 5
+    pub slots : after e ≡ l .slots
+    pub memory : memoryAfter m e ≡ m
 
-  by-fork : (e : Effect) (r' d' a' c' r d a c : ℕ) → (r' ≡ r) × (d' ≡ d) × (a' ≡ a) × (c' ≡ c)
-      → carried j (runFrom j) n l m u e ≡ forkCalled j (runFrom j) n l r' d' a' c' m u
-      → ForkMet (j .image) (p .window) r' d' a' c' → GoodRoutine j (startedOn r' (argumentsFrom j l r' a') (childOf (p .window) c'))
-      → ((v : ℕ) → GoodRoutine j (withSlot d' v (goesOn j (forked d' c' l)))) → Calls r d a c e
-  by-fork e r' d' a' c' r d a c q is asks child parent = rw (← q .0, ← q .1, ← q .2, ← q .3)
-      (record { is = is; asks = asks; child = child; parent = parent })
+  by-fork : (e : Effect) (c' r' d' a' c r d a : ℕ) → (c' ≡ c) × (r' ≡ r) × (d' ≡ d) × (a' ≡ a) → Calls c' r' d' a' e → Calls c r d a e
+  by-fork e c' r' d' a' c r d a q x = rw (← q .0, ← q .1, ← q .2, ← q .3) x
 
   module _ (good : GoodJob j) (g : GoodRoutine j l) where
-    calls-carried : (e : Effect) (r d a c : ℕ) → askedOf e u (weightAt j l) ≡ Call r d a c → KnownHere j good l g e → Next j l e → Calls r d a c e
-    unfolding askedOf carried kind
-    calls-carried (Faults y) r d a c h k x = unlike _ _ h (λ z. omega arith)
-    calls-carried (Sets i v) r d a c h k x = unlike _ _ h (λ z. omega arith)
-    calls-carried (Loads i b) r d a c h k x = unlike _ _ h (λ z. omega arith)
-    calls-carried (Stores b v) r d a c h k x = unlike _ _ h (λ z. omega arith)
-    calls-carried (Goes t) r d a c h k x = unlike _ _ h (λ z. omega arith)
-    calls-carried Continues r d a c h k x = unlike _ _ h (λ z. omega arith)
-    calls-carried (Lforks r' d' a' c') r d a c h k x = by-fork (Lforks r' d' a' c') r' d' a' c' r d a c (same-call _ _ _ _ _ _ _ _ h) refl (k .onward .0) (x .0) (x .1)
-    calls-carried (Forks r' d' a' c') r d a c h k x = by-fork (Forks r' d' a' c') r' d' a' c' r d a c (same-call _ _ _ _ _ _ _ _ h) refl (k .onward .0) (x .0) (x .1)
-    calls-carried Joins r d a c h k x = unlike _ _ h (λ z. omega arith)
-    calls-carried Suspends r d a c h k x = unlike _ _ h (λ z. omega arith)
-    calls-carried Yields r d a c h k x = unlike _ _ h (λ z. omega arith)
-    calls-carried (Returns v) r d a c h k x = unlike _ _ h (λ z. omega arith)
+    calls : (e : Effect) (c r d a : ℕ) → askedOf e (l .position) ≡ Call c r d a → Widened width e → KnownHere j good l g e → Next j l e
+        → Calls c r d a e
+    unfolding askedOf carried slotsAfter memoryAfter kind
+    calls (Faults y) c r d a h w k x = unlike _ _ h (λ z. omega arith)
+    calls (Sets i v) c r d a h w k x = unlike _ _ h (λ z. omega arith)
+    calls (Loads i b) c r d a h w k x = unlike _ _ h (λ z. omega arith)
+    calls (Stores b v) c r d a h w k x = unlike _ _ h (λ z. omega arith)
+    calls (Goes t) c r d a h w k x = unlike _ _ h (λ z. omega arith)
+    calls Continues c r d a h w k x = unlike _ _ h (λ z. omega arith)
+    calls (Lforks r' d' a' c') c r d a h w k x = by-fork (Lforks r' d' a' c') c' r' d' a' c r d a (same-call _ _ _ _ _ _ _ _ h)
+        (record { is = refl; asks = k .onward .0; child = x .0; parent = x .1; five = w .is; slots = refl; memory = refl })
+    calls (Forks r' d' a' c') c r d a h w k x = by-fork (Forks r' d' a' c') c' r' d' a' c r d a (same-call _ _ _ _ _ _ _ _ h)
+        (record { is = refl; asks = k .onward .0; child = x .0; parent = x .1; five = w .is; slots = refl; memory = refl })
+    calls Joins c r d a h w k x = unlike _ _ h (λ z. omega arith)
+    calls Suspends c r d a h w k x = unlike _ _ h (λ z. omega arith)
+    calls Yields c r d a h w k x = unlike _ _ h (λ z. omega arith)
+    calls (Returns v) c r d a h w k x = unlike _ _ h (λ z. omega arith)
 
-    -- the run, by what the command asks
-    after-test : weightAt j l ≤ j .allowance - u → runFrom j n l m u ≡ carried j (runFrom j) n l m u (effectAt j l)
-    after-test h = unrolled j good n l m u g ∙ ap (λ b. cond b (stopped 22 m u) (carried j (runFrom j) n l m u (effectAt j l)))
-        (le-ltb (j .allowance - u) (weightAt j l) h)
+    -- the run where the command is not paid for, and where it is
+    pub turn-22 : j .allowance - u < weightAt j l → stopped 22 m u ≡ runFrom j n l m u
+    turn-22 h = sym (unrolled j good n l m u g ∙ ap (λ b. cond b (stopped 22 m u) (carried j (runFrom j) n l m u (effectAt j l)))
+        (lt-ltb (j .allowance - u) (weightAt j l) h))
 
-    pub turn-ends : (x : SerialAnswer) → askAt (j .allowance) u (metAt j l) ≡ End x → endedBy x m ≡ runFrom j n l m u
-    unfolding askAt
-    turn-ends x h = go (ltb (j .allowance - u) (weightAt j l)) refl h
-      where
-        go : (b : Bool) → ltb (j .allowance - u) (weightAt j l) ≡ b
-            → cond b (End (Stopped 22 u)) (askedOf (effectAt j l) u (weightAt j l)) ≡ End x → endedBy x m ≡ runFrom j n l m u
-        go true e f = ap (λ z. endedBy z m) (sym (same-end (Stopped 22 u) x f))
-            ∙ sym (unrolled j good n l m u g ∙ ap (λ b. cond b (stopped 22 m u) (carried j (runFrom j) n l m u (effectAt j l))) e)
-        go false e f = sym (after-test (ltb-false (j .allowance - u) (weightAt j l) e) ∙ ends-carried (effectAt j l) x f)
+    module _ (h : weightAt j l ≤ j .allowance - u) where
+      after-test : runFrom j n l m u ≡ carried j (runFrom j) n l m u (effectAt j l)
+      after-test = unrolled j good n l m u g ∙ ap (λ b. cond b (stopped 22 m u) (carried j (runFrom j) n l m u (effectAt j l)))
+          (le-ltb (j .allowance - u) (weightAt j l) h)
 
-    pub turn-goes : askAt (j .allowance) u (metAt j l) ≡ GoOn
-        → runFrom j n (onwards (effectAt j l)) (memoryAfter m (effectAt j l)) (u + weightAt j l) ≡ runFrom j n l m u
-    turn-goes h = let q = paid-goes (j .allowance) u (metAt j l) h in sym (after-test (q .0) ∙ goes-carried (effectAt j l) (q .1))
+      module _ (e : Effect) (is : e ≡ effectAt j l) where
+        turned : runFrom j n l m u ≡ carried j (runFrom j) n l m u e
+        turned = after-test ∙ ap (carried j (runFrom j) n l m u) (sym is)
 
-    pub turn-good : askAt (j .allowance) u (metAt j l) ≡ GoOn → GoodRoutine j (onwards (effectAt j l))
-    turn-good h = goes-good (effectAt j l) (paid-goes (j .allowance) u (metAt j l) h .1) (next-met j good l g)
+        known : KnownHere j good l g e
+        known = rw is (met j good l g)
 
-    pub turn-calls : (r d a c : ℕ) → askAt (j .allowance) u (metAt j l) ≡ Call r d a c → Calls r d a c (effectAt j l)
-    turn-calls r d a c h =
-        calls-carried (effectAt j l) r d a c (paid-calls (j .allowance) u (metAt j l) r d a c h .1) (met j good l g) (next-met j good l g)
+        next : Next j l e
+        next = rw is (next-met j good l g)
 
-    -- the run where a fork was met
-    pub call-runs : (r d a c : ℕ) → askAt (j .allowance) u (metAt j l) ≡ Call r d a c
-        → runFrom j n l m u ≡ forkCalled j (runFrom j) n l r d a c m u
-    call-runs r d a c h = after-test (paid-calls (j .allowance) u (metAt j l) r d a c h .0) ∙ turn-calls r d a c h .is
+        pub wide-here : Widened width e
+        wide-here = rw is (width-met j good l g)
+
+        -- the run, by what the effect leaves to it
+        pub turn-goes : (p : ℕ) → askedOf e (l .position) ≡ GoOn p
+            → (runFrom j n (openAt (l .routine) p (l .pending) (l .window) (after e)) (memoryAfter m e) (u + weightAt j l) ≡ runFrom j n l m u)
+            × GoodRoutine j (openAt (l .routine) p (l .pending) (l .window) (after e))
+        turn-goes p q = let x = goes e p q wide-here next in (sym (turned ∙ x .is), x .good)
+
+        pub turn-joins : askedOf e (l .position) ≡ Join
+            → (runFrom j n (openAt (l .routine) (l .position + 1) 0 (rejoined (l .window)) (after e)) (memoryAfter m e) (u + weightAt j l) ≡ runFrom j n l m u)
+            × GoodRoutine j (openAt (l .routine) (l .position + 1) 0 (rejoined (l .window)) (after e)) × (width ≡ 1)
+        turn-joins q =
+            let x = joins e q wide-here next in
+            subst (λ i. (runFrom j n (openAt (l .routine) (l .position + i) 0 (rejoined (l .window)) (after e)) (memoryAfter m e) (u + weightAt j l) ≡ runFrom j n l m u)
+            × GoodRoutine j (openAt (l .routine) (l .position + i) 0 (rejoined (l .window)) (after e)) × (width ≡ i)) (x .0)
+            (sym (turned ∙ x .1 .is), x .1 .good, refl)
+
+        pub turn-stops : (x : ℕ) → askedOf e (l .position) ≡ Stop x → stopped x (memoryAfter m e) u ≡ runFrom j n l m u
+        turn-stops x q = sym (turned ∙ stops e x q)
+
+        pub turn-returns : (v : ℕ) → askedOf e (l .position) ≡ Return v → done v (memoryAfter m e) (u + weightAt j l) ≡ runFrom j n l m u
+        turn-returns v q = sym (turned ∙ returns e v q)
+
+        pub turn-calls : (c r d a : ℕ) → askedOf e (l .position) ≡ Call c r d a
+            → (runFrom j n l m u ≡ forkCalled j (runFrom j) n l r d a c m u) × Calls c r d a e
+        turn-calls c r d a q = let x = calls e c r d a q wide-here known next in (turned ∙ x .is, x)

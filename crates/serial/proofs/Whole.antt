@@ -16,10 +16,10 @@ use Rattle.image.specs.Image.{imageVerdict, imageAnswer, programFor, numberOf}
 use Rattle.image.proofs.Accepted.{accepted}
 use Rattle.image.proofs.Laws.{slots-most, arguments-most}
 use Rattle.image.proofs.Places.{starts-at}
+use Rattle.window.specs.declared.Window.{Window}
 use Rattle.window.specs.Rights.{rootWindow}
 use Rattle.window.proofs.Laws.{root-fits}
 use Rattle.thread.specs.Job.{Job, jobOf, GoodJob}
-use Rattle.serial.specs.declared.Routine.{Routine}
 use Rattle.serial.specs.Serial.{Ended, stopped, startedOn, byVerdict, runFrom, serialFrom, serialOf}
 use Rattle.serial.specs.Steps.{Ready}
 use Rattle.serial.proofs.CommandMet.{fresh}
@@ -74,24 +74,28 @@ module _ (image parameters arguments memory : List ℕ) (allowance : ℕ) where
       rw (h, eq-eqb (length arguments) (argumentsOf image 0) c, eq-eqb (length parameters) 32 q, eq-eqb (length memory) 992 w)
 
   module _ (h : imageVerdict image ≡ Accepted) where
-    pub few-arguments : length arguments ≡ argumentsOf image 0 → length arguments ≤ 16
+    few-arguments : length arguments ≡ argumentsOf image 0 → length arguments ≤ 16
     few-arguments c =
         let a = accepted image h in
         omega (arith, arguments-most image a 0 (omega (arith, a .some)), slots-most image a 0 (omega (arith, a .some)))
 
-    module _ (starts : List ℕ) (starts-are : starts ≡ startsIn (programOf image)) (root : Routine) (root-is : root ≡ startedOn 0 arguments rootWindow) where
+    module _ (starts : List ℕ) (starts-are : starts ≡ startsIn (programOf image)) (root : Window) (root-is : root ≡ rootWindow)
+        (c : length arguments ≡ argumentsOf image 0) where
       pub whole-ready : ((i : ℕ) → getD image i 0 < 256) → length parameters ≡ 32 → length memory ≡ 992
-          → Ready (jobOf image starts parameters allowance) root memory 0 32
-      whole-ready bytes q w = rw (starts-are, root-is) (record {
-        job = good-job image parameters allowance h bytes q;
-        routine = fresh j (good-job image parameters allowance h bytes q) 0 arguments rootWindow (omega (arith, accepted image h .some)) root-fits;
-        memory = w;
-        paid = omega arith;
-        some = omega arith;
-        most = omega arith;
-      })
+          → Ready (jobOf image starts parameters allowance) (startedOn 0 arguments root) memory 0 32 × (length arguments ≤ 16)
+      whole-ready bytes q w = (
+        rw (starts-are, root-is) (record {
+          job = good-job image parameters allowance h bytes q;
+          routine = fresh j (good-job image parameters allowance h bytes q) 0 arguments rootWindow (omega (arith, accepted image h .some)) root-fits;
+          memory = w;
+          paid = omega arith;
+          some = omega arith;
+          most = omega arith;
+        }),
+        few-arguments c,
+      )
 
-      pub whole-run : (o : Ended) → length arguments ≡ argumentsOf image 0 → length parameters ≡ 32 → length memory ≡ 992
-          → o ≡ runFrom (jobOf image starts parameters allowance) 1 root memory 0 → o ≡ serialOf j arguments memory
+      pub whole-run : (o : Ended) → length parameters ≡ 32 → length memory ≡ 992
+          → o ≡ runFrom (jobOf image starts parameters allowance) 1 (startedOn 0 arguments root) memory 0 → o ≡ serialOf j arguments memory
       unfolding serialFrom
-      whole-run o c q w e = rw (starts-are, root-is) at e ∙ sym (all-right h c q w)
+      whole-run o q w e = rw (starts-are, root-is) at e ∙ sym (all-right h c q w)

@@ -1,60 +1,60 @@
 -- What the private functions of the serial run give, part by part; and what they rely on.
-use mathlib.Core.Bool.{Bool, true, cond}
+use mathlib.Core.Bool.{true, cond}
 use mathlib.Core.List.{List, _++_}
 use mathlib.Core.Path.{_≡_}
 use Prim.Native.Nat.{ℕ, suc, _+_, _-_, _≤_, _<_}
 use lib.Dec.{ltb, leb}
 use lib.ListN.{getD, set, take, drop, length, replicate}
-use Rattle.command.specs.Command.{widthOf}
-use Rattle.image.specs.Layout.{countOf, codeOf}
+use Rattle.image.specs.Layout.{countOf, codeOf, argumentsOf}
 use Rattle.image.specs.Code.{commandsOf, isStart}
-use Rattle.window.specs.Rights.{Fits, rejoined, restOf}
+use Rattle.window.specs.declared.Window.{Window}
+use Rattle.window.specs.Rights.{Fits, childOf}
 use Rattle.thread.specs.declared.Effect.{Effect}
 use Rattle.thread.specs.declared.Effect.the-variants.{Faults, Sets, Loads, Stores, Goes, Continues, Lforks, Forks, Joins, Suspends, Yields, Returns}
-use Rattle.thread.specs.Thread.{withPending}
-use Rattle.thread.specs.Job.{Job, GoodJob, byteAt}
+use Rattle.thread.specs.Job.{Job, GoodJob}
 use Rattle.serial.specs.declared.Routine.{Routine}
-use Rattle.serial.specs.declared.Place.{Place}
-use Rattle.serial.specs.declared.Met.{Met}
 use Rattle.serial.specs.declared.Ask.{Ask}
-use Rattle.serial.specs.declared.Ask.the-variants.{GoOn, Call, End}
-use Rattle.serial.specs.declared.SerialAnswer.{SerialAnswer}
-use Rattle.serial.specs.declared.SerialAnswer.the-variants.{Finished, Stopped}
-use Rattle.serial.specs.Serial.{Ended, stopped, effectAt, weightAt, runFrom}
+use Rattle.serial.specs.declared.Ask.the-variants.{GoOn, Join, Call, Stop, Return}
+use Rattle.serial.specs.Serial.{Ended, stopped, startedOn, runFrom}
 
--- an open routine, taken apart into its place and its slots
-abbrev pub routineAt : Place → List ℕ → Routine
-routineAt l slots = record { routine = l .routine; position = l .position; pending = l .pending; window = l .window; slots = slots }
-
-abbrev pub placeOf : Routine → Place
-placeOf l = record { routine = l .routine; position = l .position; pending = l .pending; window = l .window }
+-- an open routine of its parts, which the code holds one by one
+abbrev pub openAt : ℕ → ℕ → ℕ → Window → List ℕ → Routine
+openAt routine position pending window slots =
+    record { routine = routine; position = position; pending = pending; window = window; slots = slots }
 
 -- the slots of a new routine: its arguments, then zeros
 abbrev pub firstSlots : List ℕ → List ℕ
 firstSlots arguments = take 16 (arguments ++ replicate 16 0)
 
--- the command that a routine meets: its effect, its weight and the position behind it
-abbrev pub metAt : Job → Routine → Met
-metAt j l = record { effect = effectAt j l; cost = weightAt j l; next = l .position + widthOf (byteAt j (l .routine) (l .position)) }
+-- the number of bytes of a command with such an effect, where the routine goes on behind it
+abbrev pub bytesBy : Effect → ℕ
+bytesBy (Faults x) = 0
+bytesBy (Sets d v) = 4
+bytesBy (Loads d a) = 3
+bytesBy (Stores a v) = 3
+bytesBy (Goes t) = 0
+bytesBy Continues = 4
+bytesBy (Lforks r d a e) = 5
+bytesBy (Forks r d a e) = 5
+bytesBy Joins = 1
+bytesBy Suspends = 1
+bytesBy Yields = 1
+bytesBy (Returns v) = 0
 
--- what an effect asks of the run
-unfoldable pub askedOf : Effect → ℕ → ℕ → Ask
-askedOf (Faults x) u w = End (Stopped x u)
-askedOf (Sets d v) u w = GoOn
-askedOf (Loads d a) u w = GoOn
-askedOf (Stores a v) u w = GoOn
-askedOf (Goes t) u w = GoOn
-askedOf Continues u w = GoOn
-askedOf (Lforks r d a e) u w = Call r d a e
-askedOf (Forks r d a e) u w = Call r d a e
-askedOf Joins u w = GoOn
-askedOf Suspends u w = GoOn
-askedOf Yields u w = GoOn
-askedOf (Returns v) u w = End (Finished v (u + w))
-
--- what the command asks of the run, 22 first
-unfoldable pub askAt : ℕ → ℕ → Met → Ask
-askAt allowance u c = cond (ltb (allowance - u) (c .cost)) (End (Stopped 22 u)) (askedOf (c .effect) u (c .cost))
+-- what an effect at a position leaves to the run
+unfoldable pub askedOf : Effect → ℕ → Ask
+askedOf (Faults x) p = Stop x
+askedOf (Sets d v) p = GoOn (p + 4)
+askedOf (Loads d a) p = GoOn (p + 3)
+askedOf (Stores a v) p = GoOn (p + 3)
+askedOf (Goes t) p = GoOn t
+askedOf Continues p = GoOn (p + 4)
+askedOf (Lforks r d a e) p = Call e r d a
+askedOf (Forks r d a e) p = Call e r d a
+askedOf Joins p = Join
+askedOf Suspends p = GoOn (p + 1)
+askedOf Yields p = GoOn (p + 1)
+askedOf (Returns v) p = Return v
 
 -- the word at an address
 abbrev pub wordIn : List ℕ → List ℕ → ℕ → ℕ
@@ -90,28 +90,6 @@ memoryAfter m Suspends = m
 memoryAfter m Yields = m
 memoryAfter m (Returns v) = m
 
-abbrev pub placeTo : ℕ → Place → Place
-placeTo p l = record { routine = l .routine; position = p; pending = l .pending; window = l .window }
-
--- the place behind it, `next` being the position behind the command
-unfoldable pub placeAfter : Effect → ℕ → Place → Place
-placeAfter (Faults x) next l = placeTo next l
-placeAfter (Sets d v) next l = placeTo next l
-placeAfter (Loads d a) next l = placeTo next l
-placeAfter (Stores a v) next l = placeTo next l
-placeAfter (Goes t) next l = placeTo t l
-placeAfter Continues next l = placeTo next l
-placeAfter (Lforks r d a e) next l = placeTo next l
-placeAfter (Forks r d a e) next l = placeTo next l
-placeAfter Joins next l = record { routine = l .routine; position = next; pending = 0; window = rejoined (l .window) }
-placeAfter Suspends next l = placeTo next l
-placeAfter Yields next l = placeTo next l
-placeAfter (Returns v) next l = placeTo next l
-
--- the place behind a fork by slot d with the cut e
-abbrev pub placeBehind : ℕ → ℕ → ℕ → Place → Place
-placeBehind d e next l = record { routine = l .routine; position = next; pending = withPending (l .pending) d; window = restOf (l .window) e }
-
 -- an open routine of a good job: a command starts at its position, it has 16 slots, and its window lies in memory
 pub record GoodRoutine (j : Job) (l : Routine) : Type 0 where
   pub routine : l .routine < countOf (j .image)
@@ -143,10 +121,17 @@ pub record Ready (j : Job) (l : Routine) (m : List ℕ) (units depth : ℕ) : Ty
   pub some : 1 ≤ depth
   pub most : depth ≤ 32
 
--- what carrying out a fork relies on: the child is good, and the fork's weight is paid for
-pub record ForkReady (j : Job) (child : Routine) (m : List ℕ) (units cost depth : ℕ) : Type 0 where
+-- a child, as a fork of routine r by the cut e starts it: on its arguments, the parent's slots from a on, in its part of the parent's window
+abbrev pub childFrom : List ℕ → List ℕ → Window → ℕ → ℕ → ℕ → Routine
+childFrom image slots w e r a = startedOn r (take (argumentsOf image r) (drop a slots)) (childOf w e)
+
+-- what carrying out a fork relies on: the child is good, its arguments and its cut are there, and the fork's weight is paid for
+pub record ForkReady (j : Job) (slots : List ℕ) (w : Window) (e r a : ℕ) (m : List ℕ) (units cost depth : ℕ) : Type 0 where
   pub job : GoodJob j
-  pub routine : GoodRoutine j child
+  pub routine : GoodRoutine j (childFrom (j .image) slots w e r a)
+  pub sixteen : length slots ≡ 16
+  pub arguments : a + argumentsOf (j .image) r ≤ 16
+  pub cut : e ≤ w .hi
   pub memory : length m ≡ 992
   pub paid : units + cost ≤ j .allowance
   pub some : 1 ≤ depth

@@ -3,19 +3,23 @@
 mod act;
 mod frame;
 
-use crate::act::after;
-use crate::act::asked;
-use crate::act::behind_fork;
 use crate::act::carry_out;
-use crate::act::meet;
+use crate::act::code_start;
+use crate::act::cost_of;
+use crate::act::wide;
 use crate::frame::arguments_of;
-use crate::frame::child_of;
-use crate::frame::place_of;
+use crate::frame::child_window;
+use crate::frame::lay;
 use crate::frame::put;
-use crate::frame::root_of;
+use crate::frame::rest_window;
+use crate::frame::wide_byte;
+use command::command_of;
+use command::five_at;
+use command::weights;
 use image::Refusal;
 use image::Verdict;
-use thread::Effect;
+use thread::effects::effect;
+use thread::pending::with_pending;
 use window::Window;
 ghost use mathlib.Core.Path.{_≡_};
 ghost use Prim.Native.Nat.{_+_, _-_, _≤_};
@@ -23,10 +27,10 @@ ghost use lib.ListN.{length};
 ghost use Rattle.image.specs.Layout.{programOf, startsIn};
 ghost use Rattle.image.specs.Image.{numberOf};
 ghost use Rattle.thread.specs.Job.{jobOf, GoodJob};
-ghost use Rattle.serial.specs.Serial.{endedBy, runFrom, serialOf, stopped};
-ghost use Rattle.serial.specs.Steps.{Ready, ForkReady, forkOf};
+ghost use Rattle.serial.specs.Serial.{endedBy, startedOn, runFrom, serialOf, stopped};
+ghost use Rattle.serial.specs.Steps.{Ready, ForkReady, childFrom, forkOf};
 
-// An open routine.
+// An open routine, as the definition of the run has it. The code holds its parts.
 pub struct Routine {
     pub routine: u8,
     pub position: u16,
@@ -42,100 +46,114 @@ pub enum SerialAnswer {
     Stopped(u8, u32),
 }
 
-// An open routine without its slots.
-struct Place {
-    routine: u8,
-    position: u16,
-    pending: u16,
-    window: Window,
-}
-
-// The command that a routine meets: its effect, its weight and the position behind it.
-struct Met {
-    effect: Effect,
-    cost: u32,
-    next: u16,
-}
-
-// What a command asks of the run.
+// What an effect leaves to the run once its slot or its word is written.
 enum Ask {
-    // the routine goes on by itself
-    GoOn,
-    // a child runs first: routine, result slot, first argument's slot, cut
-    Call(u8, u8, u8, u32),
-    // the routine ends
-    End(SerialAnswer),
+    // the routine goes on at a position
+    GoOn(u16),
+    // the routine goes on behind a join
+    Join,
+    // a child runs first: cut, routine, result slot, first argument's slot
+    Call(u32, u8, u8, u8),
+    // the run ends by a number
+    Stop(u8),
+    // the routine ends with a value
+    Return(u32),
 }
 
-// Carries out a fork: the child runs to its end. `depth` routines may be open from the parent on, itself included.
+// Carries out a fork: the child starts on its arguments, the parent's slots from a on, in the parent's window up to the cut e, and runs to
+// its end. `depth` routines may be open from the parent on, itself included.
 fn carry_fork(
     image: &[u8],
     starts: &[u16; 32],
     parameters: &[u32],
     memory: &mut [u32],
-    child: Routine,
+    slots: &[u32],
+    window: Window,
+    e: u32,
+    r: u8,
+    a: u8,
     allowance: u32,
     units: u32,
     cost: u32,
     depth: u8,
 ) -> SerialAnswer
-    requires { ⌜ ForkReady (jobOf (now image) (now starts) (now parameters) allowance) child (now memory) units cost depth ⌝ }
-    ensures { λ r. ⌜ endedBy r (now (memory .exit)) ≡ forkOf (jobOf (now (image .entry)) (now (starts .entry)) (now (parameters .entry)) allowance) (33 - depth) child (now (memory .entry)) units cost ⌝ }
+    requires { ⌜ ForkReady (jobOf (now image) (now starts) (now parameters) allowance) (now slots) window e r a (now memory) units cost depth ⌝ }
+    ensures { λ o. ⌜ endedBy o (now (memory .exit)) ≡ forkOf (jobOf (now (image .entry)) (now (starts .entry)) (now (parameters .entry)) allowance) (33 - depth) (childFrom (now (image .entry)) (now (slots .entry)) window e r a) (now (memory .entry)) units cost ⌝ }
 {
     if depth <= 1 {
         return SerialAnswer::Stopped(26, units);
     }
+    let from = a as usize;
+    let end = from + wide_byte(arguments_of(image, r));
     let so_far = units + cost;
     run_routine(
         image,
         starts,
         parameters,
         memory,
-        child,
+        r,
+        &slots[from..end],
+        child_window(window, e),
         allowance,
         so_far,
         depth - 1,
     )
 }
 
-// Runs a routine's commands until it returns or a test is met. `depth` routines may be open from it on, itself included.
+// Runs a routine's commands from its start until it returns or a test is met. `depth` routines may be open from it on, itself included.
 fn run_routine(
     image: &[u8],
     starts: &[u16; 32],
     parameters: &[u32],
     memory: &mut [u32],
-    start: Routine,
+    routine: u8,
+    arguments: &[u32],
+    start: Window,
     allowance: u32,
     before: u32,
     depth: u8,
 ) -> SerialAnswer
-    requires { ⌜ Ready (jobOf (now image) (now starts) (now parameters) allowance) start (now memory) before depth ⌝ }
-    ensures { λ r. ⌜ endedBy r (now (memory .exit)) ≡ runFrom (jobOf (now (image .entry)) (now (starts .entry)) (now (parameters .entry)) allowance) (33 - depth) start (now (memory .entry)) before ⌝ }
+    requires { ⌜ Ready (jobOf (now image) (now starts) (now parameters) allowance) (startedOn routine (now arguments) start) (now memory) before depth × (length (now arguments) ≤ 16) ⌝ }
+    ensures { λ o. ⌜ endedBy o (now (memory .exit)) ≡ runFrom (jobOf (now (image .entry)) (now (starts .entry)) (now (parameters .entry)) allowance) (33 - depth) (startedOn routine (now (arguments .entry)) start) (now (memory .entry)) before ⌝ }
 {
-    let mut l = place_of(start);
-    let mut slots = start.slots;
+    let weights = weights();
+    let code = code_start(starts, routine);
+    let mut position: u16 = 0;
+    let mut pending: u16 = 0;
+    let mut window = start;
+    let mut slots = [0u32; 16];
+    lay(&mut slots, arguments);
     let mut units = before;
     loop {
-        let met = meet(image, starts, &slots, l);
-        let ask = asked(met, allowance, units);
-        let cost = met.cost;
-        let next = met.next;
+        let five = five_at(image, code + wide(position));
+        let cost = cost_of(&weights, five[0]);
+        if allowance - units < cost {
+            return SerialAnswer::Stopped(22, units);
+        }
+        let effect = effect(command_of(five), image, &slots, 0, pending, window);
+        let ask = carry_out(effect, &mut slots, parameters, memory, position);
         match ask {
-            Ask::GoOn => {
-                let effect = met.effect;
-                carry_out(effect, &mut slots, parameters, memory);
-                l = after(l, effect, next);
+            Ask::GoOn(next) => {
+                position = next;
                 units = units + cost;
             }
-            Ask::Call(r, d, a, e) => {
-                let n = arguments_of(image, r);
-                let child = child_of(&slots, l.window, r, a, n, e);
+            Ask::Join => {
+                position = position + 1;
+                pending = 0;
+                window = window.rejoin();
+                units = units + cost;
+            }
+            Ask::Call(e, r, d, a) => {
                 let answer = carry_fork(
                     image,
                     starts,
                     parameters,
                     memory,
-                    child,
+                    &slots,
+                    window,
+                    e,
+                    r,
+                    a,
                     allowance,
                     units,
                     cost,
@@ -144,7 +162,9 @@ fn run_routine(
                 match answer {
                     SerialAnswer::Finished(value, so_far) => {
                         put(&mut slots, d, value);
-                        l = behind_fork(l, d, e, next);
+                        position = position + 5;
+                        pending = with_pending(pending, d);
+                        window = rest_window(window, e);
                         units = so_far;
                     }
                     SerialAnswer::Stopped(number, so_far) => {
@@ -152,8 +172,11 @@ fn run_routine(
                     }
                 }
             }
-            Ask::End(answer) => {
-                return answer;
+            Ask::Stop(number) => {
+                return SerialAnswer::Stopped(number, units);
+            }
+            Ask::Return(value) => {
+                return SerialAnswer::Finished(value, units + cost);
             }
         }
     }
@@ -209,7 +232,9 @@ pub fn serial(
         &starts,
         parameters,
         memory,
-        root_of(arguments),
+        0,
+        arguments,
+        Window::root(),
         allowance,
         0,
         32,

@@ -3,7 +3,7 @@ use mathlib.Core.Path.{sym, _∙_, ap}
 use native.Mathlib.Omega.{arith}
 use Rattle.image.specs.Layout.{startsIn}
 use Rattle.serial.specs.Serial.{stopped}
-use Rattle.serial.proofs.Whole.{verdict-is, program-is, refused, wrong-count, wrong-parameters, wrong-memory, few-arguments, whole-ready, whole-run}
+use Rattle.serial.proofs.Whole.{verdict-is, program-is, refused, wrong-count, wrong-parameters, wrong-memory, whole-ready, whole-run}
 use borrow.Author.Needs.{needs}
 use Rattle.serial.proofs.serial.Statement.{statement}
 use Rattle.serial.proofs.serial.Tie as tie
@@ -41,17 +41,17 @@ returns-4 c = wrong-memory _ _ _ _ _ (sym (verdict-is _ _ (c .before .before .be
 starts-requires : tie.Need-starts-requires
 starts-requires c κs = search needs
 
-root-of-requires : tie.Need-root-of-requires
-root-of-requires c κs = few-arguments (c .before .before .before .before .before .before .before .before .before .before .before .before .before .before .before .args .image .now) (c .before .before .before .before .before .before .before .before .before .before .before .before .before .before .before .args .parameters .now) (c .before .before .before .before .before .before .before .before .before .before .before .before .before .before .before .args .arguments .now) (c .before .before .before .before .before .before .before .before .before .before .before .before .before .before .before .args .memory .now) (c .before .before .before .before .before .before .before .before .before .before .before .before .before .before .before .args .allowance) (sym (verdict-is _ _ (c .before .before .before .before .before .before .before .before .before .before .check .ensures)) ∙ c .before .before .before .before .before .before .before .before .enum-told .given .1) (c .before .before .before .before .before .before .if1 .left ∙ c .before .before .before .before .before .before .before .arguments-of .ensures)
+root-requires : tie.Need-root-requires
+root-requires c κs = search needs
 
 run-routine-requires : tie.Need-run-routine-requires
-run-routine-requires c κs = whole-ready (c .before .before .before .before .before .before .before .before .before .before .before .before .before .before .before .before .args .image .now) (c .before .before .before .before .before .before .before .before .before .before .before .before .before .before .before .before .args .parameters .now) (c .before .before .before .before .before .before .before .before .before .before .before .before .before .before .before .before .args .arguments .now) (c .before .before .before .before .before .before .before .before .before .before .before .before .before .before .before .before .args .memory .now) (c .before .before .before .before .before .before .before .before .before .before .before .before .before .before .before .before .args .allowance) (sym (verdict-is _ _ (c .before .before .before .before .before .before .before .before .before .before .before .check .ensures)) ∙ c .before .before .before .before .before .before .before .before .before .enum-told .given .1) _ (c .before .before .before .starts .ensures ∙ ap startsIn (program-is _ _ (c .before .before .before .before .before .before .before .before .before .before .before .check .ensures) (c .before .before .before .before .before .before .before .before .before .enum-told .given .1))) _ (c .root-of .ensures) (λ i. omega (arith, c .before .before .before .before .before .before .before .before .before .before .before .before .before .before .before .shared-slice-known .given i)) (c .before .before .before .before .before .before .if2 .left) (c .before .before .before .before .before .if3 .left)
+run-routine-requires c κs = whole-ready (c .before .before .before .before .before .before .before .before .before .before .before .before .before .before .before .before .args .image .now) (c .before .before .before .before .before .before .before .before .before .before .before .before .before .before .before .before .args .parameters .now) (c .before .before .before .before .before .before .before .before .before .before .before .before .before .before .before .before .args .arguments .now) (c .before .before .before .before .before .before .before .before .before .before .before .before .before .before .before .before .args .memory .now) (c .before .before .before .before .before .before .before .before .before .before .before .before .before .before .before .before .args .allowance) (sym (verdict-is _ _ (c .before .before .before .before .before .before .before .before .before .before .before .check .ensures)) ∙ c .before .before .before .before .before .before .before .before .before .enum-told .given .1) _ (c .before .before .before .starts .ensures ∙ ap startsIn (program-is _ _ (c .before .before .before .before .before .before .before .before .before .before .before .check .ensures) (c .before .before .before .before .before .before .before .before .before .enum-told .given .1))) _ (c .root .ensures) (c .before .before .before .before .before .before .before .if1 .left ∙ c .before .before .before .before .before .before .before .before .arguments-of .ensures) (λ i. omega (arith, c .before .before .before .before .before .before .before .before .before .before .before .before .before .before .before .shared-slice-known .given i)) (c .before .before .before .before .before .before .if2 .left) (c .before .before .before .before .before .if3 .left)
 
 same-length : tie.Need-same-length
 same-length c = search needs
 
 returns-5 : tie.Need-returns-5
-returns-5 c = whole-run (c .before .before .before .before .before .before .before .before .before .before .before .before .before .before .before .before .before .before .before .args .image .now) (c .before .before .before .before .before .before .before .before .before .before .before .before .before .before .before .before .before .before .before .args .parameters .now) (c .before .before .before .before .before .before .before .before .before .before .before .before .before .before .before .before .before .before .before .args .arguments .now) (c .before .before .before .before .before .before .before .before .before .before .before .before .before .before .before .before .before .before .before .args .memory .now) (c .before .before .before .before .before .before .before .before .before .before .before .before .before .before .before .before .before .before .before .args .allowance) (sym (verdict-is _ _ (c .before .before .before .before .before .before .before .before .before .before .before .before .before .before .check .ensures)) ∙ c .before .before .before .before .before .before .before .before .before .before .before .before .enum-told .given .1) _ (c .before .before .before .before .before .before .starts .ensures ∙ ap startsIn (program-is _ _ (c .before .before .before .before .before .before .before .before .before .before .before .before .before .before .check .ensures) (c .before .before .before .before .before .before .before .before .before .before .before .before .enum-told .given .1))) _ (c .before .before .before .root-of .ensures) _ (c .before .before .before .before .before .before .before .before .before .before .if1 .left ∙ c .before .before .before .before .before .before .before .before .before .before .before .arguments-of .ensures) (c .before .before .before .before .before .before .before .before .before .if2 .left) (c .before .before .before .before .before .before .before .before .if3 .left) (c .before .before .run-routine .ensures)
+returns-5 c = whole-run (c .before .before .before .before .before .before .before .before .before .before .before .before .before .before .before .before .before .before .before .args .image .now) (c .before .before .before .before .before .before .before .before .before .before .before .before .before .before .before .before .before .before .before .args .parameters .now) (c .before .before .before .before .before .before .before .before .before .before .before .before .before .before .before .before .before .before .before .args .arguments .now) (c .before .before .before .before .before .before .before .before .before .before .before .before .before .before .before .before .before .before .before .args .memory .now) (c .before .before .before .before .before .before .before .before .before .before .before .before .before .before .before .before .before .before .before .args .allowance) (sym (verdict-is _ _ (c .before .before .before .before .before .before .before .before .before .before .before .before .before .before .check .ensures)) ∙ c .before .before .before .before .before .before .before .before .before .before .before .before .enum-told .given .1) _ (c .before .before .before .before .before .before .starts .ensures ∙ ap startsIn (program-is _ _ (c .before .before .before .before .before .before .before .before .before .before .before .before .before .before .check .ensures) (c .before .before .before .before .before .before .before .before .before .before .before .before .enum-told .given .1))) _ (c .before .before .before .root .ensures) (c .before .before .before .before .before .before .before .before .before .before .if1 .left ∙ c .before .before .before .before .before .before .before .before .before .before .before .arguments-of .ensures) _ (c .before .before .before .before .before .before .before .before .before .if2 .left) (c .before .before .before .before .before .before .before .before .if3 .left) (c .before .before .run-routine .ensures)
 
 pub serial-spec : {M : Type 1} → statement M
 serial-spec =
@@ -68,7 +68,7 @@ serial-spec =
     returns-3
     returns-4
     starts-requires
-    root-of-requires
+    root-requires
     run-routine-requires
     same-length
     returns-5)

@@ -1,7 +1,7 @@
 -- `serial::act::carry_out` meets its contract. Assumes nothing.
 use mathlib.Core.Path.{refl}
 use native.Mathlib.Omega.{arith}
-use Rattle.serial.specs.Steps.{slotsAfter, memoryAfter}
+use Rattle.serial.specs.Steps.{slotsAfter, memoryAfter, askedOf}
 use borrow.Author.Needs.{needs}
 use Rattle.serial.proofs.act.carry_out.Statement.{statement}
 use Rattle.serial.proofs.act.carry_out.Tie as tie
@@ -12,6 +12,9 @@ enum-known-effect c = search needs
 put-requires : tie.Need-put-requires
 put-requires c κs = rw (c .before .before .effect .given .1) at (c .before .before .before .before .before .before .pre .2)
 
+add-t27 : tie.Need-add-t27
+add-t27 c = omega (arith, rw (c .before .before .before .effect .given .1) at (c .before .before .before .before .before .before .before .pre .3))
+
 enum-known-effect-2 : tie.Need-enum-known-effect-2
 enum-known-effect-2 c = search needs
 
@@ -20,6 +23,9 @@ word-at-requires c κs = (c .before .before .before .before .before .before .bef
 
 put-requires-2 : tie.Need-put-requires-2
 put-requires-2 c κs = (rw (c .before .before .before .before .effect2 .given .1) at (c .before .before .before .before .before .before .before .before .pre .2)) .0
+
+add-t33 : tie.Need-add-t33
+add-t33 c = omega (arith, rw (c .before .before .before .before .before .effect2 .given .1) at (c .before .before .before .before .before .before .before .before .before .pre .3))
 
 enum-known-effect-3 : tie.Need-enum-known-effect-3
 enum-known-effect-3 c = search needs
@@ -36,8 +42,23 @@ mul-memory c = search needs
 slice-write-memory : tie.Need-slice-write-memory
 slice-write-memory c = let h = rw (c .before .effect3 .given .1) at (c .before .before .before .before .before .pre .2) in omega (arith, c .before .before .before .before .before .pre .1)
 
+add-t36 : tie.Need-add-t36
+add-t36 c = omega (arith, rw (c .before .effect3 .given .1) at (c .before .before .before .before .before .pre .3))
+
+enum-known-effect-4 : tie.Need-enum-known-effect-4
+enum-known-effect-4 c = search needs
+
 enum-told : tie.Need-enum-told
 enum-told c = search needs
+
+add-t37 : tie.Need-add-t37
+add-t37 c = omega (arith, rw (c .enum-told .given .1) at (c .before .before .before .before .pre .3))
+
+enum-known-effect-5 : tie.Need-enum-known-effect-5
+enum-known-effect-5 c = search needs
+
+enum-known-effect-6 : tie.Need-enum-known-effect-6
+enum-known-effect-6 c = search needs
 
 enum-told-2 : tie.Need-enum-told-2
 enum-told-2 c = search needs
@@ -45,77 +66,74 @@ enum-told-2 c = search needs
 enum-told-3 : tie.Need-enum-told-3
 enum-told-3 c = search needs
 
+add-t38 : tie.Need-add-t38
+add-t38 c = omega (arith, rw (c .enum-told3 .given .1) at (c .before .before .before .before .pre .3))
+
 enum-told-4 : tie.Need-enum-told-4
 enum-told-4 c = search needs
 
-enum-told-5 : tie.Need-enum-told-5
-enum-told-5 c = search needs
+add-t39 : tie.Need-add-t39
+add-t39 c = omega (arith, rw (c .enum-told4 .given .1) at (c .before .before .before .before .pre .3))
 
-enum-told-6 : tie.Need-enum-told-6
-enum-told-6 c = search needs
+enum-known-effect-7 : tie.Need-enum-known-effect-7
+enum-known-effect-7 c = search needs
 
-enum-told-7 : tie.Need-enum-told-7
-enum-told-7 c = search needs
-
-enum-told-8 : tie.Need-enum-told-8
-enum-told-8 c = search needs
-
-enum-told-9 : tie.Need-enum-told-9
-enum-told-9 c = search needs
+enum-known-effect-8 : tie.Need-enum-known-effect-8
+enum-known-effect-8 c = search needs
 
 returns : tie.Need-returns
-unfolding slotsAfter memoryAfter
-returns c = rw (c .before .before .before .effect .given .1) (c .put .ensures, refl)
+unfolding slotsAfter memoryAfter askedOf
+returns c = rw (c .before .before .before .effect .given .1) (c .put .ensures, refl, refl)
 
 same-length : tie.Need-same-length
 same-length c = search needs
 
 returns-2 : tie.Need-returns-2
-unfolding slotsAfter memoryAfter
-returns-2 c = rw (c .before .before .before .before .before .effect2 .given .1) (rw (c .before .word-at .ensures) at (c .put2 .ensures), refl)
+unfolding slotsAfter memoryAfter askedOf
+returns-2 c = rw (c .before .before .before .before .before .effect2 .given .1) (rw (c .before .word-at .ensures) at (c .put2 .ensures), refl, refl)
 
 same-length-2 : tie.Need-same-length-2
 same-length-2 c = search needs
 
 returns-3 : tie.Need-returns-3
-unfolding slotsAfter memoryAfter
-returns-3 c = rw (c .before .effect3 .given .1) (refl, refl)
+unfolding slotsAfter memoryAfter askedOf
+returns-3 c = rw (c .before .effect3 .given .1) (refl, refl, refl)
 
 returns-4 : tie.Need-returns-4
-unfolding slotsAfter memoryAfter
-returns-4 c = rw (c .enum-told .given .1) (refl, refl)
+unfolding slotsAfter memoryAfter askedOf
+returns-4 c = rw (c .before .effect4 .given .1) (refl, refl, refl)
 
 returns-5 : tie.Need-returns-5
-unfolding slotsAfter memoryAfter
-returns-5 c = rw (c .enum-told2 .given .1) (refl, refl)
+unfolding slotsAfter memoryAfter askedOf
+returns-5 c = rw (c .enum-told .given .1) (refl, refl, refl)
 
 returns-6 : tie.Need-returns-6
-unfolding slotsAfter memoryAfter
-returns-6 c = rw (c .enum-told3 .given .1) (refl, refl)
+unfolding slotsAfter memoryAfter askedOf
+returns-6 c = rw (c .before .effect5 .given .1) (refl, refl, refl)
 
 returns-7 : tie.Need-returns-7
-unfolding slotsAfter memoryAfter
-returns-7 c = rw (c .enum-told4 .given .1) (refl, refl)
+unfolding slotsAfter memoryAfter askedOf
+returns-7 c = rw (c .before .effect6 .given .1) (refl, refl, refl)
 
 returns-8 : tie.Need-returns-8
-unfolding slotsAfter memoryAfter
-returns-8 c = rw (c .enum-told5 .given .1) (refl, refl)
+unfolding slotsAfter memoryAfter askedOf
+returns-8 c = rw (c .enum-told2 .given .1) (refl, refl, refl)
 
 returns-9 : tie.Need-returns-9
-unfolding slotsAfter memoryAfter
-returns-9 c = rw (c .enum-told6 .given .1) (refl, refl)
+unfolding slotsAfter memoryAfter askedOf
+returns-9 c = rw (c .enum-told3 .given .1) (refl, refl, refl)
 
 returns-10 : tie.Need-returns-10
-unfolding slotsAfter memoryAfter
-returns-10 c = rw (c .enum-told7 .given .1) (refl, refl)
+unfolding slotsAfter memoryAfter askedOf
+returns-10 c = rw (c .enum-told4 .given .1) (refl, refl, refl)
 
 returns-11 : tie.Need-returns-11
-unfolding slotsAfter memoryAfter
-returns-11 c = rw (c .enum-told8 .given .1) (refl, refl)
+unfolding slotsAfter memoryAfter askedOf
+returns-11 c = rw (c .before .effect7 .given .1) (refl, refl, refl)
 
 returns-12 : tie.Need-returns-12
-unfolding slotsAfter memoryAfter
-returns-12 c = rw (c .enum-told9 .given .1) (refl, refl)
+unfolding slotsAfter memoryAfter askedOf
+returns-12 c = rw (c .before .effect8 .given .1) (refl, refl, refl)
 
 pub carry-out-spec : {M : Type 1} → statement M
 carry-out-spec =
@@ -123,23 +141,29 @@ carry-out-spec =
     (tie.spec
     enum-known-effect
     put-requires
+    add-t27
     enum-known-effect-2
     word-at-requires
     put-requires-2
+    add-t33
     enum-known-effect-3
     cast-k
     sub-k
     mul-memory
     slice-write-memory
+    add-t36
+    enum-known-effect-4
     enum-told
+    add-t37
+    enum-known-effect-5
+    enum-known-effect-6
     enum-told-2
     enum-told-3
+    add-t38
     enum-told-4
-    enum-told-5
-    enum-told-6
-    enum-told-7
-    enum-told-8
-    enum-told-9
+    add-t39
+    enum-known-effect-7
+    enum-known-effect-8
     returns
     same-length
     returns-2
