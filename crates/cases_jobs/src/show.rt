@@ -132,7 +132,14 @@ fn by_scheduler(image: &[u8], cores: u8, arguments: &[u32], serial: [u32; 992]) 
     if 32768 < n {
         n = 0;
     }
-    by_entries(b"its entries", image, cores, arguments, &buffer[0..n], serial);
+    by_entries(
+        b"its entries",
+        image,
+        cores,
+        arguments,
+        &buffer[0..n],
+        serial,
+    );
 }
 
 pub fn all(name: &[u8], image: &[u8], arguments: &[u32]) {
