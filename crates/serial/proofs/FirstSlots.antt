@@ -1,11 +1,11 @@
 -- The first slots of a routine: each is its argument, or zero; and they are laid one after the other. Assumes nothing.
 use mathlib.Core.List.{List, _++_}
-use mathlib.Core.Path.{_≡_, refl, sym, _∙_, ap}
-use Prim.Native.Nat.{ℕ, suc, _+_, _-_, _≤_, _<_}
+use mathlib.Core.Path.{_≡_, sym, _∙_, ap}
+use Prim.Native.Nat.{ℕ, _+_, _-_, _<_}
 use native.Mathlib.Decide.{decLt, ℕ-discrete}
 use native.Mathlib.Omega.{arith}
-use lib.ListN.{getD, set, length, take, drop, replicate, length-set, length-take, length-drop, length-append, length-replicate, getD-replicate, List·getD-eq-default, List·getD-append}
-use lib.Seq.{ext-getD, getD-set-same, getD-set-other, getD-take, getD-drop, getD-append-add, take-length}
+use lib.ListN.{getD, set, length, take, replicate, length-set, length-take, getD-replicate, List·getD-eq-default, List·getD-append}
+use lib.Seq.{ext-getD, getD-set-same, getD-set-other, getD-take, getD-append-add}
 use Rattle.serial.specs.Steps.{firstSlots}
 use Rattle.serial.proofs.CommandMet.{length-first}
 
@@ -33,17 +33,3 @@ first-more xs k v h l e = ext-getD 0 _ _ (length-set (firstSlots (take k xs)) k 
     go i b (no q) (no s) = getD-set-other (firstSlots (take k xs)) k i v 0 q ∙ first-at (take k xs) i b
         ∙ List·getD-eq-default (take k xs) 0 (omega (arith, length-take k xs))
         ∙ sym (first-at (take (k + 1) xs) i b ∙ List·getD-eq-default (take (k + 1) xs) 0 (omega (arith, length-take (k + 1) xs)))
-
--- the same of words from a on
-pub first-step : (words : List ℕ) (a k : ℕ) (slots : List ℕ) → slots ≡ firstSlots (take k (drop a words)) → k < 16 → a + k < length words
-    → set slots k (getD words (a + k) 0) ≡ firstSlots (take (k + 1) (drop a words))
-first-step words a k slots e h l =
-    rw e (first-more (drop a words) k (getD words (a + k) 0) h (simp length-drop (omega arith)) (sym (getD-drop a words k 0)))
-
-pub first-all : (words : List ℕ) (a k n : ℕ) (slots : List ℕ) → slots ≡ firstSlots (take k (drop a words)) → k ≡ n
-    → slots ≡ firstSlots (take n (drop a words))
-first-all words a k n slots e q = e ∙ ap (λ i. firstSlots (take i (drop a words))) q
-
--- all words, from the first on
-pub first-whole : (words : List ℕ) → firstSlots (take (length words) (drop 0 words)) ≡ firstSlots words
-first-whole words = ap firstSlots (take-length words)

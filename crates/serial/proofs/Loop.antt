@@ -8,7 +8,7 @@ use borrow.Author.Tests.{le-leb, lt-leb}
 use lib.Dec.{leb}
 use lib.ListN.{length, getD, set, take, drop, length-set, length-take, length-drop}
 use Rattle.command.specs.Command.{decodedAt, fiveAt}
-use Rattle.command.specs.Weight.{standardWeights, weightOf}
+use Rattle.command.specs.Weight.{weightOf}
 use Rattle.image.specs.Layout.{argumentsOf}
 use Rattle.stacklets.specs.Frames.{slotOf}
 use Rattle.window.specs.declared.Window.{Window}

@@ -14,7 +14,7 @@ use Rattle.thread.specs.Job.{Job, GoodJob, byteAt}
 use Rattle.serial.specs.declared.Routine.{Routine}
 use Rattle.serial.specs.declared.Ask.{Ask}
 use Rattle.serial.specs.declared.Ask.the-variants.{GoOn, Join, Call, Stop, Return}
-use Rattle.serial.specs.Serial.{Ended, done, stopped, withSlot, goesOn, forked, startedOn, argumentsFrom, weightAt, effectAt, forkCalled, carried, runFrom}
+use Rattle.serial.specs.Serial.{done, stopped, withSlot, goesOn, forked, startedOn, argumentsFrom, weightAt, effectAt, forkCalled, carried, runFrom}
 use Rattle.serial.specs.Steps.{openAt, askedOf, slotsAfter, memoryAfter, GoodRoutine}
 use Rattle.serial.proofs.CommandMet.{Next, next-met, met, ForkMet, KnownHere, width-met}
 use Rattle.serial.proofs.Unrolled.{unrolled}

@@ -26,8 +26,8 @@ ghost use Prim.Native.Nat.{_+_, _-_, _≤_};
 ghost use lib.ListN.{length};
 ghost use Rattle.image.specs.Layout.{programOf, startsIn};
 ghost use Rattle.image.specs.Image.{numberOf};
-ghost use Rattle.thread.specs.Job.{jobOf, GoodJob};
-ghost use Rattle.serial.specs.Serial.{endedBy, startedOn, runFrom, serialOf, stopped};
+ghost use Rattle.thread.specs.Job.{jobOf};
+ghost use Rattle.serial.specs.Serial.{endedBy, startedOn, runFrom, serialOf};
 ghost use Rattle.serial.specs.Steps.{Ready, ForkReady, childFrom, forkOf};
 
 // An open routine, as the definition of the run has it. The code holds its parts.
@@ -52,7 +52,7 @@ enum Ask {
     GoOn(u16),
     // the routine goes on behind a join
     Join,
-    // a child runs first: cut, routine, result slot, first argument's slot
+    // a child runs first: cut, routine, result slot, first argument's slot; the cut first, so that no single byte lies where GoOn has its position
     Call(u32, u8, u8, u8),
     // the run ends by a number
     Stop(u8),
@@ -116,6 +116,7 @@ fn run_routine(
     requires { ⌜ Ready (jobOf (now image) (now starts) (now parameters) allowance) (startedOn routine (now arguments) start) (now memory) before depth × (length (now arguments) ≤ 16) ⌝ }
     ensures { λ o. ⌜ endedBy o (now (memory .exit)) ≡ runFrom (jobOf (now (image .entry)) (now (starts .entry)) (now (parameters .entry)) allowance) (33 - depth) (startedOn routine (now (arguments .entry)) start) (now (memory .entry)) before ⌝ }
 {
+    // held by the loop: a constant table is laid out anew where it is named
     let weights = weights();
     let code = code_start(starts, routine);
     let mut position: u16 = 0;

@@ -1,8 +1,8 @@
 -- Pending slots as bits of a mask: what the code that tests them rests on. Assumes nothing.
 use borrow.Author.Tests.{ne-eqb}
-use mathlib.Core.Bool.{Bool, true, false, _||_, not}
+use mathlib.Core.Bool.{false, _||_, not}
 use mathlib.Core.Path.{_≡_, refl, sym, _∙_, ap, subst}
-use Prim.Native.Nat.{ℕ, zero, suc, _+_, _*_, _/_, _%_, _^_, _≤_, _<_}
+use Prim.Native.Nat.{ℕ, zero, suc, _*_, _/_, _%_, _^_, _≤_, _<_}
 use native.Mathlib.Decide.{ℕ-discrete}
 use native.Mathlib.Nat.{div-eq-of-lt, div-one, mod-eq-of-lt, mod-one, one-mul, zero-div, zero-mod}
 use native.Mathlib.Numerals.{add-one}
