@@ -37,7 +37,7 @@ fn differs(what: &str, case: &Case, bytes: &[u8], peer: String, library: String)
     println!("DIFFERENCE in {what}");
     println!("cores {} allowance {} arguments {:?}", case.cores, case.allowance, case.arguments);
     println!("image {}", digits(&case.image));
-    println!("schedule or buffer {}", digits(bytes));
+    println!("schedule (its shortest front that differs) or entries written: {}", digits(bytes));
     println!("parameters {:?}\nmemory {:?}", case.parameters, case.memory);
     println!("second implementation: {peer}\nproved crates:         {library}");
     std::process::exit(1);
@@ -71,6 +71,26 @@ fn compare_serial(tally: &mut Tally, case: &Case) -> PlainAnswer {
     peer
 }
 
+/// Whether a run differs in anything that it gives.
+fn run_differs(case: &Case, schedule: &[u8], log: &[u8]) -> bool {
+    let (mut a, mut b) = (case.memory.clone(), case.memory.clone());
+    let (mut c, mut d) = (log.to_vec(), log.to_vec());
+    let peer = run(case.fed(), &mut a, schedule, &mut c);
+    peer != library::run(case.fed(), &mut b, schedule, &mut d) || a != b || c != d
+}
+
+/// The shortest front of a schedule, entry by entry, at which a run differs.
+fn shortest<'a>(case: &Case, schedule: &'a [u8], log: &[u8]) -> &'a [u8] {
+    let mut end = 0;
+    while end < schedule.len() {
+        if run_differs(case, &schedule[..end], log) {
+            return &schedule[..end];
+        }
+        end += if schedule[end] == 3 { 3 } else { 2 };
+    }
+    schedule
+}
+
 fn compare_runs(tally: &mut Tally, case: &Case, schedule: &[u8], log: &[u8], serial: PlainAnswer) -> Ran {
     let (mut a, mut b) = (case.memory.clone(), case.memory.clone());
     let (mut c, mut d) = (log.to_vec(), log.to_vec());
@@ -79,7 +99,7 @@ fn compare_runs(tally: &mut Tally, case: &Case, schedule: &[u8], log: &[u8], ser
     if peer != ours || a != b || c != d {
         let place = c.iter().zip(&d).position(|(x, y)| x != y);
         let say = format!("{ours:?}, memory equal: {}, first log byte that differs: {place:?}", a == b);
-        differs("a run", case, schedule, format!("{peer:?}"), say);
+        differs("a run", case, shortest(case, schedule, log), format!("{peer:?}"), say);
     }
     tally.runs += 1;
     match peer.answer {
