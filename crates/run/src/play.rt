@@ -4,6 +4,7 @@ use machine::Machine;
 use machine::OwnStep;
 use machine::own::own_step;
 use machine::own::stepping;
+use reader::read_at;
 use schedule::EntryRead;
 use thread::record::joined_at;
 ghost use mathlib.Core.Path.{_≡_};
@@ -29,7 +30,7 @@ pub fn play(
     let mut at: usize = 0;
     let mut number: usize = 0;
     loop {
-        let found = schedule::read(schedule, at);
+        let found = read_at(schedule, at);
         match found {
             EntryRead::Found(entry, next) => {
                 let line = number;

@@ -25,8 +25,8 @@ abbrev μ-loop : tie.MeasureT-loop
 loop-holds : tie.Need-loop-holds Inv-loop μ-loop
 loop-holds c = (refl, refl, refl, begins _ _ _ _ (c .before .before .before .before .before .before .before .pre))
 
-read-requires : tie.Need-read-requires Inv-loop μ-loop
-read-requires c κs = search needs
+read-at-requires : tie.Need-read-at-requires Inv-loop μ-loop
+read-at-requires c κs = search needs
 
 enum-known-found : tie.Need-enum-known-found Inv-loop μ-loop
 enum-known-found c = search needs
@@ -34,7 +34,7 @@ enum-known-found c = search needs
 add-number : tie.Need-add-number Inv-loop μ-loop
 add-number c =
     let inv = c .before .before .before .before .loop .inv in
-    let r = has-room _ _ _ _ _ _ _ _ (inv .3) _ _ (sym (c .before .before .before .read .ensures) ∙ c .before .found .given .1) in
+    let r = has-room _ _ _ _ _ _ _ _ (inv .3) _ _ (sym (c .before .before .before .read-at .ensures) ∙ c .before .found .given .1) in
     omega (arith, r, c .before .before .before .before .before .before .before .before .before .before .before .before .good .1 .1 .0)
 
 stepping-requires : tie.Need-stepping-requires Inv-loop μ-loop
@@ -64,18 +64,18 @@ way-write-given-m c = search needs
 slice-write-log : tie.Need-slice-write-log Inv-loop μ-loop
 slice-write-log c =
     let inv = c .before .before .before .before .before .before .before .before .before .before .before .before .before .before .before .before .before .before .before .loop .inv in
-    let r = has-room _ _ _ _ _ _ _ _ (inv .3) _ _ (sym (c .before .before .before .before .before .before .before .before .before .before .before .before .before .before .before .before .before .before .read .ensures) ∙ c .before .before .before .before .before .before .before .before .before .before .before .before .before .before .before .before .found .given .1) in
+    let r = has-room _ _ _ _ _ _ _ _ (inv .3) _ _ (sym (c .before .before .before .before .before .before .before .before .before .before .before .before .before .before .before .before .before .before .read-at .ensures) ∙ c .before .before .before .before .before .before .before .before .before .before .before .before .before .before .before .before .found .given .1) in
     omega (arith, r, inv .0)
 
 loop-less : tie.Need-loop-less Inv-loop μ-loop
 loop-less c =
-    let f = found _ _ _ _ (sym (c .before .before .before .before .before .before .before .before .before .before .before .before .before .before .before .before .before .before .read .ensures) ∙ c .before .before .before .before .before .before .before .before .before .before .before .before .before .before .before .before .found .given .1) in
+    let f = found _ _ _ _ (sym (c .before .before .before .before .before .before .before .before .before .before .before .before .before .before .before .before .before .before .read-at .ensures) ∙ c .before .before .before .before .before .before .before .before .before .before .before .before .before .before .before .before .found .given .1) in
     omega (arith, f .wide, f .within)
 
 loop-again : tie.Need-loop-again Inv-loop μ-loop
 loop-again c =
     let inv = c .before .before .before .before .before .before .before .before .before .before .before .before .before .before .before .before .before .before .before .loop .inv in
-    let left = own-goes _ _ _ _ _ _ _ _ _ _ _ _ _ (inv .3) _ _ (sym (c .before .before .before .before .before .before .before .before .before .before .before .before .before .before .before .before .before .before .read .ensures) ∙ c .before .before .before .before .before .before .before .before .before .before .before .before .before .before .before .before .found .given .1) _ (c .before .before .before .before .before .before .before .before .before .before .before .before .before .stepping .ensures) (c .before .before .before .before .before .before .before .before .before .before .before .before .if1 .taken) (Moved _ _) _ _ (rw (c .before .before .own .given .1) at (c .before .before .before .before .before .before .before .before .own-step .ensures)) in
+    let left = own-goes _ _ _ _ _ _ _ _ _ _ _ _ _ (inv .3) _ _ (sym (c .before .before .before .before .before .before .before .before .before .before .before .before .before .before .before .before .before .before .read-at .ensures) ∙ c .before .before .before .before .before .before .before .before .before .before .before .before .before .before .before .before .found .given .1) _ (c .before .before .before .before .before .before .before .before .before .before .before .before .before .stepping .ensures) (c .before .before .before .before .before .before .before .before .before .before .before .before .if1 .taken) (Moved _ _) _ _ (rw (c .before .before .own .given .1) at (c .before .before .before .before .before .before .before .before .own-step .ensures)) in
     (rw length-set (inv .0), c .before .before .before .before .before .before .before .before .own-step .kept .1 .1 .1 .1 .1 .0 ∙ inv .1, c .before .before .before .before .before .before .before .before .own-step .kept .1 .1 .1 .1 .1 .1 .0 ∙ inv .2, left)
 
 enum-known-own-2 : tie.Need-enum-known-own-2 Inv-loop μ-loop
@@ -93,18 +93,18 @@ element-set-from-m c = search needs
 slice-write-log-2 : tie.Need-slice-write-log-2 Inv-loop μ-loop
 slice-write-log-2 c =
     let inv = c .before .before .before .before .before .before .before .before .before .before .before .before .before .before .before .before .before .before .before .loop .inv in
-    let r = has-room _ _ _ _ _ _ _ _ (inv .3) _ _ (sym (c .before .before .before .before .before .before .before .before .before .before .before .before .before .before .before .before .before .before .read .ensures) ∙ c .before .before .before .before .before .before .before .before .before .before .before .before .before .before .before .before .found .given .1) in
+    let r = has-room _ _ _ _ _ _ _ _ (inv .3) _ _ (sym (c .before .before .before .before .before .before .before .before .before .before .before .before .before .before .before .before .before .before .read-at .ensures) ∙ c .before .before .before .before .before .before .before .before .before .before .before .before .before .before .before .before .found .given .1) in
     omega (arith, r, inv .0)
 
 loop-less-2 : tie.Need-loop-less-2 Inv-loop μ-loop
 loop-less-2 c =
-    let f = found _ _ _ _ (sym (c .before .before .before .before .before .before .before .before .before .before .before .before .before .before .before .before .before .before .read .ensures) ∙ c .before .before .before .before .before .before .before .before .before .before .before .before .before .before .before .before .found .given .1) in
+    let f = found _ _ _ _ (sym (c .before .before .before .before .before .before .before .before .before .before .before .before .before .before .before .before .before .before .read-at .ensures) ∙ c .before .before .before .before .before .before .before .before .before .before .before .before .before .before .before .before .found .given .1) in
     omega (arith, f .wide, f .within)
 
 loop-again-2 : tie.Need-loop-again-2 Inv-loop μ-loop
 loop-again-2 c =
     let inv = c .before .before .before .before .before .before .before .before .before .before .before .before .before .before .before .before .before .before .before .loop .inv in
-    let left = own-goes _ _ _ _ _ _ _ _ _ _ _ _ _ (inv .3) _ _ (sym (c .before .before .before .before .before .before .before .before .before .before .before .before .before .before .before .before .before .before .read .ensures) ∙ c .before .before .before .before .before .before .before .before .before .before .before .before .before .before .before .before .found .given .1) _ (c .before .before .before .before .before .before .before .before .before .before .before .before .before .stepping .ensures) (c .before .before .before .before .before .before .before .before .before .before .before .before .if1 .taken) (Joined _ _) _ _ (rw (c .before .before .own2 .given .1) at (c .before .before .before .before .before .before .before .before .own-step .ensures)) in
+    let left = own-goes _ _ _ _ _ _ _ _ _ _ _ _ _ (inv .3) _ _ (sym (c .before .before .before .before .before .before .before .before .before .before .before .before .before .before .before .before .before .before .read-at .ensures) ∙ c .before .before .before .before .before .before .before .before .before .before .before .before .before .before .before .before .found .given .1) _ (c .before .before .before .before .before .before .before .before .before .before .before .before .before .stepping .ensures) (c .before .before .before .before .before .before .before .before .before .before .before .before .if1 .taken) (Joined _ _) _ _ (rw (c .before .before .own2 .given .1) at (c .before .before .before .before .before .before .before .before .own-step .ensures)) in
     (rw length-set (inv .0), c .before .before .before .before .before .before .before .before .own-step .kept .1 .1 .1 .1 .1 .0 ∙ inv .1, c .before .before .before .before .before .before .before .before .own-step .kept .1 .1 .1 .1 .1 .1 .0 ∙ inv .2, rw (c .joined-at .ensures) left)
 
 enum-told : tie.Need-enum-told Inv-loop μ-loop
@@ -115,7 +115,7 @@ entry-requires c κs =
     let inv = c .before .before .before .before .before .before .before .before .before .loop .inv in
     let same : (c .before .before .if1 .words ≡ c .before .before .before .before .before .before .before .before .before .loop .words) × (c .before .before .if1 .memory ≡ c .before .before .before .before .before .before .before .before .before .loop .memory) =
     ⊎-elim
-    (λ x. let o = own-goes _ _ _ _ _ _ _ _ _ _ _ _ _ (inv .3) _ _ (sym (c .before .before .before .before .before .before .before .before .read .ensures) ∙ c .before .before .before .before .before .before .found .given .1) _ (c .before .before .before .stepping .ensures) (x .0 .taken) Other _ _ (rw (x .10 .given .1) at (x .4 .ensures)) in (x .11 ∙ o .0, x .12 ∙ o .1))
+    (λ x. let o = own-goes _ _ _ _ _ _ _ _ _ _ _ _ _ (inv .3) _ _ (sym (c .before .before .before .before .before .before .before .before .read-at .ensures) ∙ c .before .before .before .before .before .before .found .given .1) _ (c .before .before .before .stepping .ensures) (x .0 .taken) Other _ _ (rw (x .10 .given .1) at (x .4 .ensures)) in (x .11 ∙ o .0, x .12 ∙ o .1))
     (λ x. (x .1, x .2))
     (c .before .before .if1 .came)
     in
@@ -124,12 +124,12 @@ entry-requires c κs =
 slice-write-log-3 : tie.Need-slice-write-log-3 Inv-loop μ-loop
 slice-write-log-3 c =
     let inv = c .before .before .before .before .before .before .before .before .before .before .before .before .before .before .loop .inv in
-    let r = has-room _ _ _ _ _ _ _ _ (inv .3) _ _ (sym (c .before .before .before .before .before .before .before .before .before .before .before .before .before .read .ensures) ∙ c .before .before .before .before .before .before .before .before .before .before .before .found .given .1) in
+    let r = has-room _ _ _ _ _ _ _ _ (inv .3) _ _ (sym (c .before .before .before .before .before .before .before .before .before .before .before .before .before .read-at .ensures) ∙ c .before .before .before .before .before .before .before .before .before .before .before .found .given .1) in
     omega (arith, r, inv .0)
 
 loop-less-3 : tie.Need-loop-less-3 Inv-loop μ-loop
 loop-less-3 c =
-    let f = found _ _ _ _ (sym (c .before .before .before .before .before .before .before .before .before .before .before .before .before .read .ensures) ∙ c .before .before .before .before .before .before .before .before .before .before .before .found .given .1) in
+    let f = found _ _ _ _ (sym (c .before .before .before .before .before .before .before .before .before .before .before .before .before .read-at .ensures) ∙ c .before .before .before .before .before .before .before .before .before .before .before .found .given .1) in
     omega (arith, f .wide, f .within)
 
 loop-again-3 : tie.Need-loop-again-3 Inv-loop μ-loop
@@ -138,14 +138,14 @@ loop-again-3 c =
     let inv = c .before .before .before .before .before .before .before .before .before .before .before .before .before .before .loop .inv in
     let same : (c .before .before .before .before .before .before .before .if1 .words ≡ c .before .before .before .before .before .before .before .before .before .before .before .before .before .before .loop .words) × (c .before .before .before .before .before .before .before .if1 .memory ≡ c .before .before .before .before .before .before .before .before .before .before .before .before .before .before .loop .memory) =
     ⊎-elim
-    (λ x. let o = own-goes _ _ _ _ _ _ _ _ _ _ _ _ _ (inv .3) _ _ (sym (c .before .before .before .before .before .before .before .before .before .before .before .before .before .read .ensures) ∙ c .before .before .before .before .before .before .before .before .before .before .before .found .given .1) _ (c .before .before .before .before .before .before .before .before .stepping .ensures) (x .0 .taken) Other _ _ (rw (x .10 .given .1) at (x .4 .ensures)) in (x .11 ∙ o .0, x .12 ∙ o .1))
+    (λ x. let o = own-goes _ _ _ _ _ _ _ _ _ _ _ _ _ (inv .3) _ _ (sym (c .before .before .before .before .before .before .before .before .before .before .before .before .before .read-at .ensures) ∙ c .before .before .before .before .before .before .before .before .before .before .before .found .given .1) _ (c .before .before .before .before .before .before .before .before .stepping .ensures) (x .0 .taken) Other _ _ (rw (x .10 .given .1) at (x .4 .ensures)) in (x .11 ∙ o .0, x .12 ∙ o .1))
     (λ x. (x .1, x .2))
     (c .before .before .before .before .before .before .before .if1 .came)
     in (
       rw length-set (inv .0),
       c .before .before .before .before .entry .kept .1 .1 .1 .1 .1 .0 ∙ ap length (same .0) ∙ inv .1,
       c .before .before .before .before .entry .kept .1 .1 .1 .1 .1 .1 .0 ∙ ap length (same .1) ∙ inv .2,
-      goes _ _ _ _ _ _ _ _ (inv .3) _ _ _ (sym (c .before .before .before .before .before .before .before .before .before .before .before .before .before .read .ensures) ∙ c .before .before .before .before .before .before .before .before .before .before .before .found .given .1) (rw (same .0, same .1) at (c .before .before .before .before .entry .ensures)),
+      goes _ _ _ _ _ _ _ _ (inv .3) _ _ _ (sym (c .before .before .before .before .before .before .before .before .before .before .before .before .before .read-at .ensures) ∙ c .before .before .before .before .before .before .before .before .before .before .before .found .given .1) (rw (same .0, same .1) at (c .before .before .before .before .entry .ensures)),
     )
 
 enum-told-2 : tie.Need-enum-told-2 Inv-loop μ-loop
@@ -161,7 +161,7 @@ same-length-3 : tie.Need-same-length-3 Inv-loop μ-loop
 same-length-3 c = search needs
 
 returns : tie.Need-returns Inv-loop μ-loop
-returns c = ends _ _ _ _ _ _ _ _ (c .before .before .before .loop .inv .3) (sym (c .before .before .read .ensures) ∙ c .enum-told2 .given .1)
+returns c = ends _ _ _ _ _ _ _ _ (c .before .before .before .loop .inv .3) (sym (c .before .before .read-at .ensures) ∙ c .enum-told2 .given .1)
 
 enum-told-3 : tie.Need-enum-told-3 Inv-loop μ-loop
 enum-told-3 c = search needs
@@ -176,7 +176,7 @@ same-length-6 : tie.Need-same-length-6 Inv-loop μ-loop
 same-length-6 c = search needs
 
 returns-2 : tie.Need-returns-2 Inv-loop μ-loop
-returns-2 c = absurd (read-malformed _ _ _ (c .before .before .before .loop .inv .3 .here) (sym (c .before .before .read .ensures) ∙ c .enum-told3 .given .1))
+returns-2 c = absurd (read-malformed _ _ _ (c .before .before .before .loop .inv .3 .here) (sym (c .before .before .read-at .ensures) ∙ c .enum-told3 .given .1))
 
 pub play-spec : {M : Type 1} → statement M
 play-spec =
@@ -185,7 +185,7 @@ play-spec =
     Inv-loop
     μ-loop
     loop-holds
-    read-requires
+    read-at-requires
     enum-known-found
     add-number
     stepping-requires
