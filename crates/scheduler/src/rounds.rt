@@ -3,8 +3,11 @@ use crate::search::idle_choice;
 use crate::search::is_nothing;
 use crate::search::lowest_suspended;
 use machine::Machine;
+use machine::OwnStep;
+use machine::own::own_step;
 use schedule::Entry;
 use schedule::Written;
+use thread::record::joined_at;
 ghost use mathlib.Core.Bool.{_&&_, _||_};
 ghost use mathlib.Core.Path.{_≡_};
 ghost use Prim.Native.Nat.{_+_, _≤_};
@@ -113,8 +116,44 @@ pub fn play_rounds(
                     used: at,
                 };
             }
+            let t = m.cores[c as usize];
             let mut entry = Entry::Step(c);
-            if 32 <= m.cores[c as usize] {
+            if t < 32 {
+                let k = t as usize;
+                let th = m.threads[k];
+                let own = own_step(
+                    th,
+                    m.units,
+                    image,
+                    starts,
+                    parameters,
+                    words,
+                    memory,
+                    allowance,
+                );
+                // where it has changed its own thread alone, that thread moves on in place
+                match own {
+                    OwnStep::Moved(position, units) => {
+                        m.threads[k].position = position;
+                        m.units = units;
+                        m.log = 0;
+                        at = keep(entry, 0, buffer, at);
+                        moved = true;
+                        c = c + 1;
+                        continue;
+                    }
+                    OwnStep::Joined(position, units) => {
+                        m.threads[k] = joined_at(th, position);
+                        m.units = units;
+                        m.log = 0;
+                        at = keep(entry, 0, buffer, at);
+                        moved = true;
+                        c = c + 1;
+                        continue;
+                    }
+                    OwnStep::Other => {}
+                }
+            } else {
                 entry = idle_choice(m, c, image, starts);
                 if is_nothing(entry) {
                     c = c + 1;
