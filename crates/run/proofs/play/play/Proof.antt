@@ -33,9 +33,11 @@ enum-known-found c = search needs
 
 add-number : tie.Need-add-number Inv-loop μ-loop
 add-number c =
-    let inv = c .before .before .before .before .loop .inv in
-    let r = has-room _ _ _ _ _ _ _ _ (inv .3) _ _ (sym (c .before .before .before .read-at .ensures) ∙ c .before .found .given .1) in
-    omega (arith, r, c .before .before .before .before .before .before .before .before .before .before .before .before .good .1 .1 .0)
+    let f = c .before in
+    let l = f .before .before .before in
+    let inv = l .loop .inv in
+    let is = sym (f .before .before .read-at .ensures) ∙ f .found .given .1 in
+    omega (arith, has-room _ _ _ _ _ _ _ _ (inv .3) _ _ is, l .before .before .before .before .before .before .before .before .good .1 .1 .0)
 
 stepping-requires : tie.Need-stepping-requires Inv-loop μ-loop
 stepping-requires c κs = search needs
@@ -63,20 +65,28 @@ way-write-given-m c = search needs
 
 slice-write-log : tie.Need-slice-write-log Inv-loop μ-loop
 slice-write-log c =
-    let inv = c .before .before .before .before .before .before .before .before .before .before .before .before .before .before .before .before .before .before .before .loop .inv in
-    let r = has-room _ _ _ _ _ _ _ _ (inv .3) _ _ (sym (c .before .before .before .before .before .before .before .before .before .before .before .before .before .before .before .before .before .before .read-at .ensures) ∙ c .before .before .before .before .before .before .before .before .before .before .before .before .before .before .before .before .found .given .1) in
-    omega (arith, r, inv .0)
+    let f = c .before .before .before .before .before .before .before .before .before .before .before .before .before .before .before .before in
+    let l = f .before .before .before in
+    let inv = l .loop .inv in
+    let is = sym (f .before .before .read-at .ensures) ∙ f .found .given .1 in
+    omega (arith, has-room _ _ _ _ _ _ _ _ (inv .3) _ _ is, inv .0)
 
 loop-less : tie.Need-loop-less Inv-loop μ-loop
 loop-less c =
-    let f = found _ _ _ _ (sym (c .before .before .before .before .before .before .before .before .before .before .before .before .before .before .before .before .before .before .read-at .ensures) ∙ c .before .before .before .before .before .before .before .before .before .before .before .before .before .before .before .before .found .given .1) in
-    omega (arith, f .wide, f .within)
+    let f = c .before .before .before .before .before .before .before .before .before .before .before .before .before .before .before .before in
+    let is = found _ _ _ _ (sym (f .before .before .read-at .ensures) ∙ f .found .given .1) in
+    omega (arith, is .wide, is .within)
 
 loop-again : tie.Need-loop-again Inv-loop μ-loop
 loop-again c =
-    let inv = c .before .before .before .before .before .before .before .before .before .before .before .before .before .before .before .before .before .before .before .loop .inv in
-    let left = own-goes _ _ _ _ _ _ _ _ _ _ _ _ _ (inv .3) _ _ (sym (c .before .before .before .before .before .before .before .before .before .before .before .before .before .before .before .before .before .before .read-at .ensures) ∙ c .before .before .before .before .before .before .before .before .before .before .before .before .before .before .before .before .found .given .1) _ (c .before .before .before .before .before .before .before .before .before .before .before .before .before .stepping .ensures) (c .before .before .before .before .before .before .before .before .before .before .before .before .if1 .taken) (Moved _ _) _ _ (rw (c .before .before .own .given .1) at (c .before .before .before .before .before .before .before .before .own-step .ensures)) in
-    (rw length-set (inv .0), c .before .before .before .before .before .before .before .before .own-step .kept .1 .1 .1 .1 .1 .0 ∙ inv .1, c .before .before .before .before .before .before .before .before .own-step .kept .1 .1 .1 .1 .1 .1 .0 ∙ inv .2, left)
+    let o = c .before .before .before .before .before .before .before .before in
+    let s = o .before .before .before .before .before in
+    let f = s .before .before .before in
+    let inv = f .before .before .before .loop .inv in
+    let is = sym (f .before .before .read-at .ensures) ∙ f .found .given .1 in
+    let kept = o .own-step .kept .1 .1 .1 .1 .1 in
+    let left = own-goes _ _ _ _ _ _ _ _ _ _ _ _ _ (inv .3) _ _ is _ (s .stepping .ensures) (o .before .before .before .before .if1 .taken) (Moved _ _) _ _ (rw (c .before .before .own .given .1) at (o .own-step .ensures)) in
+    (rw length-set (inv .0), kept .0 ∙ inv .1, kept .1 .0 ∙ inv .2, left)
 
 enum-known-own-2 : tie.Need-enum-known-own-2 Inv-loop μ-loop
 enum-known-own-2 c = search needs
@@ -92,60 +102,83 @@ element-set-from-m c = search needs
 
 slice-write-log-2 : tie.Need-slice-write-log-2 Inv-loop μ-loop
 slice-write-log-2 c =
-    let inv = c .before .before .before .before .before .before .before .before .before .before .before .before .before .before .before .before .before .before .before .loop .inv in
-    let r = has-room _ _ _ _ _ _ _ _ (inv .3) _ _ (sym (c .before .before .before .before .before .before .before .before .before .before .before .before .before .before .before .before .before .before .read-at .ensures) ∙ c .before .before .before .before .before .before .before .before .before .before .before .before .before .before .before .before .found .given .1) in
-    omega (arith, r, inv .0)
+    let f = c .before .before .before .before .before .before .before .before .before .before .before .before .before .before .before .before in
+    let l = f .before .before .before in
+    let inv = l .loop .inv in
+    let is = sym (f .before .before .read-at .ensures) ∙ f .found .given .1 in
+    omega (arith, has-room _ _ _ _ _ _ _ _ (inv .3) _ _ is, inv .0)
 
 loop-less-2 : tie.Need-loop-less-2 Inv-loop μ-loop
 loop-less-2 c =
-    let f = found _ _ _ _ (sym (c .before .before .before .before .before .before .before .before .before .before .before .before .before .before .before .before .before .before .read-at .ensures) ∙ c .before .before .before .before .before .before .before .before .before .before .before .before .before .before .before .before .found .given .1) in
-    omega (arith, f .wide, f .within)
+    let f = c .before .before .before .before .before .before .before .before .before .before .before .before .before .before .before .before in
+    let is = found _ _ _ _ (sym (f .before .before .read-at .ensures) ∙ f .found .given .1) in
+    omega (arith, is .wide, is .within)
 
 loop-again-2 : tie.Need-loop-again-2 Inv-loop μ-loop
 loop-again-2 c =
-    let inv = c .before .before .before .before .before .before .before .before .before .before .before .before .before .before .before .before .before .before .before .loop .inv in
-    let left = own-goes _ _ _ _ _ _ _ _ _ _ _ _ _ (inv .3) _ _ (sym (c .before .before .before .before .before .before .before .before .before .before .before .before .before .before .before .before .before .before .read-at .ensures) ∙ c .before .before .before .before .before .before .before .before .before .before .before .before .before .before .before .before .found .given .1) _ (c .before .before .before .before .before .before .before .before .before .before .before .before .before .stepping .ensures) (c .before .before .before .before .before .before .before .before .before .before .before .before .if1 .taken) (Joined _ _) _ _ (rw (c .before .before .own2 .given .1) at (c .before .before .before .before .before .before .before .before .own-step .ensures)) in
-    (rw length-set (inv .0), c .before .before .before .before .before .before .before .before .own-step .kept .1 .1 .1 .1 .1 .0 ∙ inv .1, c .before .before .before .before .before .before .before .before .own-step .kept .1 .1 .1 .1 .1 .1 .0 ∙ inv .2, rw (c .joined-at .ensures) left)
+    let o = c .before .before .before .before .before .before .before .before in
+    let s = o .before .before .before .before .before in
+    let f = s .before .before .before in
+    let inv = f .before .before .before .loop .inv in
+    let is = sym (f .before .before .read-at .ensures) ∙ f .found .given .1 in
+    let kept = o .own-step .kept .1 .1 .1 .1 .1 in
+    let left = own-goes _ _ _ _ _ _ _ _ _ _ _ _ _ (inv .3) _ _ is _ (s .stepping .ensures) (o .before .before .before .before .if1 .taken) (Joined _ _) _ _ (rw (c .before .before .own2 .given .1) at (o .own-step .ensures)) in
+    (rw length-set (inv .0), kept .0 ∙ inv .1, kept .1 .0 ∙ inv .2, rw (c .joined-at .ensures) left)
 
 enum-told : tie.Need-enum-told Inv-loop μ-loop
 enum-told c = search needs
 
 entry-requires : tie.Need-entry-requires Inv-loop μ-loop
 entry-requires c κs =
-    let inv = c .before .before .before .before .before .before .before .before .before .loop .inv in
-    let same : (c .before .before .if1 .words ≡ c .before .before .before .before .before .before .before .before .before .loop .words) × (c .before .before .if1 .memory ≡ c .before .before .before .before .before .before .before .before .before .loop .memory) =
+    let w = c .before .before in
+    let s = w .before in
+    let f = s .before .before .before in
+    let l = f .before .before .before in
+    let inv = l .loop .inv in
+    let is = sym (f .before .before .read-at .ensures) ∙ f .found .given .1 in
+    let same : (w .if1 .words ≡ l .loop .words) × (w .if1 .memory ≡ l .loop .memory) =
     ⊎-elim
-    (λ x. let o = own-goes _ _ _ _ _ _ _ _ _ _ _ _ _ (inv .3) _ _ (sym (c .before .before .before .before .before .before .before .before .read-at .ensures) ∙ c .before .before .before .before .before .before .found .given .1) _ (c .before .before .before .stepping .ensures) (x .0 .taken) Other _ _ (rw (x .10 .given .1) at (x .4 .ensures)) in (x .11 ∙ o .0, x .12 ∙ o .1))
+    (λ x. let o = own-goes _ _ _ _ _ _ _ _ _ _ _ _ _ (inv .3) _ _ is _ (s .stepping .ensures) (x .0 .taken) Other _ _ (rw (x .10 .given .1) at (x .4 .ensures)) in (x .11 ∙ o .0, x .12 ∙ o .1))
     (λ x. (x .1, x .2))
-    (c .before .before .if1 .came)
+    (w .if1 .came)
     in
     rw (same .0, same .1) (inv .3 .sound)
 
 slice-write-log-3 : tie.Need-slice-write-log-3 Inv-loop μ-loop
 slice-write-log-3 c =
-    let inv = c .before .before .before .before .before .before .before .before .before .before .before .before .before .before .loop .inv in
-    let r = has-room _ _ _ _ _ _ _ _ (inv .3) _ _ (sym (c .before .before .before .before .before .before .before .before .before .before .before .before .before .read-at .ensures) ∙ c .before .before .before .before .before .before .before .before .before .before .before .found .given .1) in
-    omega (arith, r, inv .0)
+    let f = c .before .before .before .before .before .before .before .before .before .before .before in
+    let l = f .before .before .before in
+    let inv = l .loop .inv in
+    let is = sym (f .before .before .read-at .ensures) ∙ f .found .given .1 in
+    omega (arith, has-room _ _ _ _ _ _ _ _ (inv .3) _ _ is, inv .0)
 
 loop-less-3 : tie.Need-loop-less-3 Inv-loop μ-loop
 loop-less-3 c =
-    let f = found _ _ _ _ (sym (c .before .before .before .before .before .before .before .before .before .before .before .before .before .read-at .ensures) ∙ c .before .before .before .before .before .before .before .before .before .before .before .found .given .1) in
-    omega (arith, f .wide, f .within)
+    let f = c .before .before .before .before .before .before .before .before .before .before .before in
+    let is = found _ _ _ _ (sym (f .before .before .read-at .ensures) ∙ f .found .given .1) in
+    omega (arith, is .wide, is .within)
 
 loop-again-3 : tie.Need-loop-again-3 Inv-loop μ-loop
 unfolding after
 loop-again-3 c =
-    let inv = c .before .before .before .before .before .before .before .before .before .before .before .before .before .before .loop .inv in
-    let same : (c .before .before .before .before .before .before .before .if1 .words ≡ c .before .before .before .before .before .before .before .before .before .before .before .before .before .before .loop .words) × (c .before .before .before .before .before .before .before .if1 .memory ≡ c .before .before .before .before .before .before .before .before .before .before .before .before .before .before .loop .memory) =
+    let w = c .before .before .before .before .before .before .before in
+    let s = w .before in
+    let f = s .before .before .before in
+    let l = f .before .before .before in
+    let inv = l .loop .inv in
+    let is = sym (f .before .before .read-at .ensures) ∙ f .found .given .1 in
+    let same : (w .if1 .words ≡ l .loop .words) × (w .if1 .memory ≡ l .loop .memory) =
     ⊎-elim
-    (λ x. let o = own-goes _ _ _ _ _ _ _ _ _ _ _ _ _ (inv .3) _ _ (sym (c .before .before .before .before .before .before .before .before .before .before .before .before .before .read-at .ensures) ∙ c .before .before .before .before .before .before .before .before .before .before .before .found .given .1) _ (c .before .before .before .before .before .before .before .before .stepping .ensures) (x .0 .taken) Other _ _ (rw (x .10 .given .1) at (x .4 .ensures)) in (x .11 ∙ o .0, x .12 ∙ o .1))
+    (λ x. let o = own-goes _ _ _ _ _ _ _ _ _ _ _ _ _ (inv .3) _ _ is _ (s .stepping .ensures) (x .0 .taken) Other _ _ (rw (x .10 .given .1) at (x .4 .ensures)) in (x .11 ∙ o .0, x .12 ∙ o .1))
     (λ x. (x .1, x .2))
-    (c .before .before .before .before .before .before .before .if1 .came)
-    in (
+    (w .if1 .came)
+    in
+    let e = c .before .before .before .before in
+    let kept = e .entry .kept .1 .1 .1 .1 .1 in (
       rw length-set (inv .0),
-      c .before .before .before .before .entry .kept .1 .1 .1 .1 .1 .0 ∙ ap length (same .0) ∙ inv .1,
-      c .before .before .before .before .entry .kept .1 .1 .1 .1 .1 .1 .0 ∙ ap length (same .1) ∙ inv .2,
-      goes _ _ _ _ _ _ _ _ (inv .3) _ _ _ (sym (c .before .before .before .before .before .before .before .before .before .before .before .before .before .read-at .ensures) ∙ c .before .before .before .before .before .before .before .before .before .before .before .found .given .1) (rw (same .0, same .1) at (c .before .before .before .before .entry .ensures)),
+      kept .0 ∙ ap length (same .0) ∙ inv .1,
+      kept .1 .0 ∙ ap length (same .1) ∙ inv .2,
+      goes _ _ _ _ _ _ _ _ (inv .3) _ _ _ is (rw (same .0, same .1) at (e .entry .ensures)),
     )
 
 enum-told-2 : tie.Need-enum-told-2 Inv-loop μ-loop
