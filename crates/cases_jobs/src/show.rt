@@ -109,6 +109,28 @@ fn by_entries(
     compared(memory, serial);
 }
 
+// The run by the entries that a scheduler wrote to the front of its buffer.
+fn its_entries(
+    image: &[u8],
+    cores: u8,
+    arguments: &[u32],
+    buffer: &[u8],
+    used: usize,
+    serial: [u32; 992],
+) {
+    if buffer.len() < used {
+        return;
+    }
+    by_entries(
+        b"its entries",
+        image,
+        cores,
+        arguments,
+        &buffer[0..used],
+        serial,
+    );
+}
+
 // The built-in scheduler, and then the entries that it wrote.
 fn by_scheduler(image: &[u8], cores: u8, arguments: &[u32], serial: [u32; 992]) {
     let parameters = [0u32; 32];
@@ -128,18 +150,7 @@ fn by_scheduler(image: &[u8], cores: u8, arguments: &[u32], serial: [u32; 992]) 
     let answer = scheduled.answer;
     line(answer);
     compared(memory, serial);
-    let mut n = scheduled.used;
-    if 32768 < n {
-        n = 0;
-    }
-    by_entries(
-        b"its entries",
-        image,
-        cores,
-        arguments,
-        &buffer[0..n],
-        serial,
-    );
+    its_entries(image, cores, arguments, &buffer, scheduled.used, serial);
 }
 
 pub fn all(name: &[u8], image: &[u8], arguments: &[u32]) {

@@ -29,4 +29,11 @@ pub fn tables() {
         10,
         b"\x01\x00\x01\x00\x01\x00\x01\x00\x04\x01\x02\x00\x01\x00",
     );
+    // Document 01's whole case: 7 units are used where core 1 steals an 08, so that an allowance of 12 refuses the steal by 22 and one of 13
+    // lets it pass, and refuses the child's next command.
+    let whole =
+        b"\x02\x03\x00\x15\x00\x01\x00\x06\x00\x01\x02\x20\x00\x08\x01\x00\x00\x02\x08\x01\x01\x01\x02\x0a\x02\x00\x00\x01\x0d\x00\x01\x00\x05\x00\x0d\x00";
+    let steal = b"\x01\x00\x01\x00\x03\x01\x00\x01\x00";
+    show(whole, 2, &none[0..0], 12, steal);
+    show(whole, 2, &none[0..0], 13, steal);
 }
