@@ -10,13 +10,19 @@ cd "$(dirname "$0")/.."
 what=${1:-test}
 [ $# -eq 0 ] || shift
 
+libraries() {
+    rt staticlib abi
+    rt staticlib abi_scheduler
+    rt staticlib abi_serial
+}
+
 build() {
     cargo build --release --offline --quiet --manifest-path bench/Cargo.toml "$@"
 }
 
 case "$what" in
 test)
-    rt staticlib abi
+    libraries
     build
     cargo test --release --lib --offline --quiet --manifest-path bench/Cargo.toml
     exec bench/target/release/differ "$@"
@@ -27,7 +33,7 @@ print)
     exec bench/target/release/prints target/bin/print "$@"
     ;;
 measure)
-    rt staticlib abi
+    libraries
     build
     exec bench/target/release/measure docs
     ;;

@@ -1,6 +1,5 @@
-//! The proved crates, called through the static library (`crates/abi`). This is the only module of the tests with `unsafe` in it.
+//! The proved crates, called through the static libraries (`crates/abi*`). This is the only module of the tests with `unsafe` in it.
 
-#[cfg(scheduler)]
 use bench::peer::house::Housed;
 use bench::peer::run::{Fed, Ran};
 use bench::peer::{Answer, PlainAnswer};
@@ -37,7 +36,6 @@ extern "C" {
         answer: *mut [u32; 4],
         statuses: *mut [u8; 32],
     );
-    #[cfg(scheduler)]
     fn hofnulda_scheduled(
         image: *const u8,
         image_length: usize,
@@ -121,7 +119,6 @@ pub fn run(fed: Fed, memory: &mut [u32], schedule: &[u8], log: &mut [u8]) -> Ran
 }
 
 /// The built-in scheduler, with the bytes of its buffer that it used.
-#[cfg(scheduler)]
 pub fn scheduled(fed: Fed, memory: &mut [u32], buffer: &mut [u8]) -> Housed {
     let mut answer = [0; 4];
     let mut statuses = [0; 32];

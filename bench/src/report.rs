@@ -99,10 +99,11 @@ fn sizes() -> (usize, usize) {
     (std::mem::size_of::<mirror::Machine>(), std::mem::size_of::<mirror::Thread>())
 }
 
-/// What the static library leaves to be linked: the only functions outside it that it can call.
+/// What the static libraries leave to be linked: the only functions outside them that they can call.
 pub fn undefined() -> Vec<String> {
-    let archive = concat!(env!("CARGO_MANIFEST_DIR"), "/../target/staticlib/libabi.a");
-    let said = Command::new("nm").args(["-u", archive]).output().map(|out| out.stdout).unwrap_or_default();
+    let folder = concat!(env!("CARGO_MANIFEST_DIR"), "/../target/staticlib/");
+    let archives = ["libabi.a", "libabi_scheduler.a", "libabi_serial.a"].map(|name| format!("{folder}{name}"));
+    let said = Command::new("nm").arg("-u").args(archives).output().map(|out| out.stdout).unwrap_or_default();
     let said = String::from_utf8_lossy(&said);
     let mut names: Vec<String> =
         said.lines().filter_map(|line| line.trim().strip_prefix("U ").map(str::to_string)).collect();
@@ -180,8 +181,8 @@ impl Report {
             "\nThe machine's state is a struct of {machine} bytes (32 thread records of {thread} bytes, three queues of 34, 16 stacklet tops), beside\n\
              the 4,096 bytes of the stacklets' words; the memory words, the log and the buffer are the caller's.\n\n\
              ## Nothing is allocated\n\n\
-             The language has no heap. The static library that the tests and benchmarks link leaves these names to the linker and no others, so it\n\
-             can call nothing else (`nm -u target/staticlib/libabi.a`): {}.\n",
+             The language has no heap. The static libraries that the tests and benchmarks link leave these names to the linker and no others, so\n\
+             they can call nothing else (`nm -u target/staticlib/*.a`): {}.\n",
             self.undefined.iter().map(|name| format!("`{name}`")).collect::<Vec<_>>().join(", "),
         );
     }
@@ -236,7 +237,7 @@ impl Report {
 
 const HEAD: &str = "# Benchmarks
 
-Written by `bench/run.sh measure`, which proves and builds the static library (`rt staticlib abi`), builds `bench/` and measures both
+Written by `bench/run.sh measure`, which proves and builds the static libraries (`crates/abi*`), builds `bench/` and measures both
 implementations in one run, on the same machine and input, batch by batch in turn; each time is the least mean of 40 batches. The second
 implementation (`bench/src/peer`) is Rust with `&mut` state, no `unsafe` and nothing allocated, and steps one core's commands in bursts.
 Times are of whole calls, with the image check, divided by the entries or commands.

@@ -105,7 +105,6 @@ fn serial_stack(what: &'static str, case: &Case) -> Stack {
     Stack { what, peer, ours }
 }
 
-#[cfg(scheduler)]
 fn scheduler_stack(case: &Case) -> Stack {
     let mut memory = case.memory.clone();
     let mut buffer = vec![0; 32_768];
@@ -121,7 +120,6 @@ fn scheduler_stack(case: &Case) -> Stack {
 pub fn measured() -> Vec<Stack> {
     let (thieves, stolen) = workload::steals();
     let mut all = vec![run_stack("run by schedule, four cores with steals", &thieves, &stolen), many_runs()];
-    #[cfg(scheduler)]
     all.push(scheduler_stack(&thieves));
     all.push(serial_stack("serial run, one deep", &workload::counted(10)));
     all.push(serial_stack("serial run, 32 deep (it ends by 26)", &workload::fibonacci(40)));

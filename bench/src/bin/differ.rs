@@ -136,7 +136,6 @@ fn compare_runs(tally: &mut Tally, case: &Case, schedule: &[u8], log: &[u8], ser
     peer
 }
 
-#[cfg(scheduler)]
 fn compare_scheduled(tally: &mut Tally, random: &mut Random, case: &Case) {
     use bench::peer::house::house;
     let length = random.pick(&[0, 1, 2, 3, 4, 5, 10, 101, 1000, 32_767, 32_768, 32_769, 40_000]);
@@ -185,11 +184,9 @@ fn one_case(tally: &mut Tally, random: &mut Random) {
             damage(random, &mut damaged, &mut bytes, &mut log);
             let serial = compare_serial(tally, &damaged);
             compare_runs(tally, &damaged, &bytes, &log, serial);
-            #[cfg(scheduler)]
             compare_scheduled(tally, random, &damaged);
         }
     }
-    #[cfg(scheduler)]
     compare_scheduled(tally, random, &case);
 }
 

@@ -132,7 +132,6 @@ fn rows() -> Vec<Row> {
 }
 
 /// The built-in scheduler on one core over the serial run.
-#[cfg(scheduler)]
 fn over_serial() -> Vec<report::Over> {
     let mut jobs = vec![("Fibonacci 15".to_string(), workload::fibonacci(15))];
     for size in [8, 14, 68, 608] {
@@ -163,11 +162,6 @@ fn over_serial() -> Vec<report::Over> {
             report::Over { what, commands, forks, peer_serial, peer_scheduled, serial, scheduled }
         })
         .collect()
-}
-
-#[cfg(not(scheduler))]
-fn over_serial() -> Vec<report::Over> {
-    Vec::new()
 }
 
 fn main() {

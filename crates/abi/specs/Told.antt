@@ -1,12 +1,10 @@
--- What `hofnulda_run` and `hofnulda_scheduled` promise.
+-- What `hofnulda_run` promises.
 use mathlib.Core.List.{List}
 use mathlib.Core.Path.{_≡_}
 use Prim.Native.Nat.{ℕ}
 use Rattle.run.specs.declared.Ran.{Ran}
 use Rattle.run.specs.Run.{Input}
 use Rattle.run.specs.Promise.{Promise}
-use Rattle.scheduler.specs.declared.Scheduled.{Scheduled}
-use Rattle.scheduler.specs.Promise as scheduler
 use Rattle.abi.specs.Words.{answerWords, statusesUpTo}
 
 -- there is what `run` gives, which keeps its promise, and the words tell its answer and its threads' statuses
@@ -15,11 +13,3 @@ pub record RunTold (i : Input) (schedule log memoryAfter logAfter answer statuse
   pub promise : Promise i schedule log ran memoryAfter logAfter
   pub answered : answer ≡ answerWords (ran .answer)
   pub counted : statuses ≡ statusesUpTo (ran .machine .threads) 32
-
--- there is what the built-in scheduler gives, which keeps its promise, and the words tell it
-pub record ScheduledTold (i : Input) (before memoryAfter after answer statuses : List ℕ) (used : ℕ) : Type 0 where
-  pub ran : Scheduled
-  pub promise : scheduler.Promise i before ran memoryAfter after
-  pub answered : answer ≡ answerWords (ran .answer)
-  pub counted : statuses ≡ statusesUpTo (ran .machine .threads) 32
-  pub taken : used ≡ ran .used

@@ -4,19 +4,8 @@ use Prim.Native.Nat.{ℕ, zero, suc}
 use lib.ListN.{getD, set, replicate}
 use Rattle.run.specs.declared.RunAnswer.{RunAnswer}
 use Rattle.run.specs.declared.RunAnswer.the-variants.{Refused, Finished, Faulted, Open}
-use Rattle.serial.specs.Serial.{Ended, done, stopped}
 use Rattle.thread.specs.declared.Thread.{Thread}
 use Rattle.thread.specs.Thread.{blankThread, statusNumber}
-
--- 1, result and units of a serial run that finished; else 0, the number that it ended by and the units so far
-abbrev pub serialWords : Ended → List ℕ
-serialWords (done result memory units) = 1 ∷ result ∷ units ∷ []
-serialWords (stopped number memory units) = 0 ∷ number ∷ units ∷ []
-
--- the memory words as a serial run leaves them
-abbrev pub serialMemory : Ended → List ℕ
-serialMemory (done result memory units) = memory
-serialMemory (stopped number memory units) = memory
 
 -- 0 and the number of a refused run; 1, result and units; 2, number, thread and offset; 3 and the units
 abbrev pub answerWords : RunAnswer → List ℕ

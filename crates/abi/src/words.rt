@@ -3,15 +3,11 @@
 use image::Refusal;
 use image::Verdict;
 use run::RunAnswer;
-use serial::SerialAnswer;
 use thread::Thread;
 use thread::record::status_number;
 ghost use mathlib.Core.Path.{_≡_};
-ghost use Prim.Native.Nat.{ℕ};
-ghost use mathlib.Core.List.{List};
 ghost use Rattle.image.specs.Image.{numberIn};
-ghost use Rattle.serial.specs.Serial.{endedBy};
-ghost use Rattle.abi.specs.Words.{answerWords, serialWords, statusesUpTo};
+ghost use Rattle.abi.specs.Words.{answerWords, statusesUpTo};
 
 // A verdict's number; 0 for an accepted image.
 pub fn image_number(verdict: Verdict) -> u8
@@ -29,15 +25,6 @@ pub fn image_number(verdict: Verdict) -> u8
             Refusal::BadEnd => 7,
             Refusal::BadTarget => 8,
         },
-    }
-}
-
-pub fn serial_words(answer: SerialAnswer) -> [u32; 3]
-    ensures { λ r. ⌜ ((memory : List ℕ) → r ≡ serialWords (endedBy answer memory)) ⌝ }
-{
-    match answer {
-        SerialAnswer::Finished(result, units) => [1, result, units],
-        SerialAnswer::Stopped(number, units) => [0, number as u32, units],
     }
 }
 

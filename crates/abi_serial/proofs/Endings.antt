@@ -5,7 +5,7 @@ use Prim.Native.Nat.{ℕ}
 use Rattle.serial.specs.declared.SerialAnswer.{SerialAnswer}
 use Rattle.serial.specs.declared.SerialAnswer.the-variants.{Finished, Stopped}
 use Rattle.serial.specs.Serial.{endedBy}
-use Rattle.abi.specs.Words.{serialMemory}
+use Rattle.abi_serial.specs.Words.{serialMemory}
 
 pub memory-of : (answer : SerialAnswer) (memory : List ℕ) → memory ≡ serialMemory (endedBy answer memory)
 memory-of (Finished result units) memory = refl

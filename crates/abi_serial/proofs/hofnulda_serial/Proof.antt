@@ -1,10 +1,10 @@
--- `abi::hofnulda_serial` meets its contract. Assumes nothing.
+-- `abi_serial::hofnulda_serial` meets its contract. Assumes nothing.
 use borrow.Author.Needs.{needs}
 use mathlib.Core.Path.{_∙_, ap}
-use Rattle.abi.specs.Words.{serialWords, serialMemory}
-use Rattle.abi.proofs.Endings.{memory-of}
-use Rattle.abi.proofs.hofnulda_serial.Statement.{statement}
-use Rattle.abi.proofs.hofnulda_serial.Tie as tie
+use Rattle.abi_serial.specs.Words.{serialWords, serialMemory}
+use Rattle.abi_serial.proofs.Endings.{memory-of}
+use Rattle.abi_serial.proofs.hofnulda_serial.Statement.{statement}
+use Rattle.abi_serial.proofs.hofnulda_serial.Tie as tie
 
 serial-requires : tie.Need-serial-requires
 serial-requires c κs = search needs

@@ -1,7 +1,7 @@
--- `abi::words::serial_words` meets its contract. Assumes nothing.
+-- `abi_serial::serial_words` meets its contract. Assumes nothing.
 use borrow.Author.Needs.{needs}
-use Rattle.abi.proofs.words.serial_words.Statement.{statement}
-use Rattle.abi.proofs.words.serial_words.Tie as tie
+use Rattle.abi_serial.proofs.serial_words.Statement.{statement}
+use Rattle.abi_serial.proofs.serial_words.Tie as tie
 
 enum-known-answer : tie.Need-enum-known-answer
 enum-known-answer c = search needs

@@ -1,0 +1,38 @@
+// The built-in scheduler for C and Rust programs, in a library of its own, so that the loop of a run by schedule is compiled for itself. A
+// slice is passed as a pointer and a length, an array as a pointer.
+use abi::words::answer_words;
+use abi::words::statuses_of;
+ghost use Rattle.run.specs.Run.{Input};
+ghost use Rattle.abi_scheduler.specs.Told.{ScheduledTold};
+
+// A run by the built-in scheduler, told as a run by a schedule is. It gives the bytes of the entries at the buffer's front.
+#[no_mangle]
+pub extern "C" fn hofnulda_scheduled(
+    image: &[u8],
+    cores: u8,
+    arguments: &[u32],
+    parameters: &[u32],
+    memory: &mut [u32],
+    allowance: u32,
+    buffer: &mut [u8],
+    answer: &mut [u32; 4],
+    statuses: &mut [u8; 32],
+) -> usize
+    ensures { λ used. ⌜ ScheduledTold (record { image = now (image .entry); cores = cores; arguments = now (arguments .entry); parameters = now (parameters .entry); memory = now (memory .entry); allowance = allowance }) (now (buffer .entry)) (now (memory .exit)) (now (buffer .exit)) (now (answer .exit)) (now (statuses .exit)) used ⌝ }
+{
+    let ran = scheduler::run(
+        image,
+        cores,
+        arguments,
+        parameters,
+        memory,
+        allowance,
+        buffer,
+    );
+    let machine = ran.machine;
+    let threads = machine.threads;
+    let told = ran.answer;
+    *answer = answer_words(told);
+    *statuses = statuses_of(threads);
+    ran.used
+}
