@@ -4,8 +4,8 @@
 pub mod words;
 
 use crate::words::answer_words;
-use crate::words::image_number;
 use crate::words::statuses_of;
+use run::tell::image_number;
 ghost use mathlib.Core.Path.{_≡_};
 ghost use Rattle.image.specs.Image.{imageVerdict, numberIn};
 ghost use Rattle.run.specs.Run.{Input};

@@ -1,32 +1,10 @@
 // Answers as words of an array, and the statuses of the thread records.
 
-use image::Refusal;
-use image::Verdict;
 use run::RunAnswer;
 use thread::Thread;
 use thread::record::status_number;
 ghost use mathlib.Core.Path.{_≡_};
-ghost use Rattle.image.specs.Image.{numberIn};
 ghost use Rattle.abi.specs.Words.{answerWords, statusesUpTo};
-
-// A verdict's number; 0 for an accepted image.
-pub fn image_number(verdict: Verdict) -> u8
-    ensures { λ r. ⌜ r ≡ numberIn verdict ⌝ }
-{
-    match verdict {
-        Verdict::Accepted => 0,
-        Verdict::Refused(refusal) => match refusal {
-            Refusal::BadLength => 1,
-            Refusal::BadCount => 2,
-            Refusal::BadRow => 3,
-            Refusal::UnknownByte => 4,
-            Refusal::OperandsCutOff => 5,
-            Refusal::OutOfRange => 6,
-            Refusal::BadEnd => 7,
-            Refusal::BadTarget => 8,
-        },
-    }
-}
 
 pub fn answer_words(answer: RunAnswer) -> [u32; 4]
     ensures { λ r. ⌜ r ≡ answerWords answer ⌝ }

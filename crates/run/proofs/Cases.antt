@@ -1,4 +1,4 @@
--- The starred cases that are runs hold, computed by the definitions that `run` is proved equal to. Assumes nothing.
+-- The starred cases hold, computed by the definitions that `run` is proved equal to. Assumes nothing.
 use mathlib.Core.Bool.{Bool, true, false, cond}
 use mathlib.Core.List.{List, [], _∷_}
 use mathlib.Core.Path.{_≡_, refl}
@@ -48,4 +48,4 @@ Holds (c ∷ cs) = (answered (c .input) (c .schedule) ≡ c .answer) × (loggedB
 
 pub starred-hold : Holds starred
 unfolding commandAt decoded startOf rowsOf startsUpTo commandsFrom commandsOf verdictFrom lastEnds isStart targetsGood routineVerdict rowsGood inRange routinesVerdict imageVerdict appended scheduleOf entriesOf fitsOn pushedTops argumentsAt framed pushedWords run anyPending unlessPending provided forking effectOf isPending withPending mayStore mayLoad cutAt effectAt leaves goesAbove placeOf born forkOn forkWith forkOf stackletsWithout wakes statusAfter readyAfter returnToParent returnOf carriedOf turnOf stepOf takeInto takeOf isSeed stolenOf stealOf enableOf entryOf startState refusalOf runFrom logsFrom
-starred-hold = (refl, refl, (refl, refl, (refl, refl, (refl, refl, (refl, refl, tt)))))
+starred-hold = (refl, refl, (refl, refl, (refl, refl, (refl, refl, (refl, refl, (refl, refl, (refl, refl, (refl, refl, (refl, refl, (refl, refl, (refl, refl, tt)))))))))))

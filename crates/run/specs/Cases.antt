@@ -1,4 +1,4 @@
--- Document 01's starred bench cases that are runs: what the run is given, and its log and answer. Words start zero.
+-- Document 01's starred bench cases, all as runs: what the run is given, and its log and answer. Words start zero.
 use mathlib.Core.List.{List, [], _∷_}
 use Prim.Native.Nat.{ℕ}
 use lib.ListN.{replicate}
@@ -30,13 +30,25 @@ abbrev pub wholeSchedule : List ℕ
 wholeSchedule =
     0x01 ∷ 0x00 ∷ 0x01 ∷ 0x00 ∷ 0x03 ∷ 0x01 ∷ 0x00 ∷ 0x02 ∷ 0x01 ∷ 0x01 ∷ 0x01 ∷ 0x01 ∷ 0x01 ∷ 0x01 ∷ 0x00 ∷ 0x01 ∷ 0x00 ∷ 0x01 ∷ 0x00 ∷ 0x01 ∷ 0x00 ∷ 0x01 ∷ 0x00 ∷ 0x04 ∷ 0x01 ∷ []
 
--- "`01 01 00 02 00 0D 00`, one step: result 0, 1 unit. The same, allowance 0: log 22, open", the images that are refused, and "Whole"
+-- an image that is refused
+abbrev pub refusedBy : ℕ → List ℕ → Case
+refusedBy number image = record { input = given image 1 100; schedule = []; log = []; answer = Refused number }
+
+-- "Bench cases (starred ones proved)", in document 01's order: "Empty image: 1. `00`: 2. `01 01 00 02 00 0D 00`, one step: result 0, 1 unit. The
+-- same, allowance 0: log 22, open. `01 01 02 02 00 0D 00`: 3. Code `FF 00`: 4. Code `0D`: 5. Code `0D 01`, one slot: 6. Code `0A`: 7. Code
+-- `07 01 00`: 8", and "Whole"
 abbrev pub starred : List Case
 starred =
-    record { input = given (oneRoutine (0x0D ∷ 0x00 ∷ [])) 1 100; schedule = 0x01 ∷ 0x00 ∷ []; log = 0 ∷ []; answer = Finished 0 1 }
+    refusedBy 1 []
+    ∷ refusedBy 2 (0x00 ∷ [])
+    ∷ record { input = given (oneRoutine (0x0D ∷ 0x00 ∷ [])) 1 100; schedule = 0x01 ∷ 0x00 ∷ []; log = 0 ∷ []; answer = Finished 0 1 }
     ∷ record { input = given (oneRoutine (0x0D ∷ 0x00 ∷ [])) 1 0; schedule = 0x01 ∷ 0x00 ∷ []; log = 22 ∷ []; answer = Open 0 }
-    ∷ record { input = given [] 1 100; schedule = []; log = []; answer = Refused 1 }
-    ∷ record { input = given (0x00 ∷ []) 1 100; schedule = []; log = []; answer = Refused 2 }
+    ∷ refusedBy 3 (0x01 ∷ 0x01 ∷ 0x02 ∷ 0x02 ∷ 0x00 ∷ 0x0D ∷ 0x00 ∷ [])
+    ∷ refusedBy 4 (oneRoutine (0xFF ∷ 0x00 ∷ []))
+    ∷ refusedBy 5 (oneRoutine (0x0D ∷ []))
+    ∷ refusedBy 6 (oneRoutine (0x0D ∷ 0x01 ∷ []))
+    ∷ refusedBy 7 (oneRoutine (0x0A ∷ []))
+    ∷ refusedBy 8 (oneRoutine (0x07 ∷ 0x01 ∷ 0x00 ∷ []))
     ∷ record {
       input = given whole 2 100;
       schedule = wholeSchedule;

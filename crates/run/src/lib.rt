@@ -2,11 +2,12 @@
 
 mod play;
 mod refusal;
+pub mod tell;
 
-use crate::play::answer;
 use crate::play::play;
-use crate::refusal::image_number;
 use crate::refusal::refusal;
+use crate::tell::answer;
+use crate::tell::image_number;
 use machine::Machine;
 use machine::start::start;
 ghost use Rattle.run.specs.Run.{Input};

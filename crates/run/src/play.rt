@@ -1,5 +1,4 @@
-// The machine goes through a schedule's entries, and its state is told as an answer.
-use crate::RunAnswer;
+// The machine goes through a schedule's entries.
 use machine::Machine;
 use machine::OwnStep;
 use machine::own::own_step;
@@ -8,8 +7,8 @@ use reader::read_at;
 use schedule::EntryRead;
 use thread::record::joined_at;
 ghost use mathlib.Core.Path.{_≡_};
-ghost use Rattle.machine.specs.State.{jobOf, meaning, outcomeOf};
-ghost use Rattle.run.specs.Run.{answerOf, Playable, Played};
+ghost use Rattle.machine.specs.State.{jobOf, meaning};
+ghost use Rattle.run.specs.Run.{Playable, Played};
 
 // The machine meets the schedule's entries one after another; each leaves its log byte at its number.
 pub fn play(
@@ -74,25 +73,5 @@ pub fn play(
             EntryRead::End => return m,
             EntryRead::Malformed => return m,
         }
-    }
-}
-
-// How the machine stands.
-pub fn answer(m: Machine) -> RunAnswer
-    ensures { λ r. ⌜ r ≡ answerOf (outcomeOf m) (m .units) ⌝ }
-{
-    if m.over == 0 {
-        return RunAnswer::Open { units: m.units };
-    }
-    if m.over == 1 {
-        return RunAnswer::Finished {
-            result: m.result,
-            units: m.units,
-        };
-    }
-    RunAnswer::Faulted {
-        number: m.fault,
-        thread: m.fault_thread,
-        offset: m.fault_offset,
     }
 }

@@ -1,32 +1,11 @@
 // The whole-run tests, in document 01's order: 23, image, 24, 13, 25.
 use command::byte_at;
-use image::Refusal;
-use image::Verdict;
 use schedule::Counted;
 use schedule::count;
 ghost use mathlib.Core.Path.{_≡_};
 ghost use Prim.Native.Nat.{ℕ};
 ghost use Rattle.image.specs.Image.{imageVerdict, numberIn};
 ghost use Rattle.run.specs.Run.{Input, refusalOf};
-
-// A verdict's number; 0 for an accepted image.
-pub fn image_number(verdict: Verdict) -> u8
-    ensures { λ r. ⌜ r ≡ numberIn verdict ⌝ }
-{
-    match verdict {
-        Verdict::Accepted => 0,
-        Verdict::Refused(refusal) => match refusal {
-            Refusal::BadLength => 1,
-            Refusal::BadCount => 2,
-            Refusal::BadRow => 3,
-            Refusal::UnknownByte => 4,
-            Refusal::OperandsCutOff => 5,
-            Refusal::OutOfRange => 6,
-            Refusal::BadEnd => 7,
-            Refusal::BadTarget => 8,
-        },
-    }
-}
 
 // The number of the first test that is met, or 0. The image's own number is given.
 pub fn refusal(

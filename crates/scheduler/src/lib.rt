@@ -1,16 +1,16 @@
 // The built-in scheduler, document 01's "house run": it makes its own schedule, round by round, and writes the entries it used.
 
-mod answer;
 mod rounds;
 mod search;
 
-use crate::answer::answer;
-use crate::answer::refused_by;
 use crate::rounds::play_rounds;
 use machine::Machine;
 use run::RunAnswer;
+use run::tell::answer;
+ghost use mathlib.Core.Path.{_≡_};
 ghost use Rattle.run.specs.Run.{Input};
 ghost use Rattle.scheduler.specs.Promise.{Promise};
+ghost use Rattle.scheduler.specs.Steps.{refusedBy};
 
 // The answer, with the machine as the run left it and the words of its stacklets.
 pub struct Scheduled {
@@ -19,6 +19,22 @@ pub struct Scheduled {
     pub words: [u32; 1024],
     // the bytes of the entries at the buffer's front
     pub used: usize,
+}
+
+// The number of a refused run; 0 for another.
+fn refused_by(answer: RunAnswer) -> u8
+    ensures { λ r. ⌜ r ≡ refusedBy answer ⌝ }
+{
+    match answer {
+        RunAnswer::Refused(number) => number,
+        RunAnswer::Finished { result, units } => 0,
+        RunAnswer::Faulted {
+            number,
+            thread,
+            offset,
+        } => 0,
+        RunAnswer::Open { units } => 0,
+    }
 }
 
 // A run by the scheduler's own entries. It takes any input. Two of the wrong schedulers that its contract rules out: one that tries with 2

@@ -1,7 +1,7 @@
--- `run::play::answer` meets its contract. Assumes nothing.
+-- `run::tell::answer` meets its contract. Assumes nothing.
 use borrow.Author.Tests.{eq-eqb, ne-eqb}
-use Rattle.run.proofs.play.answer.Statement.{statement}
-use Rattle.run.proofs.play.answer.Tie as tie
+use Rattle.run.proofs.tell.answer.Statement.{statement}
+use Rattle.run.proofs.tell.answer.Tie as tie
 
 returns : tie.Need-returns
 returns c = rw (eq-eqb _ _ (c .if1 .taken))
