@@ -17,6 +17,7 @@ use Rattle.machine.specs.Sound.{Sound}
 use Rattle.run.specs.declared.RunAnswer.{RunAnswer}
 use Rattle.run.specs.declared.RunAnswer.the-variants.{Refused, Finished, Faulted, Open}
 use Rattle.run.specs.declared.Ran.{Ran}
+use Rattle.run.specs.declared.begin.Begun.{Begun}
 
 -- "In a run each entry meets what the last left, the first Start's state, and nothing else writes state or memory"
 unfoldable pub runFrom : Job → State → List Entry → State
@@ -104,6 +105,13 @@ pub record IsPlayed (i : Input) (es : List Entry) (logBefore : List ℕ) (r : Ra
 pub record RunsAs (i : Input) (schedule log : List ℕ) (r : Ran) (memoryAfter logAfter : List ℕ) : Type 0 where
   pub refused : (refusalOf i schedule log ≡ 0 → ⊥) → IsRefused i (refusalOf i schedule log) log r memoryAfter logAfter
   pub played : refusalOf i schedule log ≡ 0 → (es : List Entry) × (scheduleOf schedule ≡ entries es) × IsPlayed i es log r memoryAfter logAfter
+
+-- what stands before the first entry: the number of the first whole-run test that is met, Start's state, and, where none is met, where the
+-- codes start
+pub record Begins (i : Input) (schedule log : List ℕ) (r : Begun) (words : List ℕ) : Type 0 where
+  pub number : r .number ≡ refusalOf i schedule log
+  pub machine : meaning (r .machine) words (i .memory) ≡ startIn i
+  pub starts : refusalOf i schedule log ≡ 0 → r .starts ≡ startsIn (programOf (i .image))
 
 -- what playing entries relies on: a sound state, an accepted schedule and a log with room for its entries
 pub record Playable (j : Job) (s : State) (schedule log : List ℕ) : Type 0 where

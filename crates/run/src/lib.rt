@@ -1,15 +1,14 @@
 // A run by a schedule: the whole-run tests, and then the machine from Start through the schedule's entries, one log byte for each.
 
+pub mod begin;
 mod play;
 mod refusal;
 pub mod tell;
 
+use crate::begin::begin;
 use crate::play::play;
-use crate::refusal::refusal;
 use crate::tell::answer;
-use crate::tell::image_number;
 use machine::Machine;
-use machine::start::start;
 ghost use Rattle.run.specs.Run.{Input};
 ghost use Rattle.run.specs.Promise.{Promise};
 
@@ -43,11 +42,7 @@ pub fn run(
     ensures { λ r. ⌜ Promise (record { image = now (image .entry); cores = cores; arguments = now (arguments .entry); parameters = now (parameters .entry); memory = now (memory .entry); allowance = allowance }) (now (schedule .entry)) (now (log .entry)) r (now (memory .exit)) (now (log .exit)) ⌝ }
 {
     let mut words = [0u32; 1024];
-    let machine = start(image, cores, arguments, &mut words);
-    let checked = image::check(image);
-    let verdict = checked.verdict;
-    let number = refusal(
-        image_number(verdict),
+    let begun = begin(
         image,
         cores,
         arguments,
@@ -55,7 +50,10 @@ pub fn run(
         memory,
         schedule,
         log,
+        &mut words,
     );
+    let machine = begun.machine;
+    let number = begun.number;
     if number != 0 {
         return Ran {
             answer: RunAnswer::Refused(number),
@@ -63,8 +61,7 @@ pub fn run(
             words,
         };
     }
-    let program = checked.program;
-    let starts = program.starts();
+    let starts = begun.starts;
     let end = play(
         machine,
         schedule,

@@ -10,16 +10,7 @@ use Rattle.schedule.specs.declared.Entry.the-variants.{Step, Take, Steal, Enabl
 use Rattle.schedule.specs.Format.{bytesOf}
 use Rattle.thread.specs.Thread.{none}
 use Rattle.machine.specs.State.{Job, State}
-use Rattle.run.specs.declared.RunAnswer.{RunAnswer}
-use Rattle.run.specs.declared.RunAnswer.the-variants.{Refused, Finished, Faulted, Open}
 use Rattle.scheduler.specs.Rounds.{isWritten, scheduledFrom, bytesOfAll, filled}
-
--- the number of a refused run, 0 of another
-abbrev pub refusedBy : RunAnswer → ℕ
-refusedBy (Refused n) = n
-refusedBy (Finished v units) = 0
-refusedBy (Faulted n t o) = 0
-refusedBy (Open units) = 0
 
 -- the steal of none, where there is no seed
 abbrev pub isNothing : Entry → Bool

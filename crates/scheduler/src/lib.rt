@@ -6,11 +6,10 @@ mod search;
 use crate::rounds::play_rounds;
 use machine::Machine;
 use run::RunAnswer;
+use run::begin::begin;
 use run::tell::answer;
-ghost use mathlib.Core.Path.{_≡_};
 ghost use Rattle.run.specs.Run.{Input};
 ghost use Rattle.scheduler.specs.Promise.{Promise};
-ghost use Rattle.scheduler.specs.Steps.{refusedBy};
 
 // The answer, with the machine as the run left it and the words of its stacklets.
 pub struct Scheduled {
@@ -19,22 +18,6 @@ pub struct Scheduled {
     pub words: [u32; 1024],
     // the bytes of the entries at the buffer's front
     pub used: usize,
-}
-
-// The number of a refused run; 0 for another.
-fn refused_by(answer: RunAnswer) -> u8
-    ensures { λ r. ⌜ r ≡ refusedBy answer ⌝ }
-{
-    match answer {
-        RunAnswer::Refused(number) => number,
-        RunAnswer::Finished { result, units } => 0,
-        RunAnswer::Faulted {
-            number,
-            thread,
-            offset,
-        } => 0,
-        RunAnswer::Open { units } => 0,
-    }
 }
 
 // A run by the scheduler's own entries. It takes any input. Two of the wrong schedulers that its contract rules out: one that tries with 2
@@ -50,23 +33,21 @@ pub fn run(
 ) -> Scheduled
     ensures { λ r. ⌜ Promise (record { image = now (image .entry); cores = cores; arguments = now (arguments .entry); parameters = now (parameters .entry); memory = now (memory .entry); allowance = allowance }) (now (buffer .entry)) r (now (memory .exit)) (now (buffer .exit)) ⌝ }
 {
-    let none = [0u8; 1];
-    let mut log = [0u8; 1];
-    // the tests and Start: a run by no entries
-    let started = run::run(
+    // the tests and Start are those of a run by no entries, which needs no log
+    let none = [0u8; 0];
+    let mut words = [0u32; 1024];
+    let begun = begin(
         image,
         cores,
         arguments,
         parameters,
         memory,
-        allowance,
-        &none[0..0],
-        &mut log[0..0],
+        &none,
+        &none,
+        &mut words,
     );
-    let machine = started.machine;
-    let mut words = started.words;
-    let first = started.answer;
-    let number = refused_by(first);
+    let machine = begun.machine;
+    let number = begun.number;
     if number != 0 {
         return Scheduled {
             answer: RunAnswer::Refused(number),
@@ -75,9 +56,7 @@ pub fn run(
             used: 0,
         };
     }
-    let checked = image::check(image);
-    let program = checked.program;
-    let starts = program.starts();
+    let starts = begun.starts;
     let end = play_rounds(
         machine,
         image,

@@ -1,0 +1,39 @@
+-- `run::begin::begin` meets its contract. Assumes nothing.
+use native.Mathlib.Omega.{arith}
+use Rattle.run.proofs.Running.{number-of, begins}
+use borrow.Author.Needs.{needs}
+use Rattle.run.proofs.begin.begin.Statement.{statement}
+use Rattle.run.proofs.begin.begin.Tie as tie
+
+start-requires : tie.Need-start-requires
+start-requires c κs = search needs
+
+check-requires : tie.Need-check-requires
+check-requires c κs = search needs
+
+image-number-requires : tie.Need-image-number-requires
+image-number-requires c κs = search needs
+
+refusal-requires : tie.Need-refusal-requires
+refusal-requires c κs = number-of _ _ _ (c .before .check .ensures) (c .image-number .ensures)
+
+starts-requires : tie.Need-starts-requires
+starts-requires c κs = search needs
+
+same-length : tie.Need-same-length
+same-length c = search needs
+
+returns : tie.Need-returns
+returns c = λ full allowance. begins _ _ _ (λ k. omega (arith, c .before .before .before .before .before .before .before .before .before .before .before .before .before .before .before .shared-slice-known .given k)) _ _ _ (c .before .before .before .before .check .ensures) (c .before .before .refusal .ensures allowance) (c .before .before .before .before .before .before .before .start .ensures full _ _ _ _) (c .starts .ensures)
+
+pub begin-spec : {M : Type 1} → statement M
+begin-spec =
+    tie.close
+    (tie.spec
+    start-requires
+    check-requires
+    image-number-requires
+    refusal-requires
+    starts-requires
+    same-length
+    returns)
