@@ -23,6 +23,10 @@ capacity = 32
 unfoldable pub contents : Queue → List ℕ
 contents q = ring capacity (q .places) (q .head) (q .len)
 
+-- the queue of these places, for code that holds a queue's parts
+abbrev pub queueOf : List ℕ → ℕ → ℕ → Queue
+queueOf places head len = record { places = places; head = head; len = len }
+
 -- n numbers ascending from k: "at first ascending"
 abbrev pub ascendingFrom : ℕ → ℕ → List ℕ
 ascendingFrom k zero = []

@@ -10,6 +10,10 @@ use Rattle.stacklets.specs.declared.Stacklets.{Stacklets}
 unfoldable pub topsOf : Stacklets → List ℕ
 topsOf s = s .tops
 
+-- the stacklets with these tops, for code that holds their parts
+abbrev pub stackletsOf : List ℕ → Stacklets
+stackletsOf tops = record { tops = tops }
+
 -- the top of stacklet x; "A stacklet is free again when its last frame goes": its top is then 0
 abbrev pub topAt : List ℕ → ℕ → ℕ
 topAt tops x = getD tops x 0

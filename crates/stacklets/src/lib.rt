@@ -4,12 +4,13 @@
 ghost use mathlib.Core.Path.{_≡_};
 ghost use Prim.Native.Nat.{_<_, _≤_};
 ghost use lib.ListN.{getD, set, replicate};
-ghost use Rattle.stacklets.specs.Tops.{topsOf, topAt, fitsOn, isTopmost, baseOn, pushedTops, poppedTops};
+ghost use Rattle.stacklets.specs.Tops.{topsOf, stackletsOf, topAt, fitsOn, isTopmost, baseOn, pushedTops, poppedTops};
 ghost use Rattle.stacklets.specs.Frames.{slotOf, withSlot, argumentsAt, framed, pushedWords};
 
-// How many words of each stacklet its frames take. A stacklet with top 0 has no frame.
+// How many words of each stacklet its frames take. A stacklet with top 0 has no frame. The tops are public, since any of them may be: a run's
+// loop changes one in place.
 pub struct Stacklets {
-    tops: [u8; 16],
+    pub tops: [u8; 16],
 }
 
 impl Stacklets {
@@ -122,6 +123,33 @@ impl Stacklets {
         }
         self
     }
+}
+
+// A stacklet's top, among these tops. This and the next are for code that holds the stacklets among other things and changes them in place.
+pub fn top_in(tops: &[u8; 16], stacklet: u8) -> u8
+    ensures { λ r. ⌜ (stacklet < 16 → r ≡ topAt (topsOf (stackletsOf (now (tops .entry)))) stacklet) ⌝ }
+{
+    tops[(stacklet % 16) as usize]
+}
+
+// A stacklet's top becomes another.
+pub fn set_top(tops: &mut [u8; 16], stacklet: u8, top: u8)
+    ensures { λ r. ⌜ (stacklet < 16 → topsOf (stackletsOf (now (tops .exit))) ≡ set (topsOf (stackletsOf (now (tops .entry)))) stacklet top) ⌝ }
+{
+    tops[(stacklet % 16) as usize] = top;
+}
+
+// A new frame of `size` words at a base, its arguments the words from `from` on, as they stand before.
+pub fn lay_frame(words: &mut [u32], base: u16, size: u8, from: u16, given: u8)
+    ensures { λ r. ⌜ now (words .exit) ≡ framed (now (words .entry)) base size (argumentsAt (now (words .entry)) from given) ⌝ }
+{
+    lay_copy(
+        words,
+        base as usize,
+        size as usize,
+        from as usize,
+        given as usize,
+    );
 }
 
 // A slot of a frame: the word so many behind its base, 0 where there is none.
