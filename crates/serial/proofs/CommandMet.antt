@@ -34,7 +34,7 @@ use Rattle.thread.specs.Job.{Job, GoodJob, offsetAt, byteAt}
 use Rattle.serial.specs.declared.Routine.{Routine}
 use Rattle.serial.specs.Serial.{movedTo, withSlot, goesOn, joined, forked, startedOn, argumentsFrom, weightAt, effectAt}
 use Rattle.serial.specs.Steps.{GoodRoutine, InReach}
-use Rattle.serial.proofs.Widths.{Widened, wide}
+use Rattle.thread.proofs.Widths.{Widened, wide}
 
 and-true : (a b : Bool) → (a && b) ≡ true → (a ≡ true) × (b ≡ true)
 and-true true b h = (refl, h)

@@ -5,4 +5,3 @@ pub mod Loop
 pub mod Turns
 pub mod Unrolled
 pub mod Whole
-pub mod Widths

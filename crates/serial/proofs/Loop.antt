@@ -15,7 +15,7 @@ use Rattle.window.specs.declared.Window.{Window}
 use Rattle.window.specs.Rights.{childOf, restOf, rejoined}
 use Rattle.thread.specs.declared.Effect.{Effect}
 use Rattle.thread.specs.declared.Effect.the-variants.{Faults, Sets, Loads, Stores, Goes, Continues, Lforks, Forks, Joins, Suspends, Yields, Returns}
-use Rattle.thread.specs.Effect.{effectOf}
+use Rattle.thread.specs.Effect.{effectOf, bytesBy}
 use Rattle.thread.specs.View.{viewOf}
 use Rattle.thread.specs.Thread.{isPending, withPending}
 use Rattle.thread.specs.Job.{Job, GoodJob}
@@ -25,10 +25,10 @@ use Rattle.serial.specs.declared.Ask.the-variants.{GoOn, Join, Call, Sto
 use Rattle.serial.specs.declared.SerialAnswer.{SerialAnswer}
 use Rattle.serial.specs.declared.SerialAnswer.the-variants.{Finished, Stopped}
 use Rattle.serial.specs.Serial.{Ended, done, stopped, andThen, endedBy, withSlot, goesOn, forked, startedOn, weightAt, effectAt, forkCalled, runFrom}
-use Rattle.serial.specs.Steps.{openAt, firstSlots, askedOf, bytesBy, slotsAfter, memoryAfter, childFrom, GoodRoutine, InReach, Ready, ForkReady, forkOf}
+use Rattle.serial.specs.Steps.{openAt, firstSlots, askedOf, slotsAfter, memoryAfter, childFrom, GoodRoutine, InReach, Ready, ForkReady, forkOf}
 use Rattle.serial.proofs.CommandMet.{reach-met, weighs, routine-few, next-small, nextOf}
 use Rattle.serial.proofs.Unrolled.{Between, ended, between, between-done}
-use Rattle.serial.proofs.Widths.{bytes-below}
+use Rattle.thread.proofs.Widths.{bytes-below}
 use Rattle.serial.proofs.Turns.{Calls, wide-here, turn-22, turn-goes, turn-joins, turn-stops, turn-returns, turn-calls}
 
 -- what is left of the run gives what the whole run from l₀ on gives

@@ -18,7 +18,7 @@ use Rattle.serial.specs.Serial.{done, stopped, withSlot, goesOn, forked,
 use Rattle.serial.specs.Steps.{openAt, askedOf, slotsAfter, memoryAfter, GoodRoutine}
 use Rattle.serial.proofs.CommandMet.{Next, next-met, met, ForkMet, KnownHere, width-met}
 use Rattle.serial.proofs.Unrolled.{unrolled}
-use Rattle.serial.proofs.Widths.{Widened}
+use Rattle.thread.proofs.Widths.{Widened}
 
 -- a number for each case, by which two are told apart
 kind : Ask → ℕ

@@ -26,21 +26,6 @@ openAt routine position pending window slots =
 abbrev pub firstSlots : List ℕ → List ℕ
 firstSlots arguments = take 16 (arguments ++ replicate 16 0)
 
--- the number of bytes of a command with such an effect, where the routine goes on behind it
-abbrev pub bytesBy : Effect → ℕ
-bytesBy (Faults x) = 0
-bytesBy (Sets d v) = 4
-bytesBy (Loads d a) = 3
-bytesBy (Stores a v) = 3
-bytesBy (Goes t) = 0
-bytesBy Continues = 4
-bytesBy (Lforks r d a e) = 5
-bytesBy (Forks r d a e) = 5
-bytesBy Joins = 1
-bytesBy Suspends = 1
-bytesBy Yields = 1
-bytesBy (Returns v) = 0
-
 -- what an effect at a position leaves to the run
 unfoldable pub askedOf : Effect → ℕ → Ask
 askedOf (Faults x) p = Stop x

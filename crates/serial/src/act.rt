@@ -7,7 +7,8 @@ ghost use mathlib.Core.Path.{_≡_};
 ghost use Prim.Native.Nat.{_+_, _<_};
 ghost use lib.ListN.{length, getD};
 ghost use Rattle.command.specs.Weight.{weightOf};
-ghost use Rattle.serial.specs.Steps.{wordIn, slotsAfter, memoryAfter, askedOf, bytesBy, InReach};
+ghost use Rattle.thread.specs.Effect.{bytesBy};
+ghost use Rattle.serial.specs.Steps.{wordIn, slotsAfter, memoryAfter, askedOf, InReach};
 
 // A number of two bytes, as an index.
 pub fn wide(x: u16) -> usize

@@ -10,3 +10,4 @@ pub mod MarkedWindows
 pub mod Example
 pub mod Witness
 pub mod CodePending
+pub mod Widths

@@ -66,7 +66,22 @@ effectOf arguments own Suspend = Suspends
 effectOf arguments own Yield = Yields
 effectOf arguments own (Return a) = unlessPending 12 (own .pending) (run 0 16) (Returns (own .slot a))
 
--- does a command change its own thread, its slots and the memory alone? 01 to 07, and a join
+-- the number of bytes of a command with such an effect, where its thread goes on behind it
+abbrev pub bytesBy : Effect → ℕ
+bytesBy (Faults x) = 0
+bytesBy (Sets d v) = 4
+bytesBy (Loads d a) = 3
+bytesBy (Stores a v) = 3
+bytesBy (Goes t) = 0
+bytesBy Continues = 4
+bytesBy (Lforks r d a e) = 5
+bytesBy (Forks r d a e) = 5
+bytesBy Joins = 1
+bytesBy Suspends = 1
+bytesBy Yields = 1
+bytesBy (Returns v) = 0
+
+-- does a run's loop carry a command out in place? 01 to 08, a join and a return
 abbrev pub isOwn : Command → Bool
 isOwn (Set d v) = true
 isOwn (Add d a b) = true
@@ -75,13 +90,13 @@ isOwn (Load d a) = true
 isOwn (Store a b) = true
 isOwn (JumpIfZero a t) = true
 isOwn (Jump t) = true
-isOwn (Lfork r d a w) = false
+isOwn (Lfork r d a w) = true
 isOwn (Fork r d a w) = false
 isOwn Join = true
 isOwn Suspend = false
 isOwn Yield = false
-isOwn (Return a) = false
+isOwn (Return a) = true
 
--- the effect of such a command, for which routines' arguments play no part; a suspend stands for every other command
-unfoldable pub ownEffectOf : Own → Command → Effect
-ownEffectOf own c = cond (isOwn c) (effectOf (λ r. 0) own c) Suspends
+-- the effect of such a command; a suspend stands for every other one
+unfoldable pub ownEffectOf : (ℕ → ℕ) → Own → Command → Effect
+ownEffectOf arguments own c = cond (isOwn c) (effectOf arguments own c) Suspends

@@ -258,16 +258,17 @@ pub fn effect(
     }
 }
 
-// The effect of a command that changes its own thread, its slots and the memory alone; a suspend stands for every other one. It is kept
-// apart from `effect`, and small, so that a run's loop has it in line.
+// The effect of a command that a run's loop carries out in place: 01 to 08, a join and a return; a suspend stands for every other one. It is
+// kept apart from `effect`, so that the loop is its only caller and has it in line.
 pub fn own_effect(
     command: Command,
+    image: &[u8],
     words: &[u32],
     base: u16,
     pending: u16,
     window: Window,
 ) -> Effect
-    ensures { λ r. ⌜ r ≡ ownEffectOf (viewOf (slotOf (now (words .entry)) base) (isPending pending) window) command ⌝ }
+    ensures { λ r. ⌜ r ≡ ownEffectOf (argumentsOf (now (image .entry))) (viewOf (slotOf (now (words .entry)) base) (isPending pending) window) command ⌝ }
 {
     match command {
         Command::Set(d, v) => set(pending, d, v),
@@ -278,11 +279,11 @@ pub fn own_effect(
         Command::JumpIfZero(a, t) => jump_if_zero(pending, a, slot(words, base, a), t),
         Command::Jump(t) => Effect::Goes(t),
         Command::Lfork {
-            routine: _,
-            result: _,
-            arguments: _,
-            cut: _,
-        } => Effect::Suspends,
+            routine,
+            result: d,
+            arguments: a,
+            cut: w,
+        } => lfork(image, words, base, pending, window, routine, d, a, w),
         Command::Fork {
             routine: _,
             result: _,
@@ -292,6 +293,6 @@ pub fn own_effect(
         Command::Join => Effect::Joins,
         Command::Suspend => Effect::Suspends,
         Command::Yield => Effect::Suspends,
-        Command::Return(_) => Effect::Suspends,
+        Command::Return(a) => give_back(pending, slot(words, base, a)),
     }
 }

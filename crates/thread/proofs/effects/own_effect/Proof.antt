@@ -49,6 +49,12 @@ jump-if-zero-requires c κs = search needs
 enum-known-command-7 : tie.Need-enum-known-command-7
 enum-known-command-7 c = search needs
 
+enum-known-command-8 : tie.Need-enum-known-command-8
+enum-known-command-8 c = search needs
+
+lfork-requires : tie.Need-lfork-requires
+lfork-requires c κs = search needs
+
 enum-told : tie.Need-enum-told
 enum-told c = search needs
 
@@ -61,11 +67,14 @@ enum-told-3 c = search needs
 enum-told-4 : tie.Need-enum-told-4
 enum-told-4 c = search needs
 
-enum-told-5 : tie.Need-enum-told-5
-enum-told-5 c = search needs
+enum-known-command-9 : tie.Need-enum-known-command-9
+enum-known-command-9 c = search needs
 
-enum-told-6 : tie.Need-enum-told-6
-enum-told-6 c = search needs
+slot-requires-3 : tie.Need-slot-requires-3
+slot-requires-3 c κs = search needs
+
+give-back-requires : tie.Need-give-back-requires
+give-back-requires c κs = search needs
 
 returns : tie.Need-returns
 unfolding ownEffectOf effectOf
@@ -97,27 +106,27 @@ returns-7 c = rw (c .before .command7 .given .1)
 
 returns-8 : tie.Need-returns-8
 unfolding ownEffectOf effectOf
-returns-8 c = rw (c .enum-told .given .1)
+returns-8 c = rw (c .before .before .command8 .given .1) (c .lfork .ensures)
 
 returns-9 : tie.Need-returns-9
 unfolding ownEffectOf effectOf
-returns-9 c = rw (c .enum-told2 .given .1)
+returns-9 c = rw (c .enum-told .given .1)
 
 returns-10 : tie.Need-returns-10
 unfolding ownEffectOf effectOf
-returns-10 c = rw (c .enum-told3 .given .1)
+returns-10 c = rw (c .enum-told2 .given .1)
 
 returns-11 : tie.Need-returns-11
 unfolding ownEffectOf effectOf
-returns-11 c = rw (c .enum-told4 .given .1)
+returns-11 c = rw (c .enum-told3 .given .1)
 
 returns-12 : tie.Need-returns-12
 unfolding ownEffectOf effectOf
-returns-12 c = rw (c .enum-told5 .given .1)
+returns-12 c = rw (c .enum-told4 .given .1)
 
 returns-13 : tie.Need-returns-13
 unfolding ownEffectOf effectOf
-returns-13 c = rw (c .enum-told6 .given .1)
+returns-13 c = rw (c .before .before .before .command9 .given .1) (rw (c .before .slot3 .ensures) at (c .give-back .ensures))
 
 pub own-effect-spec : {M : Type 1} → statement M
 own-effect-spec =
@@ -138,12 +147,15 @@ own-effect-spec =
     slot-requires-2
     jump-if-zero-requires
     enum-known-command-7
+    enum-known-command-8
+    lfork-requires
     enum-told
     enum-told-2
     enum-told-3
     enum-told-4
-    enum-told-5
-    enum-told-6
+    enum-known-command-9
+    slot-requires-3
+    give-back-requires
     returns
     returns-2
     returns-3

@@ -1,18 +1,17 @@
--- The effect of a command tells how many bytes the command has, where the routine goes on behind it. Assumes nothing.
+-- The effect of a command tells how many bytes the command has, where its thread goes on behind it. Assumes nothing.
 use mathlib.Core.Bool.{Bool, true, false, cond}
 use mathlib.Core.List.{List}
 use mathlib.Core.Path.{_≡_, refl}
-use Prim.Native.Nat.{ℕ, _+_, _<_}
+use Prim.Native.Nat.{ℕ, zero, suc, _+_, _≤_, _<_}
 use native.Mathlib.Omega.{arith}
 use lib.Dec.{eqb}
-use lib.ListN.{length}
+use lib.ListN.{length, getD}
 use Rattle.command.specs.declared.Command.{Command}
 use Rattle.command.specs.declared.Command.the-variants.{Set, Add, Subtract, Load, Store, JumpIfZero, Jump, Lfork, Fork, Join, Suspend, Yield, Return}
-use Rattle.command.specs.Command.{bytesOf}
+use Rattle.command.specs.Command.{bytesOf, decoded, decodedAt, widthOf}
 use Rattle.thread.specs.declared.Effect.{Effect}
 use Rattle.thread.specs.declared.Effect.the-variants.{Faults, Sets, Loads, Stores, Goes, Continues, Lforks, Forks, Joins, Suspends, Yields, Returns}
-use Rattle.thread.specs.Effect.{Own, anyPending, unlessPending, provided, forking, effectOf}
-use Rattle.serial.specs.Steps.{bytesBy}
+use Rattle.thread.specs.Effect.{Own, anyPending, unlessPending, provided, forking, effectOf, bytesBy}
 
 -- a command of n bytes can have the effect
 abbrev pub Wide : ℕ → Effect → Type 0
@@ -86,3 +85,27 @@ bytes-below p n top Joins k h = let q = k .is in omega arith
 bytes-below p n top Suspends k h = let q = k .is in omega arith
 bytes-below p n top Yields k h = let q = k .is in omega arith
 bytes-below p n top (Returns v) k h = omega arith
+
+-- a decoded command has as many bytes as its first byte tells
+decoded-length : (x y z w byte : ℕ) → 1 ≤ widthOf byte → length (bytesOf (decoded byte x y z w)) ≡ widthOf byte
+unfolding bytesOf decoded
+decoded-length x y z w zero h = absurd (omega arith)
+decoded-length x y z w (suc zero) h = refl
+decoded-length x y z w (suc (suc zero)) h = refl
+decoded-length x y z w (suc (suc (suc zero))) h = refl
+decoded-length x y z w (suc (suc (suc (suc zero)))) h = refl
+decoded-length x y z w (suc (suc (suc (suc (suc zero))))) h = refl
+decoded-length x y z w (suc (suc (suc (suc (suc (suc zero)))))) h = refl
+decoded-length x y z w (suc (suc (suc (suc (suc (suc (suc zero))))))) h = refl
+decoded-length x y z w (suc (suc (suc (suc (suc (suc (suc (suc zero)))))))) h = refl
+decoded-length x y z w (suc (suc (suc (suc (suc (suc (suc (suc (suc zero))))))))) h = refl
+decoded-length x y z w (suc (suc (suc (suc (suc (suc (suc (suc (suc (suc zero)))))))))) h = refl
+decoded-length x y z w (suc (suc (suc (suc (suc (suc (suc (suc (suc (suc (suc zero))))))))))) h = refl
+decoded-length x y z w (suc (suc (suc (suc (suc (suc (suc (suc (suc (suc (suc (suc zero)))))))))))) h = refl
+decoded-length x y z w (suc (suc (suc (suc (suc (suc (suc (suc (suc (suc (suc (suc (suc zero))))))))))))) h = refl
+decoded-length x y z w (suc (suc (suc (suc (suc (suc (suc (suc (suc (suc (suc (suc (suc (suc k)))))))))))))) h = absurd (omega arith)
+
+-- so its effect tells that number
+pub decoded-wide : (arguments : ℕ → ℕ) (own : Own) (s : List ℕ) (at : ℕ) → 1 ≤ widthOf (getD s at 0)
+    → Widened (widthOf (getD s at 0)) (effectOf arguments own (decodedAt s at))
+decoded-wide arguments own s at h = rw (← decoded-length (getD s (at + 1) 0) (getD s (at + 2) 0) (getD s (at + 3) 0) (getD s (at + 4) 0) (getD s at 0) h) (wide arguments own (decodedAt s at))
