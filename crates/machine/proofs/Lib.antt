@@ -7,6 +7,8 @@ pub mod Ending
 pub mod Carrying
 pub mod Way
 pub mod Reach
+pub mod Placing
+pub mod CallWay
 pub mod OwnWay
 pub mod Clearing
 pub mod Starting

@@ -96,6 +96,7 @@ bounded arguments slots pending w (Returns v) f g = tt
 pub record Meets (j : Job) (s : State) (t : ℕ) : Type 0 where
   pub place : offsetOf j (threadAt s t) < 65536
   pub next : threadAt s t .position + widthOf (byteOf j (threadAt s t)) < 65536
+  pub some : 1 ≤ widthOf (byteOf j (threadAt s t))
   pub range : InRange (decodedAt (j .image) (offsetOf j (threadAt s t)))
 
 pub meets : (j : Job) (s : State) → Sound j s → (t : ℕ) → Used s t → Meets j s t
@@ -111,6 +112,7 @@ meets j s ok t u =
     record {
       place = omega (arith, off, st .whole, acc .size);
       next = omega (arith, off, st .whole, acc .size, width-most (byteOf j (threadAt s t)));
+      some = rw (off, ← st .width) (st .some);
       range = rw (off, ← st .is) (in-range (j .image) (slotsOf (j .image) r) (q .command) (slots-most (j .image) acc r inside) (q .range));
     }
 
@@ -123,6 +125,15 @@ module _ (m : Machine) (im ss ps ws ms : List ℕ) (al : ℕ) (ok : Sound (jobOf
   pub units-within : m .units ≤ al
   unfolding meaning
   units-within = ok .sized .units
+
+  -- the effect of the next command of a thread in use is bounded
+  pub effect-bounded : (t : ℕ) → Used (meaning m ws ms) t
+      → Bounded (effect-of im ws (record-of m t) (decodedAt im (getD ss (record-of m t .routine) 0 + record-of m t .position)))
+  unfolding meaning
+  effect-bounded t used =
+      bounded (argumentsOf im) (slotOf ws (record-of m t .base)) (isPending (record-of m t .pending)) (record-of m t .window)
+      (effect-of im ws (record-of m t) (decodedAt im (getD ss (record-of m t .routine) 0 + record-of m t .position)))
+      (ok .windows .fits t used) (guarded (argumentsOf im) _ _ (meets (jobOf im ss ps al) (meaning m ws ms) ok t used .range))
 
   module _ (c t place byte : ℕ) (used : Used (meaning m ws ms) t) (core : c < m .count)
       (e1 : place ≡ getD ss (record-of m t .routine) 0 + record-of m t .position) (e2 : byte ≡ getD im place 0) where
@@ -137,7 +148,6 @@ module _ (m : Machine) (im ss ps ws ms : List ℕ) (al : ℕ) (ok : Sound (jobOf
     carrying w o command e e3 g a e4 e5 e6 =
         let s = meaning m ws ms in
         let j = jobOf im ss ps al in
-        let q = meets j s ok t used in
         rw e4
         (record {
           seated = record {
@@ -151,9 +161,7 @@ module _ (m : Machine) (im ss ps ws ms : List ℕ) (al : ℕ) (ok : Sound (jobOf
           free = free-first j s ok;
           bears = parent-bears j s ok t used;
           linked = linked-below j s ok t;
-          effect = rw (e6, e5, e1) (bounded (argumentsOf im) (slotOf ws (record-of m t .base)) (isPending (record-of m t .pending)) (record-of m t .window)
-              (effect-of im ws (record-of m t) (decodedAt im (getD ss (record-of m t .routine) 0 + record-of m t .position)))
-              (ok .windows .fits t used) (guarded (argumentsOf im) _ _ (q .range)));
+          effect = rw (e6, e5, e1) (effect-bounded t used);
         })
 
   -- the thread on a busy core is in use

@@ -10,3 +10,4 @@ pub mod Lists
 pub mod Sound
 pub mod Parts
 pub mod Own
+pub mod Call

@@ -1,12 +1,12 @@
 -- A step whose command changes its own thread, its slots and the memory alone: 01 to 07, and a join that passes. It is the rule's step
--- (proofs/OwnWay.antt), said of the thread's record, its words and the memory, and not of the machine.
+-- (proofs/OwnWay.antt), said of the thread's record, its words and the memory, and not of the machine. An lfork and a return are only told.
 use mathlib.Core.Bool.{Bool, true, false, cond, _&&_}
 use mathlib.Core.List.{List}
 use mathlib.Core.Path.{_≡_}
 use Prim.Native.Nat.{ℕ, _+_, _-_, _%_, _^_}
 use lib.Dec.{eqb, ltb}
 use lib.ListN.{getD, set}
-use Rattle.command.specs.Command.{decodedAt, widthOf}
+use Rattle.command.specs.Command.{decodedAt}
 use Rattle.command.specs.Weight.{weightOf}
 use Rattle.image.specs.Layout.{argumentsOf}
 use Rattle.schedule.specs.declared.Entry.{Entry}
@@ -19,7 +19,7 @@ use Rattle.thread.specs.Effect.{effectOf}
 use Rattle.thread.specs.View.{viewOf}
 use Rattle.thread.specs.Thread.{isPending, none}
 use Rattle.machine.specs.declared.OwnStep.{OwnStep}
-use Rattle.machine.specs.declared.OwnStep.the-variants.{Moved, Joined, Other}
+use Rattle.machine.specs.declared.OwnStep.the-variants.{Moved, Joined, Calls, Ends, Other}
 use Rattle.machine.specs.State.{Job}
 use Rattle.machine.specs.Turn.{offsetOf, byteOf, waits}
 
@@ -29,6 +29,13 @@ steppingOf over count cores (Step c) = cond (eqb over 0 && (ltb c count && ltb c
 steppingOf over count cores (Take c) = none
 steppingOf over count cores (Steal c t) = none
 steppingOf over count cores (Enable t) = none
+
+-- the core of such an entry
+abbrev pub coreStepped : Entry → ℕ
+coreStepped (Step c) = c % 4
+coreStepped (Take c) = 0
+coreStepped (Steal c t) = 0
+coreStepped (Enable t) = 0
 
 -- what such a step leaves: its answer, the stacklets' words and the memory words
 pub record Own : Type 0 where
@@ -45,31 +52,31 @@ pub record Owned (o : Own) (r : OwnStep) (ws ms : List ℕ) : Type 0 where
 abbrev pub leaving : OwnStep → List ℕ → List ℕ → Own
 leaving answer ws ms = record { answer = answer; words = ws; memory = ms }
 
--- by its effect, on the frame at a base: `units` has the command's weight, and `next` is the position behind it
+-- by its effect, on the frame at a base: `units` has the command's weight, and `position` is the command's own. The position behind it has
+-- two bytes; in an accepted image it is below 2^16
 unfoldable pub ownBy : ℕ → ℕ → ℕ → List ℕ → List ℕ → List ℕ → Effect → Own
-ownBy base units next ps ws ms (Faults n) = leaving Other ws ms
-ownBy base units next ps ws ms (Sets d v) = leaving (Moved next units) (withSlot ws base d v) ms
-ownBy base units next ps ws ms (Loads d a) =
-    leaving (Moved next units) (withSlot ws base d (cond (ltb a 32) (getD ps a 0) (getD ms (a - 32) 0))) ms
-ownBy base units next ps ws ms (Stores a v) = leaving (Moved next units) ws (set ms (a - 32) v)
-ownBy base units next ps ws ms (Goes p) = leaving (Moved p units) ws ms
-ownBy base units next ps ws ms Continues = leaving (Moved next units) ws ms
-ownBy base units next ps ws ms (Lforks r d a e) = leaving Other ws ms
-ownBy base units next ps ws ms (Forks r d a e) = leaving Other ws ms
-ownBy base units next ps ws ms Joins = leaving (Joined next units) ws ms
-ownBy base units next ps ws ms Suspends = leaving Other ws ms
-ownBy base units next ps ws ms Yields = leaving Other ws ms
-ownBy base units next ps ws ms (Returns v) = leaving Other ws ms
+ownBy base units position ps ws ms (Faults n) = leaving Other ws ms
+ownBy base units position ps ws ms (Sets d v) = leaving (Moved ((position + 4) % 2 ^ 16) units) (withSlot ws base d v) ms
+ownBy base units position ps ws ms (Loads d a) =
+    leaving (Moved ((position + 3) % 2 ^ 16) units) (withSlot ws base d (cond (ltb a 32) (getD ps a 0) (getD ms (a - 32) 0))) ms
+ownBy base units position ps ws ms (Stores a v) = leaving (Moved ((position + 3) % 2 ^ 16) units) ws (set ms (a - 32) v)
+ownBy base units position ps ws ms (Goes p) = leaving (Moved p units) ws ms
+ownBy base units position ps ws ms Continues = leaving (Moved ((position + 4) % 2 ^ 16) units) ws ms
+ownBy base units position ps ws ms (Lforks r d a e) = leaving (Calls e r d a ((position + 5) % 2 ^ 16) units) ws ms
+ownBy base units position ps ws ms (Forks r d a e) = leaving Other ws ms
+ownBy base units position ps ws ms Joins = leaving (Joined ((position + 1) % 2 ^ 16) units) ws ms
+ownBy base units position ps ws ms Suspends = leaving Other ws ms
+ownBy base units position ps ws ms Yields = leaving Other ws ms
+ownBy base units position ps ws ms (Returns v) = leaving (Ends v units) ws ms
 
 -- the effect of a thread's next command, on these words
 abbrev pub ownEffect : Job → Thread → List ℕ → Effect
 ownEffect j h ws =
     effectOf (argumentsOf (j .image)) (viewOf (slotOf ws (h .base)) (isPending (h .pending)) (h .window)) (decodedAt (j .image) (offsetOf j h))
 
--- a thread's next command, with the units so far. The position behind it has two bytes; in an accepted image it is below 2^16
+-- a thread's next command, with the units so far
 unfoldable pub ownOf : Job → Thread → ℕ → List ℕ → List ℕ → Own
 ownOf j h units ws ms =
     cond (waits j h) (leaving Other ws ms)
     (cond (ltb (j .allowance - units) (weightOf (j .weights) (byteOf j h))) (leaving Other ws ms)
-    (ownBy (h .base) (units + weightOf (j .weights) (byteOf j h)) ((h .position + widthOf (byteOf j h)) % 2 ^ 16)
-    (j .parameters) ws ms (ownEffect j h ws)))
+    (ownBy (h .base) (units + weightOf (j .weights) (byteOf j h)) (h .position) (j .parameters) ws ms (ownEffect j h ws)))

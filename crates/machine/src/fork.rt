@@ -26,7 +26,7 @@ ghost use Rattle.machine.specs.Fork.{asked, forkOf, childStatus, parentS
 ghost use Rattle.machine.specs.Parts.{turnBy, Forking};
 
 // The child's window: from the mark to the cut.
-fn child_window(w: Window, cut: u16) -> Window
+pub fn child_window(w: Window, cut: u16) -> Window
     ensures { λ r. ⌜ r ≡ childOf w cut ⌝ }
 {
     let mark = w.mark;
@@ -38,7 +38,7 @@ fn child_window(w: Window, cut: u16) -> Window
 }
 
 // What is left of the parent's: the mark becomes the cut.
-fn rest_window(w: Window, cut: u16) -> Window
+pub fn rest_window(w: Window, cut: u16) -> Window
     ensures { λ r. ⌜ r ≡ restOf w cut ⌝ }
 {
     Window {

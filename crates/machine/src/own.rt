@@ -1,5 +1,6 @@
 // A step whose command changes its own thread, its slots and the memory alone: 01 to 07, and a join that passes. It is carried out on the
-// lent words, and the caller moves the thread on in place, so that a run's loop does not copy the machine for it.
+// lent words, and the caller moves the thread on in place, so that a run's loop does not copy the machine for it. An lfork and a return are
+// told to the caller, which carries them out in place by module `calling`.
 use crate::OwnStep;
 use crate::parts::left_of;
 use crate::parts::load_word;
@@ -9,7 +10,6 @@ use crate::parts::store_word;
 use command::byte_at;
 use command::fetch;
 use command::weight;
-use command::width;
 use schedule::Entry;
 use stacklets::set_slot;
 use std::num::wrapping_add_u16;
@@ -17,8 +17,9 @@ use thread::Effect;
 use thread::Thread;
 use thread::effects::own_effect;
 ghost use mathlib.Core.Path.{_≡_};
+ghost use Prim.Native.Nat.{_<_};
 ghost use Rattle.machine.specs.State.{jobOf};
-ghost use Rattle.machine.specs.Own.{steppingOf, Owned, ownBy, ownOf};
+ghost use Rattle.machine.specs.Own.{steppingOf, coreStepped, Owned, ownBy, ownOf};
 
 // The thread that an entry steps, on a core of an open machine; 32 where there is none.
 pub fn stepping(entry: Entry, over: u8, count: u8, cores: [u8; 4]) -> u8
@@ -43,42 +44,44 @@ pub fn stepping(entry: Entry, over: u8, count: u8, cores: [u8; 4]) -> u8
     }
 }
 
-// Carries out an effect on the slots of the frame at a base and on the memory; `units` has the command's weight, and `next` is the
-// position behind it.
+// Carries out an effect on the slots of the frame at a base and on the memory; `units` has the command's weight, and `position` is the
+// command's. The effect tells the number of its bytes, so that the next position does not wait for a table.
 fn carry_own(
     base: u16,
     units: u32,
-    next: u16,
+    position: u16,
     effect: Effect,
     parameters: &[u32],
     words: &mut [u32],
     memory: &mut [u32],
 ) -> OwnStep
-    ensures { λ r. ⌜ Owned (ownBy base units next (now (parameters .entry)) (now (words .entry)) (now (memory .entry)) effect) r (now (words .exit)) (now (memory .exit)) ⌝ }
+    ensures { λ r. ⌜ Owned (ownBy base units position (now (parameters .entry)) (now (words .entry)) (now (memory .entry)) effect) r (now (words .exit)) (now (memory .exit)) ⌝ }
 {
     match effect {
         Effect::Sets(d, v) => {
             set_slot(words, base, d, v);
-            OwnStep::Moved(next, units)
+            OwnStep::Moved(wrapping_add_u16(position, 4), units)
         }
         Effect::Loads(d, a) => {
             let v = load_word(parameters, memory, a);
             set_slot(words, base, d, v);
-            OwnStep::Moved(next, units)
+            OwnStep::Moved(wrapping_add_u16(position, 3), units)
         }
         Effect::Stores(a, v) => {
             store_word(memory, a, v);
-            OwnStep::Moved(next, units)
+            OwnStep::Moved(wrapping_add_u16(position, 3), units)
         }
         Effect::Goes(p) => OwnStep::Moved(p, units),
-        Effect::Continues => OwnStep::Moved(next, units),
-        Effect::Joins => OwnStep::Joined(next, units),
+        Effect::Continues => OwnStep::Moved(wrapping_add_u16(position, 4), units),
+        Effect::Joins => OwnStep::Joined(wrapping_add_u16(position, 1), units),
         Effect::Faults(_) => OwnStep::Other,
-        Effect::Lforks(_, _, _, _) => OwnStep::Other,
+        Effect::Lforks(r, d, a, e) => {
+            OwnStep::Calls(e, r, d, a, wrapping_add_u16(position, 5), units)
+        },
         Effect::Forks(_, _, _, _) => OwnStep::Other,
         Effect::Suspends => OwnStep::Other,
         Effect::Yields => OwnStep::Other,
-        Effect::Returns(_) => OwnStep::Other,
+        Effect::Returns(v) => OwnStep::Ends(v, units),
     }
 }
 
@@ -104,8 +107,34 @@ pub fn own_step(
     if left_of(allowance, units) < cost {
         return OwnStep::Other;
     }
-    let next = wrapping_add_u16(th.position, width(byte) as u16);
     let window = th.window;
-    let done = own_effect(fetch(image, place), words, th.base, th.pending, window);
-    carry_own(th.base, units + cost, next, done, parameters, words, memory)
+    let done = own_effect(
+        fetch(image, place),
+        image,
+        words,
+        th.base,
+        th.pending,
+        window,
+    );
+    carry_own(
+        th.base,
+        units + cost,
+        th.position,
+        done,
+        parameters,
+        words,
+        memory,
+    )
+}
+
+// The core that an entry steps; 0 where it steps none.
+pub fn core_stepped(entry: Entry) -> u8
+    ensures { λ r. ⌜ (r ≡ coreStepped entry) × (r < 4) ⌝ }
+{
+    match entry {
+        Entry::Step(c) => c % 4,
+        Entry::Take(_) => 0,
+        Entry::Steal(_, _) => 0,
+        Entry::Enable(_) => 0,
+    }
 }

@@ -28,15 +28,6 @@ left-of-requires c κs = search needs
 returns-2 : tie.Need-returns-2
 returns-2 c = own-dear _ _ _ _ _ _ _ _ _ _ _ (c .before .before .before .before .before .before .place-in-image .ensures) (c .before .before .before .before .before .byte-at .ensures) (c .before .before .before .before .must-wait .ensures) _ _ (c .before .before .before .if1 .left) (c .before .before .weight .ensures) (c .before .left-of .ensures) (c .if2 .taken)
 
-width-requires : tie.Need-width-requires
-width-requires c κs = search needs
-
-cast-wrapping-add-u16 : tie.Need-cast-wrapping-add-u16
-cast-wrapping-add-u16 c = search needs
-
-wrapping-add-u16-requires : tie.Need-wrapping-add-u16-requires
-wrapping-add-u16-requires c κs = search needs
-
 fetch-requires : tie.Need-fetch-requires
 fetch-requires c κs = search needs
 
@@ -56,7 +47,7 @@ same-length-2 : tie.Need-same-length-2
 same-length-2 c = search needs
 
 returns-3 : tie.Need-returns-3
-returns-3 c = own-carries _ _ _ _ _ _ _ _ _ _ _ (c .before .before .before .before .before .before .before .before .before .before .before .before .before .before .before .before .before .before .before .place-in-image .ensures) (c .before .before .before .before .before .before .before .before .before .before .before .before .before .before .before .before .before .before .byte-at .ensures) (c .before .before .before .before .before .before .before .before .before .before .before .before .before .before .before .before .before .must-wait .ensures) _ _ (c .before .before .before .before .before .before .before .before .before .before .before .before .before .before .before .before .if1 .left) (c .before .before .before .before .before .before .before .before .before .before .before .before .before .before .before .weight .ensures) (c .before .before .before .before .before .before .before .before .before .before .before .before .before .before .left-of .ensures) (c .before .before .before .before .before .before .before .before .before .before .before .before .before .if2 .left) _ _ _ _ (c .before .before .before .before .before .before .before .before .before .before .before .before .width .ensures) (c .before .before .before .before .before .before .before .before .before .before .before .wrapping-add-u16 .ensures) (c .before .before .before .before .before .before .before .before .before .fetch .ensures) (c .before .before .before .before .before .before .before .own-effect .ensures) _ _ _ (c .before .before .before .before .carry-own .ensures)
+returns-3 c = own-carries _ _ _ _ _ _ _ _ _ _ _ (c .before .before .before .before .before .before .before .before .before .before .before .before .before .before .before .before .before .place-in-image .ensures) (c .before .before .before .before .before .before .before .before .before .before .before .before .before .before .before .before .byte-at .ensures) (c .before .before .before .before .before .before .before .before .before .before .before .before .before .before .before .must-wait .ensures) _ _ (c .before .before .before .before .before .before .before .before .before .before .before .before .before .before .if1 .left) (c .before .before .before .before .before .before .before .before .before .before .before .before .before .weight .ensures) (c .before .before .before .before .before .before .before .before .before .before .before .before .left-of .ensures) (c .before .before .before .before .before .before .before .before .before .before .before .if2 .left) _ _ (c .before .before .before .before .before .before .before .before .before .fetch .ensures) (c .before .before .before .before .before .before .before .own-effect .ensures) _ _ _ (c .before .before .before .before .carry-own .ensures)
 
 pub own-step-spec : {M : Type 1} → statement M
 own-step-spec =
@@ -70,9 +61,6 @@ own-step-spec =
     cast-cost
     left-of-requires
     returns-2
-    width-requires
-    cast-wrapping-add-u16
-    wrapping-add-u16-requires
     fetch-requires
     own-effect-requires
     add-carry-own
