@@ -1,10 +1,16 @@
 // The machine goes through a schedule's entries.
 use machine::Machine;
 use machine::OwnStep;
+use machine::calling::begin_call;
+use machine::calling::end_call;
+use machine::own::core_stepped;
 use machine::own::own_step;
 use machine::own::stepping;
+use queue::put_last;
 use reader::read_at;
 use schedule::EntryRead;
+use stacklets::set_top;
+use thread::record::blank_thread;
 use thread::record::joined_at;
 ghost use mathlib.Core.Path.{_≡_};
 ghost use Rattle.machine.specs.State.{jobOf, meaning};
@@ -63,6 +69,77 @@ pub fn play(
                             m.log = 0;
                             log[line] = 0;
                             continue;
+                        }
+                        OwnStep::Calls(e, r, d, a, behind, units) => {
+                            let caller = m.threads[k];
+                            let call = begin_call(
+                                t,
+                                caller,
+                                r,
+                                d,
+                                a,
+                                e,
+                                behind,
+                                image,
+                                words,
+                                &m.stacklets.tops,
+                                &m.free_threads.places,
+                                m.free_threads.head,
+                                m.free_threads.len,
+                                &m.free_stacklets.places,
+                                m.free_stacklets.head,
+                                m.free_stacklets.len,
+                            );
+                            let n = call.number;
+                            let parent = call.parent;
+                            let child = call.child;
+                            if n < 32 {
+                                m.free_threads.head = call.numbers_head;
+                                m.free_threads.len = call.numbers_len;
+                                m.free_stacklets.head = call.places_head;
+                                m.free_stacklets.len = call.places_len;
+                                set_top(&mut m.stacklets.tops, call.stacklet, call.top);
+                                m.threads[k] = parent;
+                                m.threads[n as usize] = child;
+                                m.cores[core_stepped(entry) as usize] = n;
+                                m.units = units;
+                                m.log = 0;
+                                log[line] = 0;
+                                continue;
+                            }
+                        }
+                        OwnStep::Ends(v, units) => {
+                            let child = m.threads[k];
+                            let q = m.threads[(child.parent % 32) as usize];
+                            let end = end_call(child, q, v, words);
+                            let p = end.number;
+                            let parent = end.parent;
+                            if p < 32 {
+                                set_top(&mut m.stacklets.tops, end.stacklet, end.top);
+                                let places = m.free_stacklets;
+                                let places_len = put_last(
+                                    &mut m.free_stacklets.places,
+                                    places,
+                                    end.stacklet,
+                                    end.frees,
+                                );
+                                m.free_stacklets.len = places_len;
+                                let numbers = m.free_threads;
+                                let numbers_len = put_last(
+                                    &mut m.free_threads.places,
+                                    numbers,
+                                    t,
+                                    true,
+                                );
+                                m.free_threads.len = numbers_len;
+                                m.threads[k] = blank_thread();
+                                m.threads[p as usize] = parent;
+                                m.cores[core_stepped(entry) as usize] = p;
+                                m.units = units;
+                                m.log = 0;
+                                log[line] = 0;
+                                continue;
+                            }
                         }
                         OwnStep::Other => {}
                     }

@@ -3,21 +3,19 @@ use borrow.Author.Tests.{lt-ltb, eqb-false}
 use mathlib.Core.Bool.{Bool, true, false, _||_}
 use mathlib.Core.List.{List}
 use mathlib.Core.Path.{_≡_, refl, sym, _∙_}
-use Prim.Native.Nat.{ℕ, _+_, _-_, _≤_, _<_}
+use Prim.Native.Nat.{ℕ, _+_, _-_, _%_, _≤_, _<_}
 use native.Mathlib.Omega.{arith}
 use lib.Dec.{eqb}
 use lib.ListN.{getD}
 use Rattle.schedule.specs.declared.Entry.the-variants.{Step}
-use Rattle.thread.specs.declared.Thread.{Thread}
-use Rattle.thread.specs.Thread.{movedTo, joinedAt}
 use Rattle.machine.specs.declared.Machine.{Machine}
-use Rattle.machine.specs.declared.OwnStep.the-variants.{Moved, Joined, Other}
+use Rattle.machine.specs.declared.OwnStep.{OwnStep}
 use Rattle.machine.specs.State.{Job, jobOf, State, isOver, outcomeOf, meaning, after}
 use Rattle.machine.specs.Rules.{entryOf}
 use Rattle.machine.specs.Own.{steppingOf, Owned, ownOf}
 use Rattle.machine.proofs.Tests.{over-true}
 use Rattle.machine.proofs.Way.{record-of}
-use Rattle.machine.proofs.OwnWay.{onward, own-entry}
+use Rattle.machine.proofs.OwnWay.{Means, own-entry}
 use Rattle.scheduler.proofs.Searching.{busy}
 use Rattle.scheduler.proofs.Trying.{At}
 use Rattle.scheduler.proofs.Rounding.{Turning, turns-on}
@@ -42,7 +40,7 @@ moved-by j count room s₀ at₀ buffer₀ moved₀ s at buffer b c e turning = 
 module _ (im ss ps : List ℕ) (al count room : ℕ) (s₀ : State) (at₀ : ℕ) (buffer₀ : List ℕ) (moved₀ : Bool) (m : Machine) (ws ms : List ℕ)
     (at : ℕ) (buffer : List ℕ) (moved : Bool) (c : ℕ)
     (turning : Turning (jobOf im ss ps al) count room s₀ at₀ buffer₀ moved₀ (meaning m ws ms) at buffer moved c)
-    (l : c < count) (ongoing : isOver (outcomeOf m) ≡ false) (small : getD (m .cores) c 0 < 32) (ws' ms' : List ℕ) where
+    (l : c < count) (ongoing : isOver (outcomeOf m) ≡ false) (small : getD (m .cores) c 0 < 32) where
   abbrev number : ℕ
   number = getD (m .cores) c 0
 
@@ -55,27 +53,22 @@ module _ (im ss ps : List ℕ) (al count room : ℕ) (s₀ : State) (at₀ : ℕ
       let four : c < 4 = omega (arith, first, most) in
       rw (open-zero m ongoing, lt-ltb c (m .count) first, lt-ltb c 4 four)
 
-  -- a step that is not of its own has changed nothing
-  pub stays : Owned (ownOf (jobOf im ss ps al) (record-of m number) (m .units) ws ms) Other ws' ms' → (ws' ≡ ws) × (ms' ≡ ms)
-  stays o = own-entry m im ss ps ws ms al (turning .sound) (Step c) number steps small Other ws' ms' o
+  -- what the step's answer means
+  pub met : (ws' ms' : List ℕ) (r : OwnStep) → Owned (ownOf (jobOf im ss ps al) (record-of m number) (m .units) ws ms) r ws' ms'
+      → Means im m (c % 4) number ws ms (entryOf (jobOf im ss ps al) (meaning m ws ms) (Step c)) r ws' ms'
+  met ws' ms' r o = own-entry m im ss ps ws ms al (turning .sound) (Step c) number steps small r ws' ms' o
 
   -- core c has had its turn
   module _ (first₀ : List ℕ) (p₀ : Progress) (start : At room first₀ p₀ s₀ at₀ buffer₀ moved₀) (three : 3 ≤ room - at)
-      (next : ℕ) (buffer' : List ℕ) (k : Keeps (Step c) 0 buffer at next buffer') (units : ℕ) where
-    owns-on : (h : Thread) → after (onward m number h units) ws' ms' ≡ entryOf (jobOf im ss ps al) (meaning m ws ms) (Step c)
-        → Turning (jobOf im ss ps al) count room s₀ at₀ buffer₀ moved₀ (meaning (onward m number h units) ws' ms') next buffer' true (c + 1)
+      (next : ℕ) (buffer' : List ℕ) (k : Keeps (Step c) 0 buffer at next buffer') where
+    keeps : (m' : Machine) → m' .log ≡ 0 → Keeps (Step c) (m' .log) buffer at next buffer'
+    keeps m' zero = rw zero k
+
+    pub owns-on : (m' : Machine) (ws'' ms'' : List ℕ) → m' .log ≡ 0
+        → after m' ws'' ms'' ≡ entryOf (jobOf im ss ps al) (meaning m ws ms) (Step c)
+        → Turning (jobOf im ss ps al) count room s₀ at₀ buffer₀ moved₀ (meaning m' ws'' ms'') next buffer' true (c + 1)
     unfolding after meaning
-    owns-on h gives =
-        moved-by _ _ _ _ _ _ _ _ _ _ _ _ (or-true moved)
+    owns-on m' ws'' ms'' zero gives =
+        moved-by _ _ _ _ _ _ _ _ _ _ _ _ (rw zero (or-true moved))
         (turns-on (jobOf im ss ps al) count room s₀ at₀ buffer₀ moved₀ (meaning m ws ms) at buffer moved c turning first₀ p₀ start l ongoing three (Step c)
-        (busy (jobOf im ss ps al) (meaning m ws ms) c (Step c) small refl) (after (onward m number h units) ws' ms') gives next buffer' k)
-
-    pub moves-on : (p : ℕ) → Owned (ownOf (jobOf im ss ps al) (record-of m number) (m .units) ws ms) (Moved p units) ws' ms'
-        → Turning (jobOf im ss ps al) count room s₀ at₀ buffer₀ moved₀ (meaning (onward m number (movedTo p (record-of m number)) units) ws' ms') next buffer' true (c + 1)
-    moves-on p o =
-        owns-on (movedTo p (record-of m number)) (own-entry m im ss ps ws ms al (turning .sound) (Step c) number steps small (Moved p units) ws' ms' o)
-
-    pub joins-on : (p : ℕ) → Owned (ownOf (jobOf im ss ps al) (record-of m number) (m .units) ws ms) (Joined p units) ws' ms'
-        → Turning (jobOf im ss ps al) count room s₀ at₀ buffer₀ moved₀ (meaning (onward m number (joinedAt p (record-of m number)) units) ws' ms') next buffer' true (c + 1)
-    joins-on p o =
-        owns-on (joinedAt p (record-of m number)) (own-entry m im ss ps ws ms al (turning .sound) (Step c) number steps small (Joined p units) ws' ms' o)
+        (busy (jobOf im ss ps al) (meaning m ws ms) c (Step c) small refl) (after m' ws'' ms'') gives next buffer' (keeps m' zero))
