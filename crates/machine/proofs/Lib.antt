@@ -10,5 +10,6 @@ pub mod Reach
 pub mod Placing
 pub mod CallWay
 pub mod OwnWay
+pub mod HeldWay
 pub mod Clearing
 pub mod Starting

@@ -11,15 +11,16 @@ use lib.Dec.{eqb, ltb}
 use lib.ListN.{getD, set}
 use Rattle.command.specs.declared.Command.{Command}
 use Rattle.command.specs.declared.Command.the-variants.{Set, Add, Subtract, Load, Store, JumpIfZero, Jump, Lfork, Fork, Join, Suspend, Yield, Return}
-use Rattle.command.specs.Command.{decodedAt, widthOf}
+use Rattle.command.specs.Command.{decoded, decodedAt, fiveAt, widthOf}
 use Rattle.command.specs.Weight.{weightOf, standardWeights}
+use Rattle.command.proofs.Bools.{both}
 use Rattle.image.specs.Layout.{argumentsOf}
 use Rattle.schedule.specs.declared.Entry.{Entry}
 use Rattle.schedule.specs.declared.Entry.the-variants.{Step, Take, Steal, Enable}
 use Rattle.thread.specs.declared.Effect.{Effect}
 use Rattle.thread.specs.declared.Effect.the-variants.{Faults, Sets, Loads, Stores, Goes, Continues, Lforks, Forks, Joins, Suspends, Yields, Returns}
 use Rattle.thread.specs.declared.Thread.{Thread}
-use Rattle.thread.specs.Effect.{run, anyPending, unlessPending, provided, forking, effectOf, ownEffectOf}
+use Rattle.thread.specs.Effect.{Own as View, run, anyPending, unlessPending, provided, forking, effectOf, ownEffectOf}
 use Rattle.thread.specs.View.{viewOf, mayCut}
 use Rattle.thread.specs.Thread.{isPending, movedTo, joinedAt, blankThread, none}
 use Rattle.thread.proofs.Widths.{Widened, decoded-wide}
@@ -34,7 +35,7 @@ use Rattle.machine.specs.declared.Finish.{Finish}
 use Rattle.machine.specs.declared.OwnStep.{OwnStep}
 use Rattle.machine.specs.declared.OwnStep.the-variants.{Moved, Joined, Calls, Ends, Other}
 use Rattle.machine.specs.State.{Job, jobOf, State, After, meaning, after, threadAt}
-use Rattle.machine.specs.Turn.{Turn, turnAt, byteOf, effectAt, tooDear, waits}
+use Rattle.machine.specs.Turn.{Turn, turnAt, offsetOf, byteOf, effectAt, tooDear, waits}
 use Rattle.machine.specs.Rules.{carriedOf, turnOf, stepOf, entryOf}
 use Rattle.machine.specs.Sound.{Sound, Used}
 use Rattle.machine.specs.Own.{steppingOf, coreStepped, Own, Owned, leaving, ownBy, ownEffect, ownOf}
@@ -47,16 +48,16 @@ use Rattle.machine.proofs.Able.{children-few}
 use Rattle.machine.proofs.CallWay.{CallWrites, FinishWrites, called, finished, called-as, finished-as}
 
 -- a fork is not carried out in place whatever its effect is
-module _ (base units position : ℕ) (ps ws ms : List ℕ) where
-  guarded : (n k : ℕ) (a b : Bool) (e : Effect) → ownBy base units position ps ws ms e ≡ leaving Other ws ms
-      → leaving Other ws ms ≡ ownBy base units position ps ws ms (cond a (Faults n) (cond b e (Faults k)))
+module _ (base units position children : ℕ) (ps ws ms : List ℕ) where
+  guarded : (n k : ℕ) (a b : Bool) (e : Effect) → ownBy base units position children ps ws ms e ≡ leaving Other ws ms
+      → leaving Other ws ms ≡ ownBy base units position children ps ws ms (cond a (Faults n) (cond b e (Faults k)))
   unfolding ownBy
   guarded n k true b e h = refl
   guarded n k false true e h = sym h
   guarded n k false false e h = refl
 
   same-own : (arguments : ℕ → ℕ) (slots : ℕ → ℕ) (pending : ℕ → Bool) (w : Window) (c : Command)
-      → ownBy base units position ps ws ms (ownEffectOf arguments (viewOf slots pending w) c) ≡ ownBy base units position ps ws ms (effectOf arguments (viewOf slots pending w) c)
+      → ownBy base units position children ps ws ms (ownEffectOf arguments (viewOf slots pending w) c) ≡ ownBy base units position children ps ws ms (effectOf arguments (viewOf slots pending w) c)
   unfolding ownBy ownEffectOf effectOf forking unlessPending provided
   same-own arguments slots pending w (Set d v) = refl
   same-own arguments slots pending w (Add d a b) = refl
@@ -73,43 +74,35 @@ module _ (base units position : ℕ) (ps ws ms : List ℕ) where
   same-own arguments slots pending w (Return a) = refl
 
 -- the code's way to `ownOf`, by what its tests and calls give
-module _ (im ss ps ws ms : List ℕ) (al units : ℕ) (h : Thread) (place byte : ℕ) (wait : Bool)
-    (e1 : place ≡ getD ss (h .routine) 0 + h .position) (e2 : byte ≡ getD im place 0) (e3 : wait ≡ (eqb byte 10 && ltb 0 (h .children))) where
-  waits-as : (eqb (getD im (getD ss (h .routine) 0 + h .position) 0) 10 && ltb 0 (h .children)) ≡ wait
-  waits-as = rw (← e1, ← e2) (sym e3)
+module _ (im ss ps ws ms : List ℕ) (al units : ℕ) (h : Thread) (place : ℕ) (five : List ℕ) (w left : ℕ)
+    (e1 : place ≡ getD ss (h .routine) 0 + h .position) (e2 : five ≡ fiveAt im place) (e3 : w ≡ weightOf standardWeights (getD five 0 0)) (e4 : left ≡ al - units) where
+  weight-as : weightOf standardWeights (getD im (getD ss (h .routine) 0 + h .position) 0) ≡ w
+  weight-as = rw (← e1) (sym (e3 ∙ rw e2))
 
-  pub own-waits : wait ≡ true → Owned (ownOf (jobOf im ss ps al) h units ws ms) Other ws ms
+  pub own-dear : left < w → Owned (ownOf (jobOf im ss ps al) h units ws ms) Other ws ms
   unfolding ownOf
-  own-waits e4 = rw (waits-as, e4) (record { answer = refl; words = refl; memory = refl })
+  own-dear g = rw (weight-as, ← e4, lt-ltb _ _ g) (record { answer = refl; words = refl; memory = refl })
 
-  module _ (w left : ℕ) (e4 : wait ≡ false) (e5 : w ≡ weightOf standardWeights byte) (e6 : left ≡ al - units) where
-    weight-as : weightOf standardWeights (getD im (getD ss (h .routine) 0 + h .position) 0) ≡ w
-    weight-as = rw (← e1, ← e2) (sym e5)
+  own-is : w ≤ left → (command : Command) (e : Effect) → command ≡ decodedAt five 0
+      → e ≡ ownEffectOf (argumentsOf im) (viewOf (slotOf ws (h .base)) (isPending (h .pending)) (h .window)) command
+      → ownBy (h .base) (units + w) (h .position) (h .children) ps ws ms e ≡ ownOf (jobOf im ss ps al) h units ws ms
+  unfolding ownOf
+  own-is g command e e5 e6 =
+      ap (ownBy (h .base) (units + w) (h .position) (h .children) ps ws ms) e6
+      ∙ same-own (h .base) (units + w) (h .position) (h .children) ps ws ms (argumentsOf im) (slotOf ws (h .base)) (isPending (h .pending)) (h .window) command
+      ∙ rw (weight-as, ← e4, le-ltb _ _ g, e5, e2, e1)
 
-    pub own-dear : left < w → Owned (ownOf (jobOf im ss ps al) h units ws ms) Other ws ms
-    unfolding ownOf
-    own-dear g = rw (waits-as, e4, weight-as, ← e6, lt-ltb _ _ g) (record { answer = refl; words = refl; memory = refl })
-
-    own-is : w ≤ left → (command : Command) (e : Effect) → command ≡ decodedAt im place
-        → e ≡ ownEffectOf (argumentsOf im) (viewOf (slotOf ws (h .base)) (isPending (h .pending)) (h .window)) command
-        → ownBy (h .base) (units + w) (h .position) ps ws ms e ≡ ownOf (jobOf im ss ps al) h units ws ms
-    unfolding ownOf
-    own-is g command e e9 e10 =
-        ap (ownBy (h .base) (units + w) (h .position) ps ws ms) e10
-        ∙ same-own (h .base) (units + w) (h .position) ps ws ms (argumentsOf im) (slotOf ws (h .base)) (isPending (h .pending)) (h .window) command
-        ∙ rw (waits-as, e4, weight-as, ← e6, le-ltb _ _ g, e9, e1)
-
-    pub own-carries : w ≤ left → (command : Command) (e : Effect) → command ≡ decodedAt im place
-        → e ≡ ownEffectOf (argumentsOf im) (viewOf (slotOf ws (h .base)) (isPending (h .pending)) (h .window)) command
-        → (r : OwnStep) (ws' ms' : List ℕ) → Owned (ownBy (h .base) (units + w) (h .position) ps ws ms e) r ws' ms'
-        → Owned (ownOf (jobOf im ss ps al) h units ws ms) r ws' ms'
-    own-carries g command e e9 e10 r ws' ms' o =
-        let q = own-is g command e e9 e10 in
-        record {
-          answer = o .answer ∙ ap (λ (x : Own). x .answer) q;
-          words = o .words ∙ ap (λ (x : Own). x .words) q;
-          memory = o .memory ∙ ap (λ (x : Own). x .memory) q;
-        }
+  pub own-carries : w ≤ left → (command : Command) (e : Effect) → command ≡ decodedAt five 0
+      → e ≡ ownEffectOf (argumentsOf im) (viewOf (slotOf ws (h .base)) (isPending (h .pending)) (h .window)) command
+      → (r : OwnStep) (ws' ms' : List ℕ) → Owned (ownBy (h .base) (units + w) (h .position) (h .children) ps ws ms e) r ws' ms'
+      → Owned (ownOf (jobOf im ss ps al) h units ws ms) r ws' ms'
+  own-carries g command e e5 e6 r ws' ms' o =
+      let q = own-is g command e e5 e6 in
+      record {
+        answer = o .answer ∙ ap (λ (x : Own). x .answer) q;
+        words = o .words ∙ ap (λ (x : Own). x .words) q;
+        memory = o .memory ∙ ap (λ (x : Own). x .memory) q;
+      }
 
 -- the machine with another record for thread t, and these units
 abbrev pub onward : Machine → ℕ → Thread → ℕ → Machine
@@ -149,15 +142,29 @@ Means im m c t ws ms a Other ws' ms' = (ws' ≡ ws) × (ms' ≡ ms)
 behind : (p n wide : ℕ) → wide ≡ n → p + wide < 2 ^ 16 → (p + n) % 2 ^ 16 ≡ p + wide
 behind p n wide e h = mod-eq-of-lt (omega (arith, e, h)) ∙ ap (λ (x : ℕ). p + x) (sym e)
 
+-- a thread that must wait is at a join, which is then no step of its own
+joins-there : (arguments : ℕ → ℕ) (own : View) (s : List ℕ) (at : ℕ) → getD s at 0 ≡ 10 → effectOf arguments own (decodedAt s at) ≡ Joins
+unfolding effectOf decoded
+joins-there arguments own s at e = rw e
+
+waits-there : (j : Job) (h : Thread) (units : ℕ) (ps ws ms : List ℕ) → waits j h ≡ true
+    → ownBy (h .base) units (h .position) (h .children) ps ws ms (ownEffect j h ws) ≡ leaving Other ws ms
+unfolding ownBy
+waits-there j h units ps ws ms e =
+    let q = both (eqb (byteOf j h) 10) (ltb 0 (h .children)) e in
+    rw (joins-there (argumentsOf (j .image)) (viewOf (slotOf ws (h .base)) (isPending (h .pending)) (h .window)) (j .image) (offsetOf j h) (eqb-true _ _ (q .0)), q .1)
+
 module _ (im ss ps : List ℕ) (al : ℕ) (m : Machine) (c t : ℕ) (ws ms : List ℕ) where
   idle : (a : After) (r : OwnStep) (ws' ms' : List ℕ) → Owned (leaving Other ws ms) r ws' ms' → Means im m c t ws ms a r ws' ms'
   idle a r ws' ms' o = rw (o .answer) (o .words, o .memory)
 
-  chosen : (b d : Bool) (x : Own) (a1 a2 a3 : After) (r : OwnStep) (ws' ms' : List ℕ) → (Owned x r ws' ms' → Means im m c t ws ms a3 r ws' ms')
-      → Owned (cond b (leaving Other ws ms) (cond d (leaving Other ws ms) x)) r ws' ms' → Means im m c t ws ms (cond b a1 (cond d a2 a3)) r ws' ms'
-  chosen true d x a1 a2 a3 r ws' ms' f o = idle a1 r ws' ms' o
-  chosen false true x a1 a2 a3 r ws' ms' f o = idle a2 r ws' ms' o
-  chosen false false x a1 a2 a3 r ws' ms' f o = f o
+  chosen : (b d : Bool) (x : Own) (a1 a2 a3 : After) (r : OwnStep) (ws' ms' : List ℕ) → (b ≡ true → x ≡ leaving Other ws ms)
+      → (Owned x r ws' ms' → Means im m c t ws ms a3 r ws' ms')
+      → Owned (cond d (leaving Other ws ms) x) r ws' ms' → Means im m c t ws ms (cond b a1 (cond d a2 a3)) r ws' ms'
+  chosen true true x a1 a2 a3 r ws' ms' w f o = idle a1 r ws' ms' o
+  chosen true false x a1 a2 a3 r ws' ms' w f o = idle a1 r ws' ms' (rw (w refl) at o)
+  chosen false true x a1 a2 a3 r ws' ms' w f o = idle a2 r ws' ms' o
+  chosen false false x a1 a2 a3 r ws' ms' w f o = f o
 
   -- the command that is met
   abbrev met : Met
@@ -172,9 +179,17 @@ module _ (im ss ps : List ℕ) (al : ℕ) (m : Machine) (c t : ℕ) (ws ms : Lis
 
   module _ (few : record-of m t .children < 255) (wide : ℕ) (fits : record-of m t .position + wide < 2 ^ 16)
       (is : wide ≡ widthOf (byteOf (jobOf im ss ps al) (record-of m t))) where
+    -- a join waits or passes
+    joins : (x : Bool) → Widened wide Joins → (r : OwnStep) (ws' ms' : List ℕ)
+        → Owned (leaving (cond x Other (Joined ((record-of m t .position + 1) % 2 ^ 16) (m .units + met .weight))) ws ms) r ws' ms'
+        → Means im m c t ws ms (carriedOf (jobOf im ss ps al) (meaning m ws ms) (turnAt (jobOf im ss ps al) (meaning m ws ms) c t) Joins) r ws' ms'
+    unfolding carriedOf after meaning
+    joins true k r ws' ms' o = idle _ r ws' ms' o
+    joins false k r ws' ms' o = rw (o .answer, o .words, o .memory, behind (record-of m t .position) 1 wide (k .is) fits, is)
+
     -- by the effect
     by-effect : (e : Effect) → Bounded e → Widened wide e → (r : OwnStep) (ws' ms' : List ℕ)
-        → Owned (ownBy (record-of m t .base) (m .units + met .weight) (record-of m t .position) ps ws ms e) r ws' ms'
+        → Owned (ownBy (record-of m t .base) (m .units + met .weight) (record-of m t .position) (record-of m t .children) ps ws ms e) r ws' ms'
         → Means im m c t ws ms (carriedOf (jobOf im ss ps al) (meaning m ws ms) (turnAt (jobOf im ss ps al) (meaning m ws ms) c t) e) r ws' ms'
     unfolding ownBy carriedOf after meaning
     by-effect (Faults n) b k r ws' ms' o = idle _ r ws' ms' o
@@ -187,7 +202,7 @@ module _ (im ss ps : List ℕ) (al : ℕ) (m : Machine) (c t : ℕ) (ws ms : Lis
         rw (o .answer, behind (record-of m t .position) 5 wide (k .is) fits, is)
         (o .words, o .memory, λ y core tops ws'' w g. rw (o .memory) (called-as m met ws ms im ss ps al x d a e y core tops ws'' (b .0) few w (rw (o .words) at g)))
     by-effect (Forks x d a e) b k r ws' ms' o = idle _ r ws' ms' o
-    by-effect Joins b k r ws' ms' o = rw (o .answer, o .words, o .memory, behind (record-of m t .position) 1 wide (k .is) fits, is)
+    by-effect Joins b k r ws' ms' o = joins (ltb 0 (record-of m t .children)) k r ws' ms' o
     by-effect Suspends b k r ws' ms' o = idle _ r ws' ms' o
     by-effect Yields b k r ws' ms' o = idle _ r ws' ms' o
     by-effect (Returns v) b k r ws' ms' o =
@@ -204,6 +219,7 @@ module _ (im ss ps : List ℕ) (al : ℕ) (m : Machine) (c t : ℕ) (ws ms : Lis
   own-turn ok used r ws' ms' o =
       let q = meets (jobOf im ss ps al) (meaning m ws ms) ok t used in
       chosen (waits (jobOf im ss ps al) (record-of m t)) (ltb (al - m .units) (weightOf standardWeights (byteOf (jobOf im ss ps al) (record-of m t)))) _ _ _ _ r ws' ms'
+      (waits-there (jobOf im ss ps al) (record-of m t) _ ps ws ms)
       (λ x. by-effect (children-few (jobOf im ss ps al) (meaning m ws ms) ok t used) (widthOf (byteOf (jobOf im ss ps al) (record-of m t))) (q .next) refl
       (ownEffect (jobOf im ss ps al) (record-of m t) ws) (effect-bounded m im ss ps ws ms al ok t used)
       (decoded-wide (argumentsOf im) (viewOf (slotOf ws (record-of m t .base)) (isPending (record-of m t .pending)) (record-of m t .window)) im _ (q .some))

@@ -21,7 +21,7 @@ use Rattle.thread.specs.Thread.{isPending, none}
 use Rattle.machine.specs.declared.OwnStep.{OwnStep}
 use Rattle.machine.specs.declared.OwnStep.the-variants.{Moved, Joined, Calls, Ends, Other}
 use Rattle.machine.specs.State.{Job}
-use Rattle.machine.specs.Turn.{offsetOf, byteOf, waits}
+use Rattle.machine.specs.Turn.{offsetOf, byteOf}
 
 -- the thread that an entry steps, on a core below the count (of at most 4) while the machine is open; none where there is none
 unfoldable pub steppingOf : ℕ → ℕ → List ℕ → Entry → ℕ
@@ -52,22 +52,26 @@ pub record Owned (o : Own) (r : OwnStep) (ws ms : List ℕ) : Type 0 where
 abbrev pub leaving : OwnStep → List ℕ → List ℕ → Own
 leaving answer ws ms = record { answer = answer; words = ws; memory = ms }
 
+-- a join of a thread with so many children: it waits, or passes
+abbrev pub joinBy : ℕ → ℕ → ℕ → OwnStep
+joinBy children position units = cond (ltb 0 children) Other (Joined ((position + 1) % 2 ^ 16) units)
+
 -- by its effect, on the frame at a base: `units` has the command's weight, and `position` is the command's own. The position behind it has
 -- two bytes; in an accepted image it is below 2^16
-unfoldable pub ownBy : ℕ → ℕ → ℕ → List ℕ → List ℕ → List ℕ → Effect → Own
-ownBy base units position ps ws ms (Faults n) = leaving Other ws ms
-ownBy base units position ps ws ms (Sets d v) = leaving (Moved ((position + 4) % 2 ^ 16) units) (withSlot ws base d v) ms
-ownBy base units position ps ws ms (Loads d a) =
+unfoldable pub ownBy : ℕ → ℕ → ℕ → ℕ → List ℕ → List ℕ → List ℕ → Effect → Own
+ownBy base units position children ps ws ms (Faults n) = leaving Other ws ms
+ownBy base units position children ps ws ms (Sets d v) = leaving (Moved ((position + 4) % 2 ^ 16) units) (withSlot ws base d v) ms
+ownBy base units position children ps ws ms (Loads d a) =
     leaving (Moved ((position + 3) % 2 ^ 16) units) (withSlot ws base d (cond (ltb a 32) (getD ps a 0) (getD ms (a - 32) 0))) ms
-ownBy base units position ps ws ms (Stores a v) = leaving (Moved ((position + 3) % 2 ^ 16) units) ws (set ms (a - 32) v)
-ownBy base units position ps ws ms (Goes p) = leaving (Moved p units) ws ms
-ownBy base units position ps ws ms Continues = leaving (Moved ((position + 4) % 2 ^ 16) units) ws ms
-ownBy base units position ps ws ms (Lforks r d a e) = leaving (Calls e r d a ((position + 5) % 2 ^ 16) units) ws ms
-ownBy base units position ps ws ms (Forks r d a e) = leaving Other ws ms
-ownBy base units position ps ws ms Joins = leaving (Joined ((position + 1) % 2 ^ 16) units) ws ms
-ownBy base units position ps ws ms Suspends = leaving Other ws ms
-ownBy base units position ps ws ms Yields = leaving Other ws ms
-ownBy base units position ps ws ms (Returns v) = leaving (Ends v units) ws ms
+ownBy base units position children ps ws ms (Stores a v) = leaving (Moved ((position + 3) % 2 ^ 16) units) ws (set ms (a - 32) v)
+ownBy base units position children ps ws ms (Goes p) = leaving (Moved p units) ws ms
+ownBy base units position children ps ws ms Continues = leaving (Moved ((position + 4) % 2 ^ 16) units) ws ms
+ownBy base units position children ps ws ms (Lforks r d a e) = leaving (Calls e r d a ((position + 5) % 2 ^ 16) units) ws ms
+ownBy base units position children ps ws ms (Forks r d a e) = leaving Other ws ms
+ownBy base units position children ps ws ms Joins = leaving (joinBy children position units) ws ms
+ownBy base units position children ps ws ms Suspends = leaving Other ws ms
+ownBy base units position children ps ws ms Yields = leaving Other ws ms
+ownBy base units position children ps ws ms (Returns v) = leaving (Ends v units) ws ms
 
 -- the effect of a thread's next command, on these words
 abbrev pub ownEffect : Job → Thread → List ℕ → Effect
@@ -77,6 +81,5 @@ ownEffect j h ws =
 -- a thread's next command, with the units so far
 unfoldable pub ownOf : Job → Thread → ℕ → List ℕ → List ℕ → Own
 ownOf j h units ws ms =
-    cond (waits j h) (leaving Other ws ms)
-    (cond (ltb (j .allowance - units) (weightOf (j .weights) (byteOf j h))) (leaving Other ws ms)
-    (ownBy (h .base) (units + weightOf (j .weights) (byteOf j h)) (h .position) (j .parameters) ws ms (ownEffect j h ws)))
+    cond (ltb (j .allowance - units) (weightOf (j .weights) (byteOf j h))) (leaving Other ws ms)
+    (ownBy (h .base) (units + weightOf (j .weights) (byteOf j h)) (h .position) (h .children) (j .parameters) ws ms (ownEffect j h ws))

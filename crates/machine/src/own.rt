@@ -4,11 +4,10 @@
 use crate::OwnStep;
 use crate::parts::left_of;
 use crate::parts::load_word;
-use crate::parts::must_wait;
 use crate::parts::place_in_image;
 use crate::parts::store_word;
-use command::byte_at;
-use command::fetch;
+use command::command_of;
+use command::five_at;
 use command::weight;
 use schedule::Entry;
 use stacklets::set_slot;
@@ -17,9 +16,8 @@ use thread::Effect;
 use thread::Thread;
 use thread::effects::own_effect;
 ghost use mathlib.Core.Path.{_≡_};
-ghost use Prim.Native.Nat.{_<_};
 ghost use Rattle.machine.specs.State.{jobOf};
-ghost use Rattle.machine.specs.Own.{steppingOf, coreStepped, Owned, ownBy, ownOf};
+ghost use Rattle.machine.specs.Own.{steppingOf, Owned, joinBy, ownBy, ownOf};
 
 // The thread that an entry steps, on a core of an open machine; 32 where there is none.
 pub fn stepping(entry: Entry, over: u8, count: u8, cores: [u8; 4]) -> u8
@@ -44,18 +42,29 @@ pub fn stepping(entry: Entry, over: u8, count: u8, cores: [u8; 4]) -> u8
     }
 }
 
+// A join passes where the thread has no child.
+fn join_own(children: u8, position: u16, units: u32) -> OwnStep
+    ensures { λ r. ⌜ r ≡ joinBy children position units ⌝ }
+{
+    if 0 < children {
+        return OwnStep::Other;
+    }
+    OwnStep::Joined(wrapping_add_u16(position, 1), units)
+}
+
 // Carries out an effect on the slots of the frame at a base and on the memory; `units` has the command's weight, and `position` is the
-// command's. The effect tells the number of its bytes, so that the next position does not wait for a table.
+// command's; `children` is the number of the thread's children. The effect tells the number of its bytes, so that the next position does not wait for a table.
 fn carry_own(
     base: u16,
     units: u32,
     position: u16,
+    children: u8,
     effect: Effect,
     parameters: &[u32],
     words: &mut [u32],
     memory: &mut [u32],
 ) -> OwnStep
-    ensures { λ r. ⌜ Owned (ownBy base units position (now (parameters .entry)) (now (words .entry)) (now (memory .entry)) effect) r (now (words .exit)) (now (memory .exit)) ⌝ }
+    ensures { λ r. ⌜ Owned (ownBy base units position children (now (parameters .entry)) (now (words .entry)) (now (memory .entry)) effect) r (now (words .exit)) (now (memory .exit)) ⌝ }
 {
     match effect {
         Effect::Sets(d, v) => {
@@ -73,7 +82,7 @@ fn carry_own(
         }
         Effect::Goes(p) => OwnStep::Moved(p, units),
         Effect::Continues => OwnStep::Moved(wrapping_add_u16(position, 4), units),
-        Effect::Joins => OwnStep::Joined(wrapping_add_u16(position, 1), units),
+        Effect::Joins => join_own(children, position, units),
         Effect::Faults(_) => OwnStep::Other,
         Effect::Lforks(r, d, a, e) => {
             OwnStep::Calls(e, r, d, a, wrapping_add_u16(position, 5), units)
@@ -99,42 +108,21 @@ pub fn own_step(
     ensures { λ r. ⌜ Owned (ownOf (jobOf (now (image .entry)) (now (starts .entry)) (now (parameters .entry)) allowance) th units (now (words .entry)) (now (memory .entry))) r (now (words .exit)) (now (memory .exit)) ⌝ }
 {
     let place = place_in_image(starts, th.routine, th.position);
-    let byte = byte_at(image, place);
-    if must_wait(byte, th.children) {
-        return OwnStep::Other;
-    }
-    let cost = weight(byte) as u32;
+    let five = five_at(image, place);
+    let cost = weight(five[0]) as u32;
     if left_of(allowance, units) < cost {
         return OwnStep::Other;
     }
     let window = th.window;
-    let done = own_effect(
-        fetch(image, place),
-        image,
-        words,
-        th.base,
-        th.pending,
-        window,
-    );
+    let done = own_effect(command_of(five), image, words, th.base, th.pending, window);
     carry_own(
         th.base,
         units + cost,
         th.position,
+        th.children,
         done,
         parameters,
         words,
         memory,
     )
-}
-
-// The core that an entry steps; 0 where it steps none.
-pub fn core_stepped(entry: Entry) -> u8
-    ensures { λ r. ⌜ (r ≡ coreStepped entry) × (r < 4) ⌝ }
-{
-    match entry {
-        Entry::Step(c) => c % 4,
-        Entry::Take(_) => 0,
-        Entry::Steal(_, _) => 0,
-        Entry::Enable(_) => 0,
-    }
 }

@@ -5,6 +5,7 @@ pub mod SerialTheory
 pub mod Passing
 pub mod Demands
 pub mod Playing
+pub mod Holding
 pub mod Running
 pub mod RunDemand
 pub mod Cases

@@ -2,7 +2,7 @@
 -- every state on the way is sound. Assumes nothing.
 use mathlib.Core.List.{List, [], _∷_, _++_, append-nil, append-assoc}
 use mathlib.Core.Path.{_≡_, refl, sym, _∙_, ap}
-use Prim.Native.Nat.{ℕ, suc, _+_, _%_, _≤_, _<_}
+use Prim.Native.Nat.{ℕ, suc, _+_, _≤_, _<_}
 use native.Mathlib.Numerals.{add-one}
 use native.Mathlib.Omega.{arith}
 use lib.ListN.{length, getD, drop, set, length-append}
@@ -13,23 +13,9 @@ use Rattle.schedule.specs.Format.{entryAt}
 use Rattle.schedule.specs.Meaning.{entries, entriesOf, scheduleOf}
 use Rattle.schedule.proofs.Standing.{Found-at, found}
 use Rattle.schedule.proofs.Following.{Read-of, read-entry, read-end, accepted}
-use Rattle.queue.specs.declared.Queue.{Queue}
-use Rattle.stacklets.specs.Tops.{topsOf}
-use Rattle.thread.specs.declared.Thread.{Thread}
-use Rattle.thread.specs.Thread.{blankThread, movedTo, joinedAt}
-use Rattle.machine.specs.declared.Machine.{Machine}
-use Rattle.machine.specs.declared.Call.{Call}
-use Rattle.machine.specs.declared.Finish.{Finish}
-use Rattle.machine.specs.declared.OwnStep.{OwnStep}
-use Rattle.machine.specs.declared.OwnStep.the-variants.{Moved, Joined, Calls, Ends, Other}
-use Rattle.machine.specs.State.{Job, jobOf, State, After, meaning, after}
+use Rattle.machine.specs.State.{Job, State, After}
 use Rattle.machine.specs.Rules.{entryOf}
 use Rattle.machine.specs.Sound.{Sound}
-use Rattle.machine.specs.Own.{steppingOf, coreStepped, Owned, ownOf}
-use Rattle.machine.specs.Call.{Called, Finished}
-use Rattle.machine.proofs.Way.{record-of}
-use Rattle.machine.proofs.OwnWay.{onward, own-entry}
-use Rattle.machine.proofs.CallWay.{CallWrites, FinishWrites, called, finished}
 use Rattle.soundness.proofs.Kept.{entry-sound}
 use Rattle.run.specs.Run.{runFrom, logsFrom, logged, Playable, Played}
 
@@ -120,46 +106,3 @@ module _ (j : Job) (s₀ : State) (schedule log₀ : List ℕ) where
           state = ap (runFrom j s) (sym none) ∙ left .state;
           log = left .log ∙ ap (λ (n : ℕ). left .done ++ drop n log₀) (sym (left .many)) ∙ ap (λ (l : List ℕ). l ++ drop (length l) log₀) logs;
         }
-
--- what is left once thread t's command has met its own step by core c: an entry less, at once or when what is told is carried out in place;
--- or nothing has changed
-module _ (im ss ps : List ℕ) (al : ℕ) (s₀ : State) (schedule log₀ : List ℕ) (next k : ℕ) (log : List ℕ) where
-  abbrev Less : Machine → List ℕ → List ℕ → Type 0
-  Less m ws ms = Left (jobOf im ss ps al) s₀ schedule log₀ (meaning m ws ms) next (k + 1) (set log k 0)
-
-  abbrev pub Went : Machine → ℕ → ℕ → List ℕ → List ℕ → OwnStep → List ℕ → List ℕ → Type 0
-  Went m c t ws ms (Moved p units) ws' ms' = Less (onward m t (movedTo p (record-of m t)) units) ws' ms'
-  Went m c t ws ms (Joined p units) ws' ms' = Less (onward m t (joinedAt p (record-of m t)) units) ws' ms'
-  Went m c t ws ms (Calls e r d a behind units) ws' ms' = (ws' ≡ ws) × (ms' ≡ ms)
-      × ((x : Call) (core : ℕ) (tops ws'' : List ℕ) → CallWrites m c x core tops
-      → Called im (topsOf (m .stacklets)) (m .«free_threads») (m .«free_stacklets») t (record-of m t) r d a e behind ws' x ws''
-      → Less (called m core t x tops units) ws'' ms')
-  Went m c t ws ms (Ends v units) ws' ms' = (ws' ≡ ws) × (ms' ≡ ms)
-      × ((q : Thread) (f : Finish) (core : ℕ) (blank : Thread) (tops : List ℕ) (numbers places : Queue) (ws'' : List ℕ) → f .number < 32
-      → q ≡ getD (m .threads) (record-of m t .parent % 32) blankThread → FinishWrites m c t f core blank tops numbers places
-      → Finished (record-of m t) q v ws' f ws'' → Less (finished m core t f blank tops numbers places units) ws'' ms')
-  Went m c t ws ms Other ws' ms' = (ws' ≡ ws) × (ms' ≡ ms)
-
-module _ (im ss ps : List ℕ) (al : ℕ) (s₀ : State) (schedule log₀ : List ℕ) (m : Machine) (ws ms : List ℕ) (at k : ℕ) (log : List ℕ)
-    (left : Left (jobOf im ss ps al) s₀ schedule log₀ (meaning m ws ms) at k log) (e : Entry) (next : ℕ) (h : entryAt schedule at ≡ Found e next)
-    (t : ℕ) (steps : t ≡ steppingOf (m .over) (m .count) (m .cores) e) (small : t < 32) where
-  less : (m' : Machine) (ws' ms' : List ℕ) → m' .log ≡ 0 → after m' ws' ms' ≡ entryOf (jobOf im ss ps al) (meaning m ws ms) e
-      → Left (jobOf im ss ps al) s₀ schedule log₀ (meaning m' ws' ms') next (k + 1) (set log k 0)
-  unfolding after meaning
-  less m' ws' ms' zero is =
-      rw zero at (goes (jobOf im ss ps al) s₀ schedule log₀ (meaning m ws ms) at k log left e next (after m' ws' ms') h is)
-
-  -- an entry that steps thread t, by the step of its own
-  pub own-goes : (r : OwnStep) (ws' ms' : List ℕ) → Owned (ownOf (jobOf im ss ps al) (record-of m t) (m .units) ws ms) r ws' ms'
-      → Went im ss ps al s₀ schedule log₀ next k log m (coreStepped e) t ws ms r ws' ms'
-  own-goes (Moved p units) ws' ms' o =
-      less _ ws' ms' refl (own-entry m im ss ps ws ms al (left .sound) e t steps small (Moved p units) ws' ms' o)
-  own-goes (Joined p units) ws' ms' o =
-      less _ ws' ms' refl (own-entry m im ss ps ws ms al (left .sound) e t steps small (Joined p units) ws' ms' o)
-  own-goes (Calls x r d a behind units) ws' ms' o =
-      let q = own-entry m im ss ps ws ms al (left .sound) e t steps small (Calls x r d a behind units) ws' ms' o in
-      (q .0, q .1, λ y core tops ws'' w g. less _ ws'' ms' refl (q .2 y core tops ws'' w g))
-  own-goes (Ends v units) ws' ms' o =
-      let q = own-entry m im ss ps ws ms al (left .sound) e t steps small (Ends v units) ws' ms' o in
-      (q .0, q .1, λ y f core blank tops numbers places ws'' low is w g. less _ ws'' ms' refl (q .2 y f core blank tops numbers places ws'' low is w g))
-  own-goes Other ws' ms' o = own-entry m im ss ps ws ms al (left .sound) e t steps small Other ws' ms' o

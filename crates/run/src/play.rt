@@ -3,18 +3,32 @@ use machine::Machine;
 use machine::OwnStep;
 use machine::calling::begin_call;
 use machine::calling::end_call;
-use machine::own::core_stepped;
 use machine::own::own_step;
 use machine::own::stepping;
 use queue::put_last;
 use reader::read_at;
+use reader::step_core;
+use schedule::Entry;
 use schedule::EntryRead;
 use stacklets::set_top;
 use thread::record::blank_thread;
 use thread::record::joined_at;
+use thread::record::moved_to;
+ghost use mathlib.Core.Bool.{_&&_, not};
 ghost use mathlib.Core.Path.{_≡_};
+ghost use lib.Dec.{ltb};
 ghost use Rattle.machine.specs.State.{jobOf, meaning};
 ghost use Rattle.run.specs.Run.{Playable, Played};
+
+// Is a thread stepped that may meet its command in place?
+fn in_place(by_rule: bool, t: u8) -> bool
+    ensures { λ r. ⌜ r ≡ (not «by_rule» && ltb t 32) ⌝ }
+{
+    if by_rule {
+        return false;
+    }
+    t < 32
+}
 
 // The machine meets the schedule's entries one after another; each leaves its log byte at its number.
 pub fn play(
@@ -34,118 +48,155 @@ pub fn play(
     let mut m = start;
     let mut at: usize = 0;
     let mut number: usize = 0;
-    loop {
+    // whether the step that is next was found to be none that is carried out in place
+    let mut by_rule = false;
+    'entries: loop {
+        let c = step_core(schedule, at);
+        let t = stepping(Entry::Step(c), m.over, m.count, m.cores);
+        if in_place(by_rule, t) {
+            let k = t as usize;
+            let first = m.threads[k];
+            let mut position = first.position;
+            let mut units = m.units;
+            // the core's steps one after another: the thread's position and the units go back to the machine behind the last one
+            loop {
+                let record = m.threads[k];
+                let th = moved_to(record, position);
+                let own = own_step(
+                    th,
+                    units,
+                    image,
+                    starts,
+                    parameters,
+                    words,
+                    memory,
+                    allowance,
+                );
+                match own {
+                    OwnStep::Moved(behind, more) => {
+                        log[number] = 0;
+                        number = number + 1;
+                        at = at + 2;
+                        position = behind;
+                        units = more;
+                        let next = step_core(schedule, at);
+                        if next == c {
+                            continue;
+                        }
+                        m.threads[k].position = position;
+                        m.units = units;
+                        m.log = 0;
+                        continue 'entries;
+                    }
+                    OwnStep::Joined(behind, more) => {
+                        m.threads[k] = joined_at(th, behind);
+                        m.units = more;
+                        m.log = 0;
+                        log[number] = 0;
+                        number = number + 1;
+                        at = at + 2;
+                        continue 'entries;
+                    }
+                    OwnStep::Calls(e, r, d, a, behind, more) => {
+                        m.threads[k].position = position;
+                        m.units = units;
+                        let caller = m.threads[k];
+                        let call = begin_call(
+                            t,
+                            caller,
+                            r,
+                            d,
+                            a,
+                            e,
+                            behind,
+                            image,
+                            words,
+                            &m.stacklets.tops,
+                            &m.free_threads.places,
+                            m.free_threads.head,
+                            m.free_threads.len,
+                            &m.free_stacklets.places,
+                            m.free_stacklets.head,
+                            m.free_stacklets.len,
+                        );
+                        let n = call.number;
+                        let parent = call.parent;
+                        let child = call.child;
+                        if n < 32 {
+                            m.free_threads.head = call.numbers_head;
+                            m.free_threads.len = call.numbers_len;
+                            m.free_stacklets.head = call.places_head;
+                            m.free_stacklets.len = call.places_len;
+                            set_top(&mut m.stacklets.tops, call.stacklet, call.top);
+                            m.threads[k] = parent;
+                            m.threads[n as usize] = child;
+                            m.cores[(c % 4) as usize] = n;
+                            m.units = more;
+                            m.log = 0;
+                            log[number] = 0;
+                            number = number + 1;
+                            at = at + 2;
+                            continue 'entries;
+                        }
+                        by_rule = true;
+                        continue 'entries;
+                    }
+                    OwnStep::Ends(v, more) => {
+                        m.threads[k].position = position;
+                        m.units = units;
+                        let child = m.threads[k];
+                        let q = m.threads[(child.parent % 32) as usize];
+                        let end = end_call(child, q, v, words);
+                        let p = end.number;
+                        let parent = end.parent;
+                        if p < 32 {
+                            set_top(&mut m.stacklets.tops, end.stacklet, end.top);
+                            let places = m.free_stacklets;
+                            let places_len = put_last(
+                                &mut m.free_stacklets.places,
+                                places,
+                                end.stacklet,
+                                end.frees,
+                            );
+                            m.free_stacklets.len = places_len;
+                            let numbers = m.free_threads;
+                            let numbers_len = put_last(
+                                &mut m.free_threads.places,
+                                numbers,
+                                t,
+                                true,
+                            );
+                            m.free_threads.len = numbers_len;
+                            m.threads[k] = blank_thread();
+                            m.threads[p as usize] = parent;
+                            m.cores[(c % 4) as usize] = p;
+                            m.units = more;
+                            m.log = 0;
+                            log[number] = 0;
+                            number = number + 1;
+                            at = at + 2;
+                            continue 'entries;
+                        }
+                        by_rule = true;
+                        continue 'entries;
+                    }
+                    OwnStep::Other => {
+                        m.threads[k].position = position;
+                        m.units = units;
+                        by_rule = true;
+                        continue 'entries;
+                    }
+                }
+            }
+        }
         let found = read_at(schedule, at);
         match found {
             EntryRead::Found(entry, next) => {
-                let line = number;
-                at = next;
-                number = number + 1;
-                let t = stepping(entry, m.over, m.count, m.cores);
-                if t < 32 {
-                    let k = t as usize;
-                    let th = m.threads[k];
-                    let own = own_step(
-                        th,
-                        m.units,
-                        image,
-                        starts,
-                        parameters,
-                        words,
-                        memory,
-                        allowance,
-                    );
-                    match own {
-                        OwnStep::Moved(position, units) => {
-                            m.threads[k].position = position;
-                            m.units = units;
-                            m.log = 0;
-                            log[line] = 0;
-                            continue;
-                        }
-                        OwnStep::Joined(position, units) => {
-                            m.threads[k] = joined_at(th, position);
-                            m.units = units;
-                            m.log = 0;
-                            log[line] = 0;
-                            continue;
-                        }
-                        OwnStep::Calls(e, r, d, a, behind, units) => {
-                            let caller = m.threads[k];
-                            let call = begin_call(
-                                t,
-                                caller,
-                                r,
-                                d,
-                                a,
-                                e,
-                                behind,
-                                image,
-                                words,
-                                &m.stacklets.tops,
-                                &m.free_threads.places,
-                                m.free_threads.head,
-                                m.free_threads.len,
-                                &m.free_stacklets.places,
-                                m.free_stacklets.head,
-                                m.free_stacklets.len,
-                            );
-                            let n = call.number;
-                            let parent = call.parent;
-                            let child = call.child;
-                            if n < 32 {
-                                m.free_threads.head = call.numbers_head;
-                                m.free_threads.len = call.numbers_len;
-                                m.free_stacklets.head = call.places_head;
-                                m.free_stacklets.len = call.places_len;
-                                set_top(&mut m.stacklets.tops, call.stacklet, call.top);
-                                m.threads[k] = parent;
-                                m.threads[n as usize] = child;
-                                m.cores[core_stepped(entry) as usize] = n;
-                                m.units = units;
-                                m.log = 0;
-                                log[line] = 0;
-                                continue;
-                            }
-                        }
-                        OwnStep::Ends(v, units) => {
-                            let child = m.threads[k];
-                            let q = m.threads[(child.parent % 32) as usize];
-                            let end = end_call(child, q, v, words);
-                            let p = end.number;
-                            let parent = end.parent;
-                            if p < 32 {
-                                set_top(&mut m.stacklets.tops, end.stacklet, end.top);
-                                let places = m.free_stacklets;
-                                let places_len = put_last(
-                                    &mut m.free_stacklets.places,
-                                    places,
-                                    end.stacklet,
-                                    end.frees,
-                                );
-                                m.free_stacklets.len = places_len;
-                                let numbers = m.free_threads;
-                                let numbers_len = put_last(
-                                    &mut m.free_threads.places,
-                                    numbers,
-                                    t,
-                                    true,
-                                );
-                                m.free_threads.len = numbers_len;
-                                m.threads[k] = blank_thread();
-                                m.threads[p as usize] = parent;
-                                m.cores[core_stepped(entry) as usize] = p;
-                                m.units = units;
-                                m.log = 0;
-                                log[line] = 0;
-                                continue;
-                            }
-                        }
-                        OwnStep::Other => {}
-                    }
-                }
                 m = m.entry(entry, image, starts, parameters, words, memory, allowance);
-                log[line] = m.log;
+                log[number] = m.log;
+                number = number + 1;
+                at = next;
+                by_rule = false;
             }
             EntryRead::End => return m,
             EntryRead::Malformed => return m,

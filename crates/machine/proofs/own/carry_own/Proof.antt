@@ -47,8 +47,8 @@ wrapping-add-u16-requires-4 c κs = search needs
 enum-told-2 : tie.Need-enum-told-2
 enum-told-2 c = search needs
 
-wrapping-add-u16-requires-5 : tie.Need-wrapping-add-u16-requires-5
-wrapping-add-u16-requires-5 c κs = search needs
+join-own-requires : tie.Need-join-own-requires
+join-own-requires c κs = search needs
 
 enum-told-3 : tie.Need-enum-told-3
 enum-told-3 c = search needs
@@ -56,8 +56,8 @@ enum-told-3 c = search needs
 enum-known-effect-5 : tie.Need-enum-known-effect-5
 enum-known-effect-5 c = search needs
 
-wrapping-add-u16-requires-6 : tie.Need-wrapping-add-u16-requires-6
-wrapping-add-u16-requires-6 c κs = search needs
+wrapping-add-u16-requires-5 : tie.Need-wrapping-add-u16-requires-5
+wrapping-add-u16-requires-5 c κs = search needs
 
 enum-told-4 : tie.Need-enum-told-4
 enum-told-4 c = search needs
@@ -105,7 +105,7 @@ returns-5 c = rw (c .before .enum-told .given .1) (record { answer = rw (c .wrap
 
 returns-6 : tie.Need-returns-6
 unfolding ownBy
-returns-6 c = rw (c .before .enum-told2 .given .1) (record { answer = rw (c .wrapping-add-u165 .ensures); words = refl; memory = refl })
+returns-6 c = rw (c .before .enum-told2 .given .1) (record { answer = c .join-own .ensures; words = refl; memory = refl })
 
 returns-7 : tie.Need-returns-7
 unfolding ownBy
@@ -113,7 +113,7 @@ returns-7 c = rw (c .enum-told3 .given .1) (record { answer = refl; words = refl
 
 returns-8 : tie.Need-returns-8
 unfolding ownBy
-returns-8 c = rw (c .before .before .effect5 .given .1) (record { answer = rw (c .wrapping-add-u166 .ensures); words = refl; memory = refl })
+returns-8 c = rw (c .before .before .effect5 .given .1) (record { answer = rw (c .wrapping-add-u165 .ensures); words = refl; memory = refl })
 
 returns-9 : tie.Need-returns-9
 unfolding ownBy
@@ -149,10 +149,10 @@ carry-own-spec =
     enum-told
     wrapping-add-u16-requires-4
     enum-told-2
-    wrapping-add-u16-requires-5
+    join-own-requires
     enum-told-3
     enum-known-effect-5
-    wrapping-add-u16-requires-6
+    wrapping-add-u16-requires-5
     enum-told-4
     enum-told-5
     enum-told-6

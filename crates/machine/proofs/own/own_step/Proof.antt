@@ -1,5 +1,5 @@
 -- `machine::own::own_step` meets its contract. Assumes nothing.
-use Rattle.machine.proofs.OwnWay.{own-waits, own-dear, own-carries}
+use Rattle.machine.proofs.OwnWay.{own-dear, own-carries}
 use borrow.Author.Needs.{needs}
 use Rattle.machine.proofs.own.own_step.Statement.{statement}
 use Rattle.machine.proofs.own.own_step.Tie as tie
@@ -7,14 +7,11 @@ use Rattle.machine.proofs.own.own_step.Tie as tie
 place-in-image-requires : tie.Need-place-in-image-requires
 place-in-image-requires c κs = search needs
 
-byte-at-requires : tie.Need-byte-at-requires
-byte-at-requires c κs = search needs
+five-at-requires : tie.Need-five-at-requires
+five-at-requires c κs = search needs
 
-must-wait-requires : tie.Need-must-wait-requires
-must-wait-requires c κs = search needs
-
-returns : tie.Need-returns
-returns c = own-waits _ _ _ _ _ _ _ _ _ _ _ (c .before .before .before .place-in-image .ensures) (c .before .before .byte-at .ensures) (c .before .must-wait .ensures) (c .if1 .taken)
+array-read-weight : tie.Need-array-read-weight
+array-read-weight c = search needs
 
 weight-requires : tie.Need-weight-requires
 weight-requires c κs = search needs
@@ -25,11 +22,11 @@ cast-cost c = search needs
 left-of-requires : tie.Need-left-of-requires
 left-of-requires c κs = search needs
 
-returns-2 : tie.Need-returns-2
-returns-2 c = own-dear _ _ _ _ _ _ _ _ _ _ _ (c .before .before .before .before .before .before .place-in-image .ensures) (c .before .before .before .before .before .byte-at .ensures) (c .before .before .before .before .must-wait .ensures) _ _ (c .before .before .before .if1 .left) (c .before .before .weight .ensures) (c .before .left-of .ensures) (c .if2 .taken)
+returns : tie.Need-returns
+returns c = own-dear _ _ _ _ _ _ _ _ _ _ _ _ (c .before .before .before .before .place-in-image .ensures) (c .before .before .before .five-at .ensures) (c .before .before .weight .ensures) (c .before .left-of .ensures) (c .if1 .taken)
 
-fetch-requires : tie.Need-fetch-requires
-fetch-requires c κs = search needs
+command-of-requires : tie.Need-command-of-requires
+command-of-requires c κs = search needs
 
 own-effect-requires : tie.Need-own-effect-requires
 own-effect-requires c κs = search needs
@@ -46,25 +43,24 @@ same-length c = search needs
 same-length-2 : tie.Need-same-length-2
 same-length-2 c = search needs
 
-returns-3 : tie.Need-returns-3
-returns-3 c = own-carries _ _ _ _ _ _ _ _ _ _ _ (c .before .before .before .before .before .before .before .before .before .before .before .before .before .before .before .before .before .place-in-image .ensures) (c .before .before .before .before .before .before .before .before .before .before .before .before .before .before .before .before .byte-at .ensures) (c .before .before .before .before .before .before .before .before .before .before .before .before .before .before .before .must-wait .ensures) _ _ (c .before .before .before .before .before .before .before .before .before .before .before .before .before .before .if1 .left) (c .before .before .before .before .before .before .before .before .before .before .before .before .before .weight .ensures) (c .before .before .before .before .before .before .before .before .before .before .before .before .left-of .ensures) (c .before .before .before .before .before .before .before .before .before .before .before .if2 .left) _ _ (c .before .before .before .before .before .before .before .before .before .fetch .ensures) (c .before .before .before .before .before .before .before .own-effect .ensures) _ _ _ (c .before .before .before .before .carry-own .ensures)
+returns-2 : tie.Need-returns-2
+returns-2 c = own-carries _ _ _ _ _ _ _ _ _ _ _ _ (c .before .before .before .before .before .before .before .before .before .before .before .before .before .before .before .place-in-image .ensures) (c .before .before .before .before .before .before .before .before .before .before .before .before .before .before .five-at .ensures) (c .before .before .before .before .before .before .before .before .before .before .before .before .before .weight .ensures) (c .before .before .before .before .before .before .before .before .before .before .before .before .left-of .ensures) (c .before .before .before .before .before .before .before .before .before .before .before .if1 .left) _ _ (c .before .before .before .before .before .before .before .before .before .command-of .ensures) (c .before .before .before .before .before .before .before .own-effect .ensures) _ _ _ (c .before .before .before .before .carry-own .ensures)
 
 pub own-step-spec : {M : Type 1} → statement M
 own-step-spec =
     tie.close
     (tie.spec
     place-in-image-requires
-    byte-at-requires
-    must-wait-requires
-    returns
+    five-at-requires
+    array-read-weight
     weight-requires
     cast-cost
     left-of-requires
-    returns-2
-    fetch-requires
+    returns
+    command-of-requires
     own-effect-requires
     add-carry-own
     carry-own-requires
     same-length
     same-length-2
-    returns-3)
+    returns-2)

@@ -1,0 +1,2 @@
+-- The definition that a contract of `reader` cites.
+pub mod StepCore
