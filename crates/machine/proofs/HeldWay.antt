@@ -1,9 +1,12 @@
 -- A loop that carries out a thread's steps one after another holds the thread's position and the units apart from the machine. What the next
 -- step leads to, said of the machine with what is held. Assumes nothing.
+use borrow.Author.Tests.{ltb-true}
+use mathlib.Core.Bool.{Bool, true, false, cond, not, _&&_}
 use mathlib.Core.List.{List}
 use mathlib.Core.Path.{_≡_, refl, sym, _∙_, ap}
-use Prim.Native.Nat.{ℕ, _%_, _<_}
+use Prim.Native.Nat.{ℕ, _%_, _≤_, _<_}
 use native.Mathlib.Omega.{arith}
+use lib.Dec.{ltb}
 use lib.ListN.{length, set, length-set}
 use lib.Seq.{set-getD, set-set, getD-set-same}
 use Rattle.schedule.specs.declared.Entry.the-variants.{Step}
@@ -18,6 +21,19 @@ use Rattle.machine.specs.Sound.{Sound}
 use Rattle.machine.specs.Own.{steppingOf, Owned, ownOf}
 use Rattle.machine.proofs.Way.{record-of}
 use Rattle.machine.proofs.OwnWay.{onward, Means, own-entry}
+
+-- a step is met again once at most: by the rule, where it was found to be none that is carried out in place
+abbrev pub again : Bool → ℕ
+again b = cond b 0 1
+
+pub again-few : (b : Bool) → again b ≤ 1
+again-few true = omega arith
+again-few false = omega arith
+
+-- the test before a thread is stepped
+pub may-own : (b : Bool) (t : ℕ) (r : Bool) → r ≡ (not b && ltb t 32) → r ≡ true → (again b ≡ 1) × (t < 32)
+may-own false t r h e = (refl, ltb-true t 32 (sym h ∙ e))
+may-own true t r h e = let no : false ≡ true = sym h ∙ e in let z : _≡_ {A = ℕ} 0 1 = cc in absurd (omega arith)
 
 -- the machine with what is held: thread t's position, and the units
 abbrev pub holding : Machine → ℕ → ℕ → ℕ → Machine

@@ -15,7 +15,9 @@ use std::num::wrapping_add_u16;
 use thread::Effect;
 use thread::Thread;
 use thread::effects::own_effect;
+ghost use mathlib.Core.Bool.{_&&_, not};
 ghost use mathlib.Core.Path.{_≡_};
+ghost use lib.Dec.{ltb};
 ghost use Rattle.machine.specs.State.{jobOf};
 ghost use Rattle.machine.specs.Own.{steppingOf, Owned, joinBy, ownBy, ownOf};
 
@@ -40,6 +42,17 @@ pub fn stepping(entry: Entry, over: u8, count: u8, cores: [u8; 4]) -> u8
         Entry::Steal(_, _) => 32,
         Entry::Enable(_) => 32,
     }
+}
+
+// May the thread that is stepped meet its command in place? A loop asks this, and notes in `by_rule` that the command was found to be none
+// that is carried out so.
+pub fn in_place(by_rule: bool, t: u8) -> bool
+    ensures { λ r. ⌜ r ≡ (not «by_rule» && ltb t 32) ⌝ }
+{
+    if by_rule {
+        return false;
+    }
+    t < 32
 }
 
 // A join passes where the thread has no child.

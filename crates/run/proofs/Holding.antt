@@ -1,7 +1,7 @@
 -- A thread's steps one after another, with its position and the units held apart from the machine: what is left of the schedule behind
 -- each. Assumes nothing.
-use borrow.Author.Tests.{ltb-true, not-true}
-use mathlib.Core.Bool.{Bool, true, false, cond, not, _&&_}
+use borrow.Author.Tests.{ltb-true}
+use mathlib.Core.Bool.{Bool, true, false, cond, _&&_}
 use mathlib.Core.List.{List}
 use mathlib.Core.Path.{_≡_, refl, sym, _∙_, ap}
 use Prim.Native.Nat.{ℕ, _+_, _%_, _≤_, _<_}
@@ -31,7 +31,6 @@ use Rattle.machine.proofs.Way.{record-of}
 use Rattle.machine.proofs.OwnWay.{onward}
 use Rattle.machine.proofs.HeldWay.{holding, holds-own, HeldMeans, held-entry}
 use Rattle.machine.proofs.CallWay.{CallWrites, FinishWrites, called, finished}
-use Rattle.soundness.proofs.EntryCases.{and-true}
 use Rattle.run.proofs.Playing.{Left, has-room, goes}
 
 -- thread t is stepped by the entry at `at`, a step of core c, with its position and the units held apart from the machine m
@@ -129,17 +128,3 @@ module _ (schedule : List ℕ) (at c : ℕ) (told : c ≡ stepCoreOf (entryAt sc
       small = small;
       left = left;
     }
-
--- a step is met again once at most: by the rule, where it was found to be none that is carried out in place
-abbrev pub again : Bool → ℕ
-again b = cond b 0 1
-
-pub again-few : (b : Bool) → again b ≤ 1
-again-few true = omega arith
-again-few false = omega arith
-
--- the test before a thread is stepped
-pub may-own : (b : Bool) (t : ℕ) (r : Bool) → r ≡ (not b && ltb t 32) → r ≡ true → (again b ≡ 1) × (t < 32)
-may-own b t r h e =
-    let (n, l) = and-true (not b) (ltb t 32) (sym h ∙ e) in
-    (ap again (not-true b n), ltb-true t 32 l)

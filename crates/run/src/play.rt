@@ -3,6 +3,7 @@ use machine::Machine;
 use machine::OwnStep;
 use machine::calling::begin_call;
 use machine::calling::end_call;
+use machine::own::in_place;
 use machine::own::own_step;
 use machine::own::stepping;
 use queue::put_last;
@@ -14,21 +15,9 @@ use stacklets::set_top;
 use thread::record::blank_thread;
 use thread::record::joined_at;
 use thread::record::moved_to;
-ghost use mathlib.Core.Bool.{_&&_, not};
 ghost use mathlib.Core.Path.{_≡_};
-ghost use lib.Dec.{ltb};
 ghost use Rattle.machine.specs.State.{jobOf, meaning};
 ghost use Rattle.run.specs.Run.{Playable, Played};
-
-// Is a thread stepped that may meet its command in place?
-fn in_place(by_rule: bool, t: u8) -> bool
-    ensures { λ r. ⌜ r ≡ (not «by_rule» && ltb t 32) ⌝ }
-{
-    if by_rule {
-        return false;
-    }
-    t < 32
-}
 
 // The machine meets the schedule's entries one after another; each leaves its log byte at its number.
 pub fn play(

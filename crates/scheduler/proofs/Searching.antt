@@ -6,7 +6,7 @@ use mathlib.Core.Path.{_≡_, refl, sym, _∙_}
 use Prim.Native.Nat.{ℕ, zero, suc, _+_, _-_, _≤_, _<_}
 use native.Mathlib.Numerals.{add-one, sub-one}
 use native.Mathlib.Omega.{arith}
-use lib.Dec.{eqb}
+use lib.Dec.{eqb, ltb}
 use lib.ListN.{getD}
 use Rattle.schedule.specs.declared.Entry.{Entry}
 use Rattle.schedule.specs.declared.Entry.the-variants.{Step}
@@ -24,14 +24,14 @@ module _ (j : Job) (s : State) where
   unfolding isSeed
   seed-is t b l e = rw (lt-ltb t 32 l) (sym e)
 
-  -- a busy core and an idle one
+  -- a busy core, and any
   pub busy : (c : ℕ) (e : Entry) → onCore s c < 32 → e ≡ Step c → e ≡ choiceOf j s c
   unfolding choiceOf
   busy c e l h = h ∙ rw (lt-ltb _ _ l)
 
-  pub idle : (c : ℕ) (e : Entry) → 32 ≤ onCore s c → e ≡ idleChoice j s c → e ≡ choiceOf j s c
+  pub chosen : (c : ℕ) (e : Entry) → e ≡ cond (ltb (onCore s c) 32) (Step c) (idleChoice j s c) → e ≡ choiceOf j s c
   unfolding choiceOf
-  idle c e l h = h ∙ rw (le-ltb _ _ l)
+  chosen c e h = h
 
   -- up one chain
   pub stops : (n t : ℕ) → 32 ≤ t → seedAbove n j s t ≡ none

@@ -48,6 +48,13 @@ test-failed m left b h t = by (eqb (m .over) 0) refl (sym h ∙ t)
     by true e f = inr (leb-false 3 left f)
     by false e f = inl (over-true m (eqb-false (m .over) 0 e))
 
+-- the test behind a step of a machine's only core
+pub round-ends : (count over left : ℕ) (b : Bool) → b ≡ (eqb count 1 && (eqb over 0 && leb 3 left)) → b ≡ true → (count ≡ 1) × (3 ≤ left)
+round-ends count over left b h t =
+    let (one, more) = and-true (eqb count 1) (eqb over 0 && leb 3 left) (sym h ∙ t) in
+    let (o, l) = and-true (eqb over 0) (leb 3 left) more in
+    (eqb-true count 1 one, leb-true 3 left l)
+
 or-none : (b : Bool) (n : ℕ) → isWritten n ≡ false → (b || eqb n 0) ≡ b
 or-none b n h = go (eqb n 0) h b
   where

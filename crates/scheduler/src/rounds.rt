@@ -1,11 +1,12 @@
 // The rounds: each core in turn tries an entry, and what is accepted or faults is written.
-use crate::search::idle_choice;
+use crate::search::choice;
 use crate::search::is_nothing;
 use crate::search::lowest_suspended;
 use machine::Machine;
 use machine::OwnStep;
 use machine::calling::begin_call;
 use machine::calling::end_call;
+use machine::own::in_place;
 use machine::own::own_step;
 use queue::put_last;
 use schedule::Entry;
@@ -13,6 +14,7 @@ use schedule::Written;
 use stacklets::set_top;
 use thread::record::blank_thread;
 use thread::record::joined_at;
+use thread::record::moved_to;
 ghost use mathlib.Core.Bool.{_&&_, _||_};
 ghost use mathlib.Core.Path.{_≡_};
 ghost use Prim.Native.Nat.{_+_, _≤_};
@@ -93,6 +95,16 @@ fn keep(entry: Entry, log: u8, buffer: &mut [u8], at: usize) -> usize
     }
 }
 
+// Does a step by a machine's only core end a round that another follows? The next try is then the same core's.
+fn goes_on(count: u8, over: u8, left: usize) -> bool
+    ensures { λ r. ⌜ r ≡ (eqb count 1 && (eqb over 0 && leb 3 left)) ⌝ }
+{
+    if count != 1 {
+        return false;
+    }
+    may_try(over, left)
+}
+
 // Rounds until the machine is over, the buffer is used up or nothing can be enabled.
 pub fn play_rounds(
     start: Machine,
@@ -111,147 +123,171 @@ pub fn play_rounds(
     let room = usable_of(buffer.len());
     let mut m = start;
     let mut at: usize = 0;
-    loop {
-        let mut moved = false;
-        let mut c: u8 = 0;
-        while c < count {
-            if !may_try(m.over, room - at) {
-                return End {
-                    machine: m,
-                    used: at,
-                };
-            }
-            let t = m.cores[c as usize];
-            let mut entry = Entry::Step(c);
-            if t < 32 {
-                let k = t as usize;
-                let th = m.threads[k];
-                let own = own_step(
-                    th,
-                    m.units,
-                    image,
-                    starts,
-                    parameters,
-                    words,
-                    memory,
-                    allowance,
-                );
-                // carried out in place where that is possible
-                match own {
-                    OwnStep::Moved(position, units) => {
-                        m.threads[k].position = position;
-                        m.units = units;
-                        m.log = 0;
-                        at = keep(entry, 0, buffer, at);
-                        moved = true;
-                        c = c + 1;
-                        continue;
-                    }
-                    OwnStep::Joined(position, units) => {
-                        m.threads[k] = joined_at(th, position);
-                        m.units = units;
-                        m.log = 0;
-                        at = keep(entry, 0, buffer, at);
-                        moved = true;
-                        c = c + 1;
-                        continue;
-                    }
-                    OwnStep::Calls(e, r, d, a, behind, units) => {
-                        let caller = m.threads[k];
-                        let call = begin_call(
-                            t,
-                            caller,
-                            r,
-                            d,
-                            a,
-                            e,
-                            behind,
-                            image,
-                            words,
-                            &m.stacklets.tops,
-                            &m.free_threads.places,
-                            m.free_threads.head,
-                            m.free_threads.len,
-                            &m.free_stacklets.places,
-                            m.free_stacklets.head,
-                            m.free_stacklets.len,
-                        );
-                        let n = call.number;
-                        let parent = call.parent;
-                        let child = call.child;
-                        if n < 32 {
-                            m.free_threads.head = call.numbers_head;
-                            m.free_threads.len = call.numbers_len;
-                            m.free_stacklets.head = call.places_head;
-                            m.free_stacklets.len = call.places_len;
-                            set_top(&mut m.stacklets.tops, call.stacklet, call.top);
-                            m.threads[k] = parent;
-                            m.threads[n as usize] = child;
-                            m.cores[(c % 4) as usize] = n;
-                            m.units = units;
-                            m.log = 0;
-                            at = keep(entry, 0, buffer, at);
-                            moved = true;
-                            c = c + 1;
-                            continue;
-                        }
-                    }
-                    OwnStep::Ends(v, units) => {
-                        let child = m.threads[k];
-                        let q = m.threads[(child.parent % 32) as usize];
-                        let end = end_call(child, q, v, words);
-                        let p = end.number;
-                        let parent = end.parent;
-                        if p < 32 {
-                            set_top(&mut m.stacklets.tops, end.stacklet, end.top);
-                            let places = m.free_stacklets;
-                            let places_len = put_last(
-                                &mut m.free_stacklets.places,
-                                places,
-                                end.stacklet,
-                                end.frees,
-                            );
-                            m.free_stacklets.len = places_len;
-                            let numbers = m.free_threads;
-                            let numbers_len = put_last(
-                                &mut m.free_threads.places,
-                                numbers,
-                                t,
-                                true,
-                            );
-                            m.free_threads.len = numbers_len;
-                            m.threads[k] = blank_thread();
-                            m.threads[p as usize] = parent;
-                            m.cores[(c % 4) as usize] = p;
-                            m.units = units;
-                            m.log = 0;
-                            at = keep(entry, 0, buffer, at);
-                            moved = true;
-                            c = c + 1;
-                            continue;
-                        }
-                    }
-                    OwnStep::Other => {}
-                }
-            } else {
-                entry = idle_choice(m, c, image, starts);
-                if is_nothing(entry) {
-                    c = c + 1;
-                    continue;
-                }
-            }
-            m = m.entry(entry, image, starts, parameters, words, memory, allowance);
-            at = keep(entry, m.log, buffer, at);
-            moved = is_moved(moved, m.log);
-            c = c + 1;
-        }
+    // the core that is next in this round, and whether an entry of this round was accepted
+    let mut c: u8 = 0;
+    let mut moved = false;
+    // whether the step that is next was found to be none that is carried out in place
+    let mut by_rule = false;
+    'tries: loop {
         if !may_try(m.over, room - at) {
             return End {
                 machine: m,
                 used: at,
             };
         }
+        if c < count {
+            let t = m.cores[c as usize];
+            if in_place(by_rule, t) {
+                let k = t as usize;
+                let first = m.threads[k];
+                let mut position = first.position;
+                let mut units = m.units;
+                // the steps of a machine's only core one after another: the thread's position and the units go back to the machine behind the last one
+                loop {
+                    let record = m.threads[k];
+                    let th = moved_to(record, position);
+                    let own = own_step(
+                        th,
+                        units,
+                        image,
+                        starts,
+                        parameters,
+                        words,
+                        memory,
+                        allowance,
+                    );
+                    match own {
+                        OwnStep::Moved(behind, more) => {
+                            at = keep(Entry::Step(c), 0, buffer, at);
+                            position = behind;
+                            units = more;
+                            if goes_on(count, m.over, room - at) {
+                                moved = false;
+                                continue;
+                            }
+                            m.threads[k].position = position;
+                            m.units = units;
+                            m.log = 0;
+                            moved = true;
+                            c = c + 1;
+                            continue 'tries;
+                        }
+                        OwnStep::Joined(behind, more) => {
+                            m.threads[k] = joined_at(th, behind);
+                            m.units = more;
+                            m.log = 0;
+                            at = keep(Entry::Step(c), 0, buffer, at);
+                            moved = true;
+                            c = c + 1;
+                            continue 'tries;
+                        }
+                        OwnStep::Calls(e, r, d, a, behind, more) => {
+                            m.threads[k].position = position;
+                            m.units = units;
+                            let caller = m.threads[k];
+                            let call = begin_call(
+                                t,
+                                caller,
+                                r,
+                                d,
+                                a,
+                                e,
+                                behind,
+                                image,
+                                words,
+                                &m.stacklets.tops,
+                                &m.free_threads.places,
+                                m.free_threads.head,
+                                m.free_threads.len,
+                                &m.free_stacklets.places,
+                                m.free_stacklets.head,
+                                m.free_stacklets.len,
+                            );
+                            let n = call.number;
+                            let parent = call.parent;
+                            let child = call.child;
+                            if n < 32 {
+                                m.free_threads.head = call.numbers_head;
+                                m.free_threads.len = call.numbers_len;
+                                m.free_stacklets.head = call.places_head;
+                                m.free_stacklets.len = call.places_len;
+                                set_top(&mut m.stacklets.tops, call.stacklet, call.top);
+                                m.threads[k] = parent;
+                                m.threads[n as usize] = child;
+                                m.cores[(c % 4) as usize] = n;
+                                m.units = more;
+                                m.log = 0;
+                                at = keep(Entry::Step(c), 0, buffer, at);
+                                moved = true;
+                                c = c + 1;
+                                continue 'tries;
+                            }
+                            by_rule = true;
+                            continue 'tries;
+                        }
+                        OwnStep::Ends(v, more) => {
+                            m.threads[k].position = position;
+                            m.units = units;
+                            let child = m.threads[k];
+                            let q = m.threads[(child.parent % 32) as usize];
+                            let end = end_call(child, q, v, words);
+                            let p = end.number;
+                            let parent = end.parent;
+                            if p < 32 {
+                                set_top(&mut m.stacklets.tops, end.stacklet, end.top);
+                                let places = m.free_stacklets;
+                                let places_len = put_last(
+                                    &mut m.free_stacklets.places,
+                                    places,
+                                    end.stacklet,
+                                    end.frees,
+                                );
+                                m.free_stacklets.len = places_len;
+                                let numbers = m.free_threads;
+                                let numbers_len = put_last(
+                                    &mut m.free_threads.places,
+                                    numbers,
+                                    t,
+                                    true,
+                                );
+                                m.free_threads.len = numbers_len;
+                                m.threads[k] = blank_thread();
+                                m.threads[p as usize] = parent;
+                                m.cores[(c % 4) as usize] = p;
+                                m.units = more;
+                                m.log = 0;
+                                at = keep(Entry::Step(c), 0, buffer, at);
+                                moved = true;
+                                c = c + 1;
+                                continue 'tries;
+                            }
+                            by_rule = true;
+                            continue 'tries;
+                        }
+                        OwnStep::Other => {
+                            m.threads[k].position = position;
+                            m.units = units;
+                            by_rule = true;
+                            continue 'tries;
+                        }
+                    }
+                }
+            }
+            let entry = choice(t, m, c, image, starts);
+            by_rule = false;
+            if is_nothing(entry) {
+                c = c + 1;
+                continue;
+            }
+            m = m.entry(entry, image, starts, parameters, words, memory, allowance);
+            at = keep(entry, m.log, buffer, at);
+            moved = is_moved(moved, m.log);
+            c = c + 1;
+            continue;
+        }
+        c = 0;
         if moved {
+            moved = false;
             continue;
         }
         let t = lowest_suspended(m.threads);

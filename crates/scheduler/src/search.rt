@@ -5,12 +5,13 @@ use schedule::Entry;
 use thread::Status;
 use thread::Thread;
 use thread::record::same_status;
-ghost use mathlib.Core.Bool.{_&&_, _||_};
+ghost use mathlib.Core.Bool.{cond, _&&_, _||_};
 ghost use mathlib.Core.List.{List};
 ghost use mathlib.Core.Path.{_≡_};
 ghost use Prim.Native.Nat.{ℕ, _+_, _≤_};
-ghost use lib.Dec.{eqb};
+ghost use lib.Dec.{eqb, ltb};
 ghost use lib.ListN.{getD};
+ghost use Rattle.schedule.specs.declared.Entry.the-variants.{Step};
 ghost use Rattle.thread.specs.declared.Status.the-variants.{Lent};
 ghost use Rattle.thread.specs.Thread.{_is_};
 ghost use Rattle.machine.specs.State.{jobOf, meaning};
@@ -85,7 +86,7 @@ fn find_seed(m: Machine, image: &[u8], starts: &[u16]) -> u8
 }
 
 // What an idle core c tries.
-pub fn idle_choice(m: Machine, c: u8, image: &[u8], starts: &[u16]) -> Entry
+fn idle_choice(m: Machine, c: u8, image: &[u8], starts: &[u16]) -> Entry
     requires { ⌜ m .count ≤ 4 ⌝ }
     ensures { λ r. ⌜ ((parameters words memory : List ℕ) (allowance : ℕ) → r ≡ idleChoice (jobOf (now (image .entry)) (now (starts .entry)) parameters allowance) (meaning m words memory) c) ⌝ }
 {
@@ -94,6 +95,17 @@ pub fn idle_choice(m: Machine, c: u8, image: &[u8], starts: &[u16]) -> Entry
         return Entry::Take(c);
     }
     Entry::Steal(c, find_seed(m, image, starts))
+}
+
+// What core c tries, on which thread t runs; none does where t is 32 or more.
+pub fn choice(t: u8, m: Machine, c: u8, image: &[u8], starts: &[u16]) -> Entry
+    requires { ⌜ m .count ≤ 4 ⌝ }
+    ensures { λ r. ⌜ ((parameters words memory : List ℕ) (allowance : ℕ) → r ≡ cond (ltb t 32) (Step c) (idleChoice (jobOf (now (image .entry)) (now (starts .entry)) parameters allowance) (meaning m words memory) c)) ⌝ }
+{
+    if t < NONE {
+        return Entry::Step(c);
+    }
+    idle_choice(m, c, image, starts)
 }
 
 // Is this the steal of no thread, which is no try?

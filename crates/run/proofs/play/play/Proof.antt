@@ -12,7 +12,8 @@ use Rattle.schedule.proofs.Following.{read-malformed}
 use Rattle.machine.specs.declared.OwnStep.the-variants.{Moved, Joined, Calls, Ends, Other}
 use Rattle.machine.specs.State.{State, jobOf, meaning, after}
 use Rattle.run.proofs.Playing.{Left, begins, has-room, goes, ends}
-use Rattle.run.proofs.Holding.{Held, held-goes, held-room, held-within, holds, holds-on, again, again-few, may-own}
+use Rattle.machine.proofs.HeldWay.{again, again-few, may-own}
+use Rattle.run.proofs.Holding.{Held, held-goes, held-room, held-within, holds, holds-on}
 use Rattle.run.proofs.play.play.Statement.{statement}
 use Rattle.run.proofs.play.play.Tie as tie
 

@@ -1,8 +1,8 @@
--- `run::play::in_place` meets its contract. Assumes nothing.
+-- `machine::own::in_place` meets its contract. Assumes nothing.
 use mathlib.Core.Path.{refl}
 use borrow.Author.Needs.{needs}
-use Rattle.run.proofs.play.in_place.Statement.{statement}
-use Rattle.run.proofs.play.in_place.Tie as tie
+use Rattle.machine.proofs.own.in_place.Statement.{statement}
+use Rattle.machine.proofs.own.in_place.Tie as tie
 
 returns : tie.Need-returns
 returns c = search needs
