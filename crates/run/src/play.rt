@@ -40,15 +40,15 @@ pub fn play(
     // whether the step that is next was found to be none that is carried out in place
     let mut by_rule = false;
     'entries: loop {
-        let c = step_core(schedule, at);
-        let t = stepping(Entry::Step(c), m.over, m.count, m.cores);
+        let mut c = step_core(schedule, at);
+        let mut t = stepping(Entry::Step(c), m.over, m.count, m.cores);
         if in_place(by_rule, t) {
-            let k = t as usize;
-            let first = m.threads[k];
+            let first = m.threads[t as usize];
             let mut position = first.position;
             let mut units = m.units;
-            // the core's steps one after another: the thread's position and the units go back to the machine behind the last one
+            // steps one after another: the thread's position and the units go back to the machine behind the last one of a core
             loop {
+                let k = t as usize;
                 let record = m.threads[k];
                 let th = moved_to(record, position);
                 let own = own_step(
@@ -75,6 +75,15 @@ pub fn play(
                         m.threads[k].position = position;
                         m.units = units;
                         m.log = 0;
+                        // another core's step, which goes on in the same way
+                        let u = stepping(Entry::Step(next), m.over, m.count, m.cores);
+                        if u < 32 {
+                            let other = m.threads[u as usize];
+                            position = other.position;
+                            c = next;
+                            t = u;
+                            continue;
+                        }
                         continue 'entries;
                     }
                     OwnStep::Joined(behind, more) => {

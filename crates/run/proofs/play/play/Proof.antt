@@ -18,13 +18,13 @@ use Rattle.run.proofs.play.play.Statement.{statement}
 use Rattle.run.proofs.play.play.Tie as tie
 
 abbrev Inv-loop : tie.InvT-loop
-Inv-loop schedule log₀ image starts parameters words₀ memory₀ allowance m₀ at₀ number₀ by-rule₀ c t k position₀ units₀ log words memory m at number by-rule position units =
+Inv-loop schedule log₀ image starts parameters words₀ memory₀ allowance m₀ at₀ number₀ by-rule₀ c₀ t₀ position₀ units₀ log words memory m at number by-rule c t position units =
     (length log ≡ length log₀) × (length words ≡ length words₀) × (length memory ≡ length memory₀) × (at₀ ≤ at) × (t < 32)
     × ((s : State) (first : List ℕ) → Left (jobOf image starts parameters allowance) s schedule first (meaning m₀ words₀ memory₀) at₀ number₀ log₀
     → Held image starts parameters allowance s schedule first m c t position units words memory at number log)
 
 abbrev μ-loop : tie.MeasureT-loop
-μ-loop schedule log₀ image starts parameters words₀ memory₀ allowance m₀ at₀ number₀ by-rule₀ c t k position₀ units₀ log words memory m at number by-rule position units =
+μ-loop schedule log₀ image starts parameters words₀ memory₀ allowance m₀ at₀ number₀ by-rule₀ c₀ t₀ position₀ units₀ log words memory m at number by-rule c t position units =
     length schedule - at
 
 abbrev Inv-entries : tie.InvT-entries
@@ -48,11 +48,11 @@ stepping-requires c κs = search needs
 in-place-requires : tie.Need-in-place-requires Inv-loop μ-loop Inv-entries μ-entries
 in-place-requires c κs = search needs
 
-cast-k : tie.Need-cast-k Inv-loop μ-loop Inv-entries μ-entries
-cast-k c = search needs
+cast-first : tie.Need-cast-first Inv-loop μ-loop Inv-entries μ-entries
+cast-first c = omega (arith, may-own (c .before .before .before .before .before .entries .by-rule) (c .before .before .stepping .result) (c .before .in-place .result) (c .before .in-place .ensures) (c .if1 .taken) .1)
 
 mul-first : tie.Need-mul-first Inv-loop μ-loop Inv-entries μ-entries
-mul-first c = search needs
+mul-first c = omega (arith, may-own (c .before .before .before .before .before .entries .by-rule) (c .before .before .stepping .result) (c .before .in-place .result) (c .before .in-place .ensures) (c .if1 .taken) .1)
 
 element-copy-out-first : tie.Need-element-copy-out-first Inv-loop μ-loop Inv-entries μ-entries
 element-copy-out-first c = may-own (c .before .before .before .before .before .entries .by-rule) (c .before .before .stepping .result) (c .before .in-place .result) (c .before .in-place .ensures) (c .if1 .taken) .1
@@ -67,6 +67,9 @@ loop-holds c =
       small,
       λ s first left. holds _ _ _ (c .before .before .before .before .before .step-core .ensures) _ _ _ _ s first _ _ (c .before .before .before .stepping .ensures) small _ _ _ _ left,
     )
+
+cast-k : tie.Need-cast-k Inv-loop μ-loop Inv-entries μ-entries
+cast-k c = search needs
 
 mul-record : tie.Need-mul-record Inv-loop μ-loop Inv-entries μ-entries
 mul-record c = search needs
@@ -146,10 +149,50 @@ mul-m c = search needs
 way-write-given-m : tie.Need-way-write-given-m Inv-loop μ-loop Inv-entries μ-entries
 way-write-given-m c = search needs
 
+stepping-requires-2 : tie.Need-stepping-requires-2 Inv-loop μ-loop Inv-entries μ-entries
+stepping-requires-2 c κs = search needs
+
+cast-other : tie.Need-cast-other Inv-loop μ-loop Inv-entries μ-entries
+cast-other c = search needs
+
+mul-other : tie.Need-mul-other Inv-loop μ-loop Inv-entries μ-entries
+mul-other c = search needs
+
+element-copy-out-other : tie.Need-element-copy-out-other Inv-loop μ-loop Inv-entries μ-entries
+element-copy-out-other c = search needs
+
+loop-less-2 : tie.Need-loop-less-2 Inv-loop μ-loop Inv-entries μ-entries
+loop-less-2 c =
+    let l = c .before .before .before .before .before .before .before .before .before .before .before .before .before .before .before .before .before .before .before in
+    let e = c .before .before .before .before .before .before .before .before .before .before .before .before .before .before .before .before .before .before .before .before .before .before .before .before .before .before in
+    let i = l .loop .inv in
+    let o = e .entries .inv in
+    let held = i .5 _ _ (o .3) in
+    omega (arith, held-within _ _ _ _ _ _ _ _ _ _ _ _ _ _ _ _ _ held)
+
+loop-again-2 : tie.Need-loop-again-2 Inv-loop μ-loop Inv-entries μ-entries
+unfolding meaning
+loop-again-2 c =
+    let l = c .before .before .before .before .before .before .before .before .before .before .before .before .before .before .before .before .before .before .before in
+    let e = c .before .before .before .before .before .before .before .before .before .before .before .before .before .before .before .before .before .before .before .before .before .before .before .before .before .before in
+    let i = l .loop .inv in
+    let o = e .entries .inv in
+    let kept = c .before .before .before .before .before .before .before .before .before .before .before .before .before .before .own-step .kept .1 .1 .1 .1 .1 in (
+      rw length-set (i .0),
+      kept .0 ∙ i .1,
+      kept .1 .0 ∙ i .2,
+      omega (arith, i .3),
+      c .before .if3 .taken,
+      λ s first left.
+          let held = i .5 s first left in
+          holds _ _ _ (c .before .before .before .before .before .before .step-core2 .ensures) _ _ _ _ s first _ _ (c .before .before .stepping2 .ensures) (c .before .if3 .taken) _ _ _ _
+          (held-goes _ _ _ _ _ _ _ _ _ _ _ _ _ _ _ _ _ held (Moved _ _) _ _ (rw (c .before .before .before .before .before .before .before .before .before .before .before .before .before .before .before .before .before .moved-to .ensures, c .before .before .before .before .before .before .before .before .own .given .1) at (c .before .before .before .before .before .before .before .before .before .before .before .before .before .before .own-step .ensures))),
+    )
+
 entries-less : tie.Need-entries-less Inv-loop μ-loop Inv-entries μ-entries
 entries-less c =
-    let l = c .before .before .before .before .before .before .before .before .before .before .before .before .before .before .before in
-    let e = c .before .before .before .before .before .before .before .before .before .before .before .before .before .before .before .before .before .before .before .before .before .before in
+    let l = c .before .before .before .before .before .before .before .before .before .before .before .before .before .before .before .before .before .before in
+    let e = c .before .before .before .before .before .before .before .before .before .before .before .before .before .before .before .before .before .before .before .before .before .before .before .before .before in
     let i = l .loop .inv in
     let o = e .entries .inv in
     let held = i .5 _ _ (o .3) in
@@ -158,13 +201,13 @@ entries-less c =
 entries-again : tie.Need-entries-again Inv-loop μ-loop Inv-entries μ-entries
 unfolding meaning
 entries-again c =
-    let l = c .before .before .before .before .before .before .before .before .before .before .before .before .before .before .before in
-    let e = c .before .before .before .before .before .before .before .before .before .before .before .before .before .before .before .before .before .before .before .before .before .before in
+    let l = c .before .before .before .before .before .before .before .before .before .before .before .before .before .before .before .before .before .before in
+    let e = c .before .before .before .before .before .before .before .before .before .before .before .before .before .before .before .before .before .before .before .before .before .before .before .before .before in
     let i = l .loop .inv in
     let o = e .entries .inv in
     let held = i .5 _ _ (o .3) in
-    let kept = c .before .before .before .before .before .before .before .before .before .before .own-step .kept .1 .1 .1 .1 .1 in
-    let left = held-goes _ _ _ _ _ _ _ _ _ _ _ _ _ _ _ _ _ held (Moved _ _) _ _ (rw (c .before .before .before .before .before .before .before .before .before .before .before .before .before .moved-to .ensures, c .before .before .before .before .own .given .1) at (c .before .before .before .before .before .before .before .before .before .before .own-step .ensures)) in
+    let kept = c .before .before .before .before .before .before .before .before .before .before .before .before .before .own-step .kept .1 .1 .1 .1 .1 in
+    let left = held-goes _ _ _ _ _ _ _ _ _ _ _ _ _ _ _ _ _ held (Moved _ _) _ _ (rw (c .before .before .before .before .before .before .before .before .before .before .before .before .before .before .before .before .moved-to .ensures, c .before .before .before .before .before .before .before .own .given .1) at (c .before .before .before .before .before .before .before .before .before .before .before .before .before .own-step .ensures)) in
     (rw length-set (i .0 ∙ o .0), kept .0 ∙ i .1 ∙ o .1, kept .1 .0 ∙ i .2 ∙ o .2, left)
 
 enum-known-own-2 : tie.Need-enum-known-own-2 Inv-loop μ-loop Inv-entries μ-entries
@@ -173,8 +216,8 @@ enum-known-own-2 c = search needs
 joined-at-requires : tie.Need-joined-at-requires Inv-loop μ-loop Inv-entries μ-entries
 joined-at-requires c κs = search needs
 
-mul-t76 : tie.Need-mul-t76 Inv-loop μ-loop Inv-entries μ-entries
-mul-t76 c = search needs
+mul-t88 : tie.Need-mul-t88 Inv-loop μ-loop Inv-entries μ-entries
+mul-t88 c = search needs
 
 element-set-from-m : tie.Need-element-set-from-m Inv-loop μ-loop Inv-entries μ-entries
 element-set-from-m c = search needs
@@ -314,7 +357,7 @@ entries-again-3 c =
     let held = i .5 _ _ (o .3) in
     let kept = c .before .before .before .before .before .before .before .before .before .before .before .before .before .before .before .before .before .before .before .before .before .before .before .before .before .before .own-step .kept .1 .1 .1 .1 .1 in
     let w = held-goes _ _ _ _ _ _ _ _ _ _ _ _ _ _ _ _ _ held (Calls _ _ _ _ _ _) _ _ (rw (c .before .before .before .before .before .before .before .before .before .before .before .before .before .before .before .before .before .before .before .before .before .before .before .before .before .before .before .before .before .moved-to .ensures, c .before .before .before .before .before .before .before .before .before .before .before .before .before .before .before .before .before .before .before .before .own3 .given .1) at (c .before .before .before .before .before .before .before .before .before .before .before .before .before .before .before .before .before .before .before .before .before .before .before .before .before .before .own-step .ensures)) in
-    let left = w .2 _ _ _ _ (record { seat = refl; above = c .set-top .ensures }) (c .before .before .before .before .before .before .before .before .before .before .before .begin-call .ensures .0 (c .before .before .before .before .before .before .if3 .taken)) in
+    let left = w .2 _ _ _ _ (record { seat = refl; above = c .set-top .ensures }) (c .before .before .before .before .before .before .before .before .before .before .before .begin-call .ensures .0 (c .before .before .before .before .before .before .if4 .taken)) in
     (rw length-set (i .0 ∙ o .0), c .before .before .before .before .before .before .before .before .before .before .before .begin-call .kept .1 .1 .1 .1 .1 .1 .1 .1 .0 ∙ kept .0 ∙ i .1 ∙ o .1, kept .1 .0 ∙ i .2 ∙ o .2, left)
 
 entries-less-4 : tie.Need-entries-less-4 Inv-loop μ-loop Inv-entries μ-entries
@@ -336,7 +379,7 @@ entries-again-4 c =
     let held = i .5 _ _ (o .3) in
     let kept = c .before .before .before .before .before .before .before .before .before .before .before .before .before .before .before .before .before .before .before .before .own-step .kept .1 .1 .1 .1 .1 in
     let w = held-goes _ _ _ _ _ _ _ _ _ _ _ _ _ _ _ _ _ held (Calls _ _ _ _ _ _) _ _ (rw (c .before .before .before .before .before .before .before .before .before .before .before .before .before .before .before .before .before .before .before .before .before .before .before .moved-to .ensures, c .before .before .before .before .before .before .before .before .before .before .before .before .before .before .own3 .given .1) at (c .before .before .before .before .before .before .before .before .before .before .before .before .before .before .before .before .before .before .before .before .own-step .ensures)) in
-    (i .0 ∙ o .0, c .before .before .before .before .before .begin-call .kept .1 .1 .1 .1 .1 .1 .1 .1 .0 ∙ kept .0 ∙ i .1 ∙ o .1, kept .1 .0 ∙ i .2 ∙ o .2, rw (c .before .before .before .before .before .begin-call .ensures .1 (c .if3 .left), w .0, w .1) (held .left))
+    (i .0 ∙ o .0, c .before .before .before .before .before .begin-call .kept .1 .1 .1 .1 .1 .1 .1 .1 .0 ∙ kept .0 ∙ i .1 ∙ o .1, kept .1 .0 ∙ i .2 ∙ o .2, rw (c .before .before .before .before .before .begin-call .ensures .1 (c .if4 .left), w .0, w .1) (held .left))
 
 enum-known-own-4 : tie.Need-enum-known-own-4 Inv-loop μ-loop Inv-entries μ-entries
 enum-known-own-4 c = search needs
@@ -377,8 +420,8 @@ put-last-requires-2 c κs = search needs
 blank-thread-requires : tie.Need-blank-thread-requires Inv-loop μ-loop Inv-entries μ-entries
 blank-thread-requires c κs = search needs
 
-mul-t126 : tie.Need-mul-t126 Inv-loop μ-loop Inv-entries μ-entries
-mul-t126 c = omega (arith, c .before .before .before .before .before .before .before .before .before .before .before .before .before .before .before .before .before .before .before .before .before .before .before .before .before .before .before .before .before .before .before .before .before .loop .inv .4)
+mul-t138 : tie.Need-mul-t138 Inv-loop μ-loop Inv-entries μ-entries
+mul-t138 c = omega (arith, c .before .before .before .before .before .before .before .before .before .before .before .before .before .before .before .before .before .before .before .before .before .before .before .before .before .before .before .before .before .before .before .before .before .loop .inv .4)
 
 element-set-from-m-2 : tie.Need-element-set-from-m-2 Inv-loop μ-loop Inv-entries μ-entries
 element-set-from-m-2 c = c .before .before .before .before .before .before .before .before .before .before .before .before .before .before .before .before .before .before .before .before .before .before .before .before .before .before .before .before .before .before .before .before .before .loop .inv .4
@@ -445,13 +488,13 @@ entries-again-5 c =
     let held = i .5 _ _ (o .3) in
     let kept = c .before .before .before .before .before .before .before .before .before .before .before .before .before .before .before .before .before .before .before .before .before .before .before .before .before .before .before .before .own-step .kept .1 .1 .1 .1 .1 in
     let w = held-goes _ _ _ _ _ _ _ _ _ _ _ _ _ _ _ _ _ held (Ends _ _) _ _ (rw (c .before .before .before .before .before .before .before .before .before .before .before .before .before .before .before .before .before .before .before .before .before .before .before .before .before .before .before .before .before .before .before .moved-to .ensures, c .before .before .before .before .before .before .before .before .before .before .before .before .before .before .before .before .before .before .before .before .before .before .own4 .given .1) at (c .before .before .before .before .before .before .before .before .before .before .before .before .before .before .before .before .before .before .before .before .before .before .before .before .before .before .before .before .own-step .ensures)) in
-    let left = w .2 _ _ _ _ _ _ _ _ (c .before .before .before .before .before .before .before .before .before .before .before .if4 .taken) refl (record {
+    let left = w .2 _ _ _ _ _ _ _ _ (c .before .before .before .before .before .before .before .before .before .before .before .if5 .taken) refl (record {
       seat = refl;
       freed = c .blank-thread .ensures;
       below = c .before .before .before .before .before .before .before .before .before .set-top2 .ensures;
       number = c .before .before .put-last2 .ensures refl;
       place = c .before .before .before .before .before .before .put-last .ensures refl;
-    }) (c .before .before .before .before .before .before .before .before .before .before .before .before .before .before .before .end-call .ensures .0 (c .before .before .before .before .before .before .before .before .before .before .before .if4 .taken)) in
+    }) (c .before .before .before .before .before .before .before .before .before .before .before .before .before .before .before .end-call .ensures .0 (c .before .before .before .before .before .before .before .before .before .before .before .if5 .taken)) in
     (rw length-set (i .0 ∙ o .0), c .before .before .before .before .before .before .before .before .before .before .before .before .before .before .before .end-call .kept .1 .1 .1 .0 ∙ kept .0 ∙ i .1 ∙ o .1, kept .1 .0 ∙ i .2 ∙ o .2, left)
 
 entries-less-6 : tie.Need-entries-less-6 Inv-loop μ-loop Inv-entries μ-entries
@@ -473,7 +516,7 @@ entries-again-6 c =
     let held = i .5 _ _ (o .3) in
     let kept = c .before .before .before .before .before .before .before .before .before .before .before .before .before .before .before .before .before .own-step .kept .1 .1 .1 .1 .1 in
     let w = held-goes _ _ _ _ _ _ _ _ _ _ _ _ _ _ _ _ _ held (Ends _ _) _ _ (rw (c .before .before .before .before .before .before .before .before .before .before .before .before .before .before .before .before .before .before .before .before .moved-to .ensures, c .before .before .before .before .before .before .before .before .before .before .before .own4 .given .1) at (c .before .before .before .before .before .before .before .before .before .before .before .before .before .before .before .before .before .own-step .ensures)) in
-    (i .0 ∙ o .0, c .before .before .before .before .end-call .kept .1 .1 .1 .0 ∙ kept .0 ∙ i .1 ∙ o .1, kept .1 .0 ∙ i .2 ∙ o .2, rw (c .before .before .before .before .end-call .ensures .1 (c .if4 .left), w .0, w .1) (held .left))
+    (i .0 ∙ o .0, c .before .before .before .before .end-call .kept .1 .1 .1 .0 ∙ kept .0 ∙ i .1 ∙ o .1, kept .1 .0 ∙ i .2 ∙ o .2, rw (c .before .before .before .before .end-call .ensures .1 (c .if5 .left), w .0, w .1) (held .left))
 
 enum-told : tie.Need-enum-told Inv-loop μ-loop Inv-entries μ-entries
 enum-told c = search needs
@@ -587,10 +630,11 @@ play-spec =
     step-core-requires
     stepping-requires
     in-place-requires
-    cast-k
+    cast-first
     mul-first
     element-copy-out-first
     loop-holds
+    cast-k
     mul-record
     element-copy-out-record
     moved-to-requires
@@ -604,11 +648,17 @@ play-spec =
     loop-again
     mul-m
     way-write-given-m
+    stepping-requires-2
+    cast-other
+    mul-other
+    element-copy-out-other
+    loop-less-2
+    loop-again-2
     entries-less
     entries-again
     enum-known-own-2
     joined-at-requires
-    mul-t76
+    mul-t88
     element-set-from-m
     slice-write-log-2
     add-number-2
@@ -649,7 +699,7 @@ play-spec =
     put-last-requires
     put-last-requires-2
     blank-thread-requires
-    mul-t126
+    mul-t138
     element-set-from-m-2
     cast-parent
     mul-parent-2
