@@ -4,8 +4,6 @@ pub mod RoutineState
 pub mod SerialTheory
 pub mod Passing
 pub mod Demands
-pub mod Playing
-pub mod Holding
 pub mod Running
 pub mod RunDemand
 pub mod Cases

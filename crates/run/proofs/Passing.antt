@@ -20,7 +20,8 @@ use Rattle.schedule.specs.declared.Entry.{Entry}
 use Rattle.schedule.specs.Meaning.{Schedule, entries, malformed, scheduleOf, numberOf}
 use Rattle.machine.specs.Sound.{GoodJob}
 use Rattle.soundness.proofs.StartSound.{start-sound}
-use Rattle.run.specs.Run.{Input, jobIn, startIn, badCores, badArguments, badWords, entryCount, refusalOf, Playable}
+use Rattle.run.specs.Run.{Input, jobIn, startIn, badCores, badArguments, badWords, entryCount, refusalOf}
+use Rattle.play.specs.Entries.{Playable}
 use Rattle.run.specs.Demands.{Takes}
 
 -- a test that is not met, and what follows it

@@ -14,7 +14,8 @@ use Rattle.run.proofs.Passing.{takes, playable}
 use Rattle.run.specs.declared.Ran.{Ran}
 use Rattle.run.specs.declared.begin.Begun.{Begun}
 use Rattle.run.specs.declared.RunAnswer.the-variants.{Refused}
-use Rattle.run.specs.Run.{Input, jobIn, startIn, refusalOf, answerOf, RunsAs, Begins, Playable, Played}
+use Rattle.run.specs.Run.{Input, jobIn, startIn, refusalOf, answerOf, RunsAs, Begins}
+use Rattle.play.specs.Entries.{Playable, Played}
 
 -- the image's number and its codes' starts, as the reader gives them
 pub number-of : (image : List ℕ) (checked : Checked) (n : ℕ) → checked ≡ imageAnswer image → n ≡ numberIn (checked .verdict) → n ≡ numberIn (imageVerdict image)

@@ -1,33 +1,24 @@
--- A run by a schedule: the whole-run tests, the fold of the machine's entries, and what a run answers. Document 01, "Schedule" and "Who
+-- A run by a schedule: the whole-run tests, and what a run answers; the fold of the machine's entries is crate `play`'s. Document 01, "Schedule" and "Who
 -- can cause which number".
 use mathlib.Core.Bool.{Bool, true, false, cond, _||_, not}
-use mathlib.Core.List.{List, [], _∷_, _++_}
+use mathlib.Core.List.{List}
 use mathlib.Core.Path.{_≡_}
-use Prim.Native.Nat.{ℕ, _≤_}
+use Prim.Native.Nat.{ℕ}
 use lib.Dec.{ltb, eqb}
-use lib.ListN.{length, drop}
+use lib.ListN.{length}
 use Rattle.image.specs.Layout.{argumentsOf, programOf, startsIn}
 use Rattle.image.specs.Image.{imageVerdict, numberIn}
 use Rattle.schedule.specs.declared.Entry.{Entry}
 use Rattle.schedule.specs.Meaning.{Schedule, entries, malformed, scheduleOf, numberOf}
 use Rattle.thread.specs.Job.{Job, jobOf}
-use Rattle.machine.specs.State.{State, After, Outcome, going, finished, faulted, meaning}
-use Rattle.machine.specs.Rules.{entryOf, startState}
-use Rattle.machine.specs.Sound.{Sound}
+use Rattle.machine.specs.State.{State, Outcome, going, finished, faulted, meaning}
+use Rattle.machine.specs.Rules.{startState}
 use Rattle.run.specs.declared.RunAnswer.{RunAnswer}
 use Rattle.run.specs.declared.RunAnswer.the-variants.{Refused, Finished, Faulted, Open}
 use Rattle.run.specs.declared.Ran.{Ran}
 use Rattle.run.specs.declared.begin.Begun.{Begun}
-
--- "In a run each entry meets what the last left, the first Start's state, and nothing else writes state or memory"
-unfoldable pub runFrom : Job → State → List Entry → State
-runFrom j s [] = s
-runFrom j s (e ∷ es) = runFrom j (entryOf j s e .state) es
-
--- "One log byte per entry: 0 or its number"
-unfoldable pub logsFrom : Job → State → List Entry → List ℕ
-logsFrom j s [] = []
-logsFrom j s (e ∷ es) = entryOf j s e .log ∷ logsFrom j (entryOf j s e .state) es
+unfoldable pub use Rattle.play.specs.Entries.{runFrom, logsFrom}
+pub use Rattle.play.specs.Entries.{logged}
 
 -- what a run is given
 pub record Input : Type 0 where
@@ -69,10 +60,6 @@ refusalOf i schedule log =
     (cond (not (eqb (numberOf (scheduleOf schedule)) 0)) 13
     (cond (badWords i || ltb (length log) (entryCount (scheduleOf schedule))) 25 0))))
 
--- "Log bytes past the entries stay"
-abbrev pub logged : List ℕ → List ℕ → List ℕ
-logged log bytes = bytes ++ drop (length bytes) log
-
 -- document 01's last line: "`finished` result units, `faulted` number thread offset .., `open` units"
 abbrev pub answerOf : Outcome → ℕ → RunAnswer
 answerOf going units = Open units
@@ -112,17 +99,3 @@ pub record Begins (i : Input) (schedule log : List ℕ) (r : Begun) (words : Lis
   pub number : r .number ≡ refusalOf i schedule log
   pub machine : meaning (r .machine) words (i .memory) ≡ startIn i
   pub starts : refusalOf i schedule log ≡ 0 → r .starts ≡ startsIn (programOf (i .image))
-
--- what playing entries relies on: a sound state, an accepted schedule and a log with room for its entries
-pub record Playable (j : Job) (s : State) (schedule log : List ℕ) : Type 0 where
-  pub all : List Entry
-  pub means : scheduleOf schedule ≡ entries all
-  pub room : length all ≤ length log
-  pub sound : Sound j s
-
--- what playing gives: the fold's state and log
-pub record Played (j : Job) (s : State) (schedule logBefore : List ℕ) (end : State) (logAfter : List ℕ) : Type 0 where
-  pub all : List Entry
-  pub means : scheduleOf schedule ≡ entries all
-  pub state : end ≡ runFrom j s all
-  pub log : logAfter ≡ logged logBefore (logsFrom j s all)

@@ -1,14 +1,13 @@
 // A run by a schedule: the whole-run tests, and then the machine from Start through the schedule's entries, one log byte for each.
 
 pub mod begin;
-mod play;
 mod refusal;
 pub mod tell;
 
 use crate::begin::begin;
-use crate::play::play;
 use crate::tell::answer;
 use machine::Machine;
+use play::play;
 ghost use Rattle.run.specs.Run.{Input};
 ghost use Rattle.run.specs.Promise.{Promise};
 

@@ -17,7 +17,7 @@ use Rattle.machine.specs.State.{Job, State, After}
 use Rattle.machine.specs.Rules.{entryOf}
 use Rattle.machine.specs.Sound.{Sound}
 use Rattle.soundness.proofs.Kept.{entry-sound}
-use Rattle.run.specs.Run.{runFrom, logsFrom, logged, Playable, Played}
+use Rattle.play.specs.Entries.{runFrom, logsFrom, logged, Playable, Played}
 
 -- k entries have been met, and the log has a byte for each
 pub record Left (j : Job) (s₀ : State) (schedule log₀ : List ℕ) (s : State) (at k : ℕ) (logNow : List ℕ) : Type 0 where

@@ -1,4 +1,4 @@
--- `run::play::play` meets its contract. The invariants: the lent words keep their lengths, and what is left of the schedule gives what the
+-- `play::play` meets its contract. The invariants: the lent words keep their lengths, and what is left of the schedule gives what the
 -- whole gives; in the inner loop, of the machine with what is held apart from it. The measures are what is left of the schedule's length; a
 -- step that is not carried out in place is met again, by the rule. Assumes nothing.
 use mathlib.Core.List.{List}
@@ -11,11 +11,11 @@ use Rattle.schedule.proofs.Standing.{found}
 use Rattle.schedule.proofs.Following.{read-malformed}
 use Rattle.machine.specs.declared.OwnStep.the-variants.{Moved, Joined, Calls, Ends, Other}
 use Rattle.machine.specs.State.{State, jobOf, meaning, after}
-use Rattle.run.proofs.Playing.{Left, begins, has-room, goes, ends}
+use Rattle.play.proofs.Playing.{Left, begins, has-room, goes, ends}
 use Rattle.machine.proofs.HeldWay.{again, again-few, may-own}
-use Rattle.run.proofs.Holding.{Held, held-goes, held-room, held-within, holds, holds-on}
-use Rattle.run.proofs.play.play.Statement.{statement}
-use Rattle.run.proofs.play.play.Tie as tie
+use Rattle.play.proofs.Holding.{Held, held-goes, held-room, held-within, holds, holds-on}
+use Rattle.play.proofs.play.Statement.{statement}
+use Rattle.play.proofs.play.Tie as tie
 
 abbrev Inv-loop : tie.InvT-loop
 Inv-loop schedule log₀ image starts parameters words₀ memory₀ allowance m₀ at₀ number₀ by-rule₀ c₀ t₀ position₀ units₀ log words memory m at number by-rule c t position units =

@@ -31,7 +31,7 @@ use Rattle.machine.proofs.Way.{record-of}
 use Rattle.machine.proofs.OwnWay.{onward}
 use Rattle.machine.proofs.HeldWay.{holding, holds-own, HeldMeans, held-entry}
 use Rattle.machine.proofs.CallWay.{CallWrites, FinishWrites, called, finished}
-use Rattle.run.proofs.Playing.{Left, has-room, goes}
+use Rattle.play.proofs.Playing.{Left, has-room, goes}
 
 -- thread t is stepped by the entry at `at`, a step of core c, with its position and the units held apart from the machine m
 pub record Held (im ss ps : List ℕ) (al : ℕ) (s₀ : State) (schedule log₀ : List ℕ) (m : Machine) (c t position units : ℕ) (ws ms : List ℕ) (at k : ℕ) (log : List ℕ) : Type 0 where

@@ -17,7 +17,7 @@ use thread::record::joined_at;
 use thread::record::moved_to;
 ghost use mathlib.Core.Path.{_≡_};
 ghost use Rattle.machine.specs.State.{jobOf, meaning};
-ghost use Rattle.run.specs.Run.{Playable, Played};
+ghost use Rattle.play.specs.Entries.{Playable, Played};
 
 // The machine meets the schedule's entries one after another; each leaves its log byte at its number.
 pub fn play(

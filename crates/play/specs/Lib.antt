@@ -1,0 +1,2 @@
+-- The definitions that the contract of `play` cites.
+pub mod Entries
