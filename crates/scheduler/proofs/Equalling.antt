@@ -23,7 +23,7 @@ use Rattle.run.proofs.Demands.{demand-3}
 use Rattle.run.proofs.Passing.{takes}
 use Rattle.scheduler.proofs.Keeping.{short}
 use Rattle.scheduler.proofs.Trying.{bytes-snoc}
-use Rattle.scheduler.specs.Search.{choiceOf, lowestSuspended}
+use Rattle.search.specs.Search.{choiceOf, lowestSuspended}
 use Rattle.scheduler.specs.Rounds.{Progress, isWritten, mayTry, recorded, tried, turns, fresh, round, goesOn, wakened, rounds, usable, beginning, scheduledOf, bytesOfAll}
 use Rattle.scheduler.specs.Promise.{refusalIn, EqualsRun}
 

@@ -1,6 +1,5 @@
 -- In reading order: the search for a seed and for a suspended thread; an entry written to the buffer; refused entries; a try; the rounds;
 -- a step in place.
-pub mod Searching
 pub mod Keeping
 pub mod Refusing
 pub mod Trying

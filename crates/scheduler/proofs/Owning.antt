@@ -19,9 +19,9 @@ use Rattle.machine.specs.Own.{steppingOf, Owned, ownOf}
 use Rattle.machine.proofs.Tests.{over-true}
 use Rattle.machine.proofs.Way.{record-of}
 use Rattle.machine.proofs.HeldWay.{holding, holds-own, HeldMeans, held-entry}
-use Rattle.scheduler.proofs.Searching.{busy}
+use Rattle.search.proofs.Searching.{busy}
 use Rattle.scheduler.proofs.Rounding.{Rounding, turns-on, again-moved}
-use Rattle.scheduler.specs.Search.{choiceOf}
+use Rattle.search.specs.Search.{choiceOf}
 use Rattle.scheduler.specs.Steps.{Keeps}
 
 open-zero : (m : Machine) → isOver (outcomeOf m) ≡ false → eqb (m .over) 0 ≡ true

@@ -16,7 +16,7 @@ use Rattle.machine.specs.Rules.{entryOf, enableOf, stealOf, isSeed}
 use Rattle.soundness.proofs.EntryCases.{Cases, entry-by}
 use Rattle.soundness.proofs.Tested.{fault-tested}
 use Rattle.scheduler.specs.Rounds.{isWritten}
-use Rattle.scheduler.specs.Steps.{isNothing}
+use Rattle.search.specs.Search.{isNothing}
 
 -- "accepted or faulting": 0 and 9 to 12 are
 fault-written : (n : ℕ) → 9 ≤ n → n ≤ 12 → isWritten n ≡ true

@@ -18,12 +18,13 @@ use Rattle.machine.specs.Rules.{entryOf}
 use Rattle.machine.specs.Sound.{Sound}
 use Rattle.soundness.proofs.Kept.{entry-sound}
 use Rattle.soundness.proofs.KeepSized.{keep-count}
-use Rattle.scheduler.proofs.Searching.{lowest-is}
+use Rattle.search.proofs.Searching.{lowest-is}
 use Rattle.scheduler.proofs.Refusing.{enables, nothing-refused}
 use Rattle.scheduler.proofs.Trying.{At, may, may-not-over, may-not-left, tries, writes, adds}
-use Rattle.scheduler.specs.Search.{choiceOf, lowestSuspended}
+use Rattle.search.specs.Search.{choiceOf, lowestSuspended}
 use Rattle.scheduler.specs.Rounds.{Progress, isWritten, mayTry, recorded, tried, turns, fresh, round, goesOn, wakened, rounds, usable, beginning, scheduledFrom, bytesOfAll, filled}
-use Rattle.scheduler.specs.Steps.{isNothing, Keeps, Rounded}
+use Rattle.search.specs.Search.{isNothing}
+use Rattle.scheduler.specs.Steps.{Keeps, Rounded}
 
 -- what may not be tried changes nothing
 pub stuck : (j : Job) (p : Progress) → mayTry p ≡ false → (n c : ℕ) → turns n j c p ≡ p

@@ -12,7 +12,7 @@ use Rattle.thread.specs.Thread.{none}
 use Rattle.machine.specs.State.{Job, State, After, isOver}
 use Rattle.machine.specs.Rules.{entryOf}
 use Rattle.run.specs.Run.{Input, jobIn, startIn}
-use Rattle.scheduler.specs.Search.{choiceOf, lowestSuspended}
+use Rattle.search.specs.Search.{choiceOf, lowestSuspended}
 
 -- how far the scheduler has come
 pub record Progress : Type 0 where

@@ -1,23 +1,13 @@
 -- What the scheduler's inner functions give.
-use mathlib.Core.Bool.{Bool, false, cond}
+use mathlib.Core.Bool.{cond}
 use mathlib.Core.List.{List, [], _++_}
 use mathlib.Core.Path.{_≡_}
 use Prim.Native.Nat.{ℕ, _+_}
-use lib.Dec.{leb}
 use lib.ListN.{length, take, drop}
 use Rattle.schedule.specs.declared.Entry.{Entry}
-use Rattle.schedule.specs.declared.Entry.the-variants.{Step, Take, Steal, Enable}
 use Rattle.schedule.specs.Format.{bytesOf}
-use Rattle.thread.specs.Thread.{none}
 use Rattle.machine.specs.State.{Job, State}
 use Rattle.scheduler.specs.Rounds.{isWritten, scheduledFrom, bytesOfAll, filled}
-
--- the steal of none, where there is no seed
-abbrev pub isNothing : Entry → Bool
-isNothing (Step c) = false
-isNothing (Take c) = false
-isNothing (Steal c t) = leb none t
-isNothing (Enable t) = false
 
 -- what is written of an entry with a log byte: its bytes, or nothing where it is refused
 abbrev pub bytesKept : Entry → ℕ → List ℕ

@@ -1,7 +1,6 @@
 // The built-in scheduler, document 01's "house run": it makes its own schedule, round by round, and writes the entries it used.
 
 mod rounds;
-mod search;
 
 use crate::rounds::play_rounds;
 use machine::Machine;

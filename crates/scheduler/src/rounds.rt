@@ -1,7 +1,4 @@
 // The rounds: each core in turn tries an entry, and what is accepted or faults is written.
-use crate::search::choice;
-use crate::search::is_nothing;
-use crate::search::lowest_suspended;
 use machine::Machine;
 use machine::OwnStep;
 use machine::calling::begin_call;
@@ -11,6 +8,9 @@ use machine::own::own_step;
 use queue::put_last;
 use schedule::Entry;
 use schedule::Written;
+use search::choice;
+use search::is_nothing;
+use search::lowest_suspended;
 use stacklets::set_top;
 use thread::record::blank_thread;
 use thread::record::joined_at;

@@ -12,7 +12,7 @@ use lib.ListN.{length, getD}
 use Rattle.machine.specs.declared.OwnStep.the-variants.{Moved, Joined, Calls, Ends, Other}
 use Rattle.machine.specs.State.{State, jobOf, meaning, after}
 use Rattle.machine.proofs.HeldWay.{again, again-few, may-own}
-use Rattle.scheduler.proofs.Searching.{chosen}
+use Rattle.search.proofs.Searching.{chosen}
 use Rattle.scheduler.proofs.Trying.{test-met, test-failed, round-ends}
 use Rattle.scheduler.proofs.Rounding.{Rounding, bonus, begins, turns-on, less, passes-on, ends-over, ends-short, ends-idle, again-moved, enabled, again-enabled}
 use Rattle.scheduler.proofs.Owning.{Held, holds, met, owns-on, grows, round-on}
@@ -480,8 +480,7 @@ tries-again-7 c =
     (kept .0 ∙ i .0 ∙ o .0, kept .1 .0 ∙ i .1 ∙ o .1, i .2 ∙ o .2, rw (w .0, w .1) (held .rounding))
 
 choice-requires : tie.Need-choice-requires Inv-loop μ-loop Inv-tries μ-tries
-unfolding meaning
-choice-requires c κs = c .before .before .before .before .before .before .tries .inv .3 .sound .sized .most
+choice-requires c κs = search needs
 
 is-nothing-requires : tie.Need-is-nothing-requires Inv-loop μ-loop Inv-tries μ-tries
 is-nothing-requires c κs = search needs
@@ -498,7 +497,7 @@ tries-again-8 : tie.Need-tries-again-8 Inv-loop μ-loop Inv-tries μ-tries
 unfolding meaning
 tries-again-8 c =
     let o = c .before .before .before .before .before .before .before .before .before .tries .inv in
-    (o .0, o .1, o .2, passes-on _ _ _ _ _ _ _ _ _ _ (o .3) (c .before .before .before .before .before .before .if2 .taken) _ (chosen _ _ _ _ (c .before .before .choice .ensures _ _ _ _)) (sym (c .before .is-nothing .ensures) ∙ c .if7 .taken))
+    (o .0, o .1, o .2, passes-on _ _ _ _ _ _ _ _ _ _ (o .3) (c .before .before .before .before .before .before .if2 .taken) _ (chosen _ _ _ _ (c .before .before .choice .ensures (o .3 .sound .sized .most) _ _ _ _)) (sym (c .before .is-nothing .ensures) ∙ c .if7 .taken))
 
 entry-requires : tie.Need-entry-requires Inv-loop μ-loop Inv-tries μ-tries
 entry-requires c κs = c .before .before .before .before .before .before .before .before .before .before .before .tries .inv .3 .sound
@@ -522,7 +521,7 @@ unfolding after meaning
 tries-less-9 c =
     let o = c .before .before .before .before .before .before .before .before .before .before .before .before .before .before .before .before .before .before .before .before .before .tries .inv in
     let f = test-met (c .before .before .before .before .before .before .before .before .before .before .before .before .before .before .before .before .before .before .before .before .before .tries .m) (c .before .before .before .before .before .before .before .before .before .before .before .before .before .before .before .before .before .before .before .before .before .before .usable-of .result - c .before .before .before .before .before .before .before .before .before .before .before .before .before .before .before .before .before .before .before .before .before .tries .at) _ (c .before .before .before .before .before .before .before .before .before .before .before .before .before .before .before .before .before .before .before .before .may-try .ensures) (not-false _ (c .before .before .before .before .before .before .before .before .before .before .before .before .before .before .before .before .before .before .before .if1 .left)) in
-    let fell = less _ _ _ _ _ _ _ _ _ _ (o .3) (c .before .before .before .before .before .before .before .before .before .before .before .before .before .before .before .before .before .before .if2 .taken) _ (chosen _ _ _ _ (c .before .before .before .before .before .before .before .before .before .before .before .before .before .before .choice .ensures _ _ _ _)) (f .0) (f .1) _ (c .before .before .before .before .before .before .before .before .before .entry .ensures) _ _ (c .before .before .before .keep5 .ensures) in
+    let fell = less _ _ _ _ _ _ _ _ _ _ (o .3) (c .before .before .before .before .before .before .before .before .before .before .before .before .before .before .before .before .before .before .if2 .taken) _ (chosen _ _ _ _ (c .before .before .before .before .before .before .before .before .before .before .before .before .before .before .choice .ensures (o .3 .sound .sized .most) _ _ _ _)) (f .0) (f .1) _ (c .before .before .before .before .before .before .before .before .before .entry .ensures) _ _ (c .before .before .before .keep5 .ensures) in
     rw (c .is-moved .ensures) (omega (arith, fell, c .before .before .before .before .before .before .before .before .before .before .before .before .before .before .before .before .before .before .if2 .taken))
 
 tries-again-9 : tie.Need-tries-again-9 Inv-loop μ-loop Inv-tries μ-tries
@@ -533,7 +532,7 @@ tries-again-9 c =
       c .before .before .before .before .before .before .before .before .before .entry .kept .1 .1 .1 .1 .1 .0 ∙ o .0,
       c .before .before .before .before .before .before .before .before .before .entry .kept .1 .1 .1 .1 .1 .1 .0 ∙ o .1,
       c .before .before .before .keep5 .kept .1 .1 .0 ∙ o .2,
-      rw (c .is-moved .ensures) (turns-on _ _ _ _ _ _ _ _ _ _ (o .3) (c .before .before .before .before .before .before .before .before .before .before .before .before .before .before .before .before .before .before .if2 .taken) _ (chosen _ _ _ _ (c .before .before .before .before .before .before .before .before .before .before .before .before .before .before .choice .ensures _ _ _ _)) (f .0) (f .1) _ (c .before .before .before .before .before .before .before .before .before .entry .ensures) _ _ (c .before .before .before .keep5 .ensures)),
+      rw (c .is-moved .ensures) (turns-on _ _ _ _ _ _ _ _ _ _ (o .3) (c .before .before .before .before .before .before .before .before .before .before .before .before .before .before .before .before .before .before .if2 .taken) _ (chosen _ _ _ _ (c .before .before .before .before .before .before .before .before .before .before .before .before .before .before .choice .ensures (o .3 .sound .sized .most) _ _ _ _)) (f .0) (f .1) _ (c .before .before .before .before .before .before .before .before .before .entry .ensures) _ _ (c .before .before .before .keep5 .ensures)),
     )
 
 tries-less-10 : tie.Need-tries-less-10 Inv-loop μ-loop Inv-tries μ-tries

@@ -1,7 +1,7 @@
--- `scheduler::search::is_nothing` meets its contract. Assumes nothing.
+-- `search::is_nothing` meets its contract. Assumes nothing.
 use borrow.Author.Needs.{needs}
-use Rattle.scheduler.proofs.search.is_nothing.Statement.{statement}
-use Rattle.scheduler.proofs.search.is_nothing.Tie as tie
+use Rattle.search.proofs.is_nothing.Statement.{statement}
+use Rattle.search.proofs.is_nothing.Tie as tie
 
 enum-told : tie.Need-enum-told
 enum-told c = search needs

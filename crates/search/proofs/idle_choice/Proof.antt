@@ -1,25 +1,25 @@
--- `scheduler::search::idle_choice` meets its contract. Assumes nothing.
+-- `search::idle_choice` meets its contract. Assumes nothing.
 use mathlib.Core.Path.{_≡_, sym, _∙_, ap}
 use borrow.Author.Tests.{lt-ltb, le-ltb}
 use Rattle.machine.specs.State.{meaning}
-use Rattle.scheduler.specs.Search.{idleChoice}
+use Rattle.search.specs.Search.{idleChoice}
 use borrow.Author.Needs.{needs}
-use Rattle.scheduler.proofs.search.idle_choice.Statement.{statement}
-use Rattle.scheduler.proofs.search.idle_choice.Tie as tie
+use Rattle.search.proofs.idle_choice.Statement.{statement}
+use Rattle.search.proofs.idle_choice.Tie as tie
 
 len-requires : tie.Need-len-requires
 len-requires c κs = search needs
 
 returns : tie.Need-returns
 unfolding meaning idleChoice
-returns c = λ ps ws me al. rw (← c .before .len .ensures, lt-ltb _ _ (c .if1 .taken))
+returns c = λ h ps ws me al. rw (← c .before .len .ensures, lt-ltb _ _ (c .if1 .taken))
 
 find-seed-requires : tie.Need-find-seed-requires
 find-seed-requires c κs = search needs
 
 returns-2 : tie.Need-returns-2
 unfolding meaning idleChoice
-returns-2 c = λ ps ws me al. rw (← c .before .before .len .ensures, le-ltb _ _ (c .before .if1 .left), c .find-seed .ensures ps ws me al)
+returns-2 c = λ h ps ws me al. rw (← c .before .before .len .ensures, le-ltb _ _ (c .before .if1 .left), c .find-seed .ensures h ps ws me al)
 
 pub idle-choice-spec : {M : Type 1} → statement M
 idle-choice-spec = tie.close (tie.spec len-requires returns find-seed-requires returns-2)

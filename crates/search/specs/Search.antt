@@ -1,11 +1,11 @@
 -- Which entry a core tries, and which thread is enabled. Document 01, "Schedule", of the house run, here the built-in scheduler.
-use mathlib.Core.Bool.{cond}
+use mathlib.Core.Bool.{Bool, false, cond}
 use mathlib.Core.List.{List}
 use Prim.Native.Nat.{ℕ, zero, suc}
-use lib.Dec.{ltb}
+use lib.Dec.{leb, ltb}
 use lib.ListN.{getD, length}
 use Rattle.schedule.specs.declared.Entry.{Entry}
-use Rattle.schedule.specs.declared.Entry.the-variants.{Step, Take, Steal}
+use Rattle.schedule.specs.declared.Entry.the-variants.{Step, Take, Steal, Enable}
 use Rattle.thread.specs.declared.Thread.{Thread}
 use Rattle.thread.specs.declared.Status.the-variants.{Suspended}
 use Rattle.thread.specs.Thread.{blankThread, none, _is_}
@@ -51,3 +51,10 @@ suspendedFrom (suc n) threads t = cond (getD threads t blankThread .status is Su
 -- "the lowest suspended thread"
 abbrev pub lowestSuspended : State → ℕ
 lowestSuspended s = suspendedFrom 32 (s .threads) 0
+
+-- the steal of none, where there is no seed
+abbrev pub isNothing : Entry → Bool
+isNothing (Step c) = false
+isNothing (Take c) = false
+isNothing (Steal c t) = leb none t
+isNothing (Enable t) = false

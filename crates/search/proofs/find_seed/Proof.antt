@@ -1,4 +1,4 @@
--- `scheduler::search::find_seed` meets its contract. The invariants: what is left of a chain has the chain's first seed, and the cores left
+-- `search::find_seed` meets its contract. The invariants: what is left of a chain has the chain's first seed, and the cores left
 -- have the first seed of all. The measures are the links and the cores left. Assumes nothing.
 use mathlib.Core.List.{List}
 use mathlib.Core.Logic.{⊎-elim}
@@ -7,11 +7,11 @@ use Prim.Native.Nat.{ℕ, _-_, _≤_}
 use native.Mathlib.Nat.{sub-zero}
 use native.Mathlib.Omega.{arith}
 use Rattle.machine.specs.State.{jobOf, meaning}
-use Rattle.scheduler.specs.Search.{seedAbove, seedOn, seedFrom, firstSeed}
-use Rattle.scheduler.proofs.Searching.{seed-is, stops, meets, goes, empty, found, missed, absent}
+use Rattle.search.specs.Search.{seedAbove, seedOn, seedFrom, firstSeed}
+use Rattle.search.proofs.Searching.{seed-is, stops, meets, goes, empty, found, missed, absent}
 use borrow.Author.Needs.{needs}
-use Rattle.scheduler.proofs.search.find_seed.Statement.{statement}
-use Rattle.scheduler.proofs.search.find_seed.Tie as tie
+use Rattle.search.proofs.find_seed.Statement.{statement}
+use Rattle.search.proofs.find_seed.Tie as tie
 
 abbrev Inv-loop : tie.InvT-loop
 Inv-loop image starts m c t₀ links₀ t links = (links ≤ 32) × ((parameters words memory : List ℕ) (allowance : ℕ) → seedAbove links (jobOf image starts parameters allowance) (meaning m words memory) t ≡ seedOn (jobOf image starts parameters allowance) (meaning m words memory) c)
@@ -24,6 +24,9 @@ Inv-search image starts m c₀ c = (c ≤ m .count) × ((parameters words memory
 
 abbrev μ-search : tie.MeasureT-search
 μ-search image starts m c₀ c = m .count - c
+
+returns : tie.Need-returns Inv-loop μ-loop Inv-search μ-search
+returns c = λ h ps ws me al. absurd (omega (arith, h, c .if1 .taken))
 
 search-holds : tie.Need-search-holds Inv-loop μ-loop Inv-search μ-search
 unfolding meaning
@@ -64,7 +67,7 @@ loop-again : tie.Need-loop-again Inv-loop μ-loop Inv-search μ-search
 unfolding meaning
 loop-again c = (
   omega arith,
-  λ ps ws me al. goes _ _ _ (c .before .before .before .before .before .before .loop .t) _ (omega arith) (omega arith) (seed-is _ _ _ _ (omega arith) (sym (c .before .if3 .left) ∙ c .before .before .is-seed .ensures)) (c .lent-parent .ensures) ∙ c .before .before .before .before .before .before .loop .inv .1 ps ws me al,
+  λ ps ws me al. goes _ _ _ (c .before .before .before .before .before .before .loop .t) _ (omega arith) (omega arith) (seed-is _ _ _ _ (omega arith) (sym (c .before .if4 .left) ∙ c .before .before .is-seed .ensures)) (c .lent-parent .ensures) ∙ c .before .before .before .before .before .before .loop .inv .1 ps ws me al,
 )
 
 add-c : tie.Need-add-c Inv-loop μ-loop Inv-search μ-search
@@ -80,13 +83,13 @@ search-again c = (
   λ ps ws me al. missed _ _ _ (c .before .before .before .before .search .c) _ (omega arith) (sym (c .before .loop .inv .1 ps ws me al) ∙ ⊎-elim (λ w. empty _ _ _ _ (w .left)) (λ w. stops _ _ _ _ (w .1 .taken)) (c .loop-test .came)) ∙ c .before .before .before .before .search .inv .1 ps ws me al,
 )
 
-returns : tie.Need-returns Inv-loop μ-loop Inv-search μ-search
-unfolding meaning
-returns c = λ ps ws me al. sym (absent _ _ _ (c .before .search .c) (omega arith)) ∙ c .before .search .inv .1 ps ws me al
-
 returns-2 : tie.Need-returns-2 Inv-loop μ-loop Inv-search μ-search
 unfolding meaning
-returns-2 c = λ ps ws me al. sym (found _ _ _ (c .before .before .before .before .before .before .before .before .search .c) _ (omega arith) (sym (meets _ _ _ _ (omega arith) (omega arith) (seed-is _ _ _ _ (omega arith) (sym (c .if3 .taken) ∙ c .before .is-seed .ensures))) ∙ c .before .before .before .before .before .loop .inv .1 ps ws me al) (omega arith)) ∙ c .before .before .before .before .before .before .before .before .search .inv .1 ps ws me al
+returns-2 c = λ h ps ws me al. sym (absent _ _ _ (c .before .search .c) (omega arith)) ∙ c .before .search .inv .1 ps ws me al
+
+returns-3 : tie.Need-returns-3 Inv-loop μ-loop Inv-search μ-search
+unfolding meaning
+returns-3 c = λ h ps ws me al. sym (found _ _ _ (c .before .before .before .before .before .before .before .before .search .c) _ (omega arith) (sym (meets _ _ _ _ (omega arith) (omega arith) (seed-is _ _ _ _ (omega arith) (sym (c .if4 .taken) ∙ c .before .is-seed .ensures))) ∙ c .before .before .before .before .before .loop .inv .1 ps ws me al) (omega arith)) ∙ c .before .before .before .before .before .before .before .before .search .inv .1 ps ws me al
 
 pub find-seed-spec : {M : Type 1} → statement M
 find-seed-spec =
@@ -96,6 +99,7 @@ find-seed-spec =
     μ-loop
     Inv-search
     μ-search
+    returns
     search-holds
     cast-t
     element-copy-out-t
@@ -111,5 +115,5 @@ find-seed-spec =
     add-c
     search-less
     search-again
-    returns
-    returns-2)
+    returns-2
+    returns-3)

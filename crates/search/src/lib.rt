@@ -1,4 +1,4 @@
-// What a core tries, and which thread is enabled.
+// What a core tries, and which thread is enabled. Of a machine with more than 4 cores, which no sound state has, nothing is said.
 use command::byte_at;
 use machine::Machine;
 use schedule::Entry;
@@ -15,8 +15,7 @@ ghost use Rattle.schedule.specs.declared.Entry.the-variants.{Step};
 ghost use Rattle.thread.specs.declared.Status.the-variants.{Lent};
 ghost use Rattle.thread.specs.Thread.{_is_};
 ghost use Rattle.machine.specs.State.{jobOf, meaning};
-ghost use Rattle.scheduler.specs.Search.{lentParent, firstSeed, idleChoice, suspendedFrom};
-ghost use Rattle.scheduler.specs.Steps.{isNothing};
+ghost use Rattle.search.specs.Search.{lentParent, firstSeed, idleChoice, isNothing, suspendedFrom};
 
 // No thread.
 const NONE: u8 = 32;
@@ -59,9 +58,11 @@ fn is_seed(h: Thread, image: &[u8], starts: &[u16]) -> bool
 
 // The first seed on the cores' chains of lent parents, from core 0 on.
 fn find_seed(m: Machine, image: &[u8], starts: &[u16]) -> u8
-    requires { ⌜ m .count ≤ 4 ⌝ }
-    ensures { λ r. ⌜ ((parameters words memory : List ℕ) (allowance : ℕ) → r ≡ firstSeed (jobOf (now (image .entry)) (now (starts .entry)) parameters allowance) (meaning m words memory)) ⌝ }
+    ensures { λ r. ⌜ (m .count ≤ 4 → (parameters words memory : List ℕ) (allowance : ℕ) → r ≡ firstSeed (jobOf (now (image .entry)) (now (starts .entry)) parameters allowance) (meaning m words memory)) ⌝ }
 {
+    if 4 < m.count {
+        return NONE;
+    }
     let mut c: u8 = 0;
     let found = 'search: loop {
         if m.count <= c {
@@ -87,8 +88,7 @@ fn find_seed(m: Machine, image: &[u8], starts: &[u16]) -> u8
 
 // What an idle core c tries.
 fn idle_choice(m: Machine, c: u8, image: &[u8], starts: &[u16]) -> Entry
-    requires { ⌜ m .count ≤ 4 ⌝ }
-    ensures { λ r. ⌜ ((parameters words memory : List ℕ) (allowance : ℕ) → r ≡ idleChoice (jobOf (now (image .entry)) (now (starts .entry)) parameters allowance) (meaning m words memory) c) ⌝ }
+    ensures { λ r. ⌜ (m .count ≤ 4 → (parameters words memory : List ℕ) (allowance : ℕ) → r ≡ idleChoice (jobOf (now (image .entry)) (now (starts .entry)) parameters allowance) (meaning m words memory) c) ⌝ }
 {
     let ready = m.ready;
     if 0 < ready.len() {
@@ -99,8 +99,7 @@ fn idle_choice(m: Machine, c: u8, image: &[u8], starts: &[u16]) -> Entry
 
 // What core c tries, on which thread t runs; none does where t is 32 or more.
 pub fn choice(t: u8, m: Machine, c: u8, image: &[u8], starts: &[u16]) -> Entry
-    requires { ⌜ m .count ≤ 4 ⌝ }
-    ensures { λ r. ⌜ ((parameters words memory : List ℕ) (allowance : ℕ) → r ≡ cond (ltb t 32) (Step c) (idleChoice (jobOf (now (image .entry)) (now (starts .entry)) parameters allowance) (meaning m words memory) c)) ⌝ }
+    ensures { λ r. ⌜ (m .count ≤ 4 → (parameters words memory : List ℕ) (allowance : ℕ) → r ≡ cond (ltb t 32) (Step c) (idleChoice (jobOf (now (image .entry)) (now (starts .entry)) parameters allowance) (meaning m words memory) c)) ⌝ }
 {
     if t < NONE {
         return Entry::Step(c);

@@ -16,7 +16,7 @@ use Rattle.thread.specs.Thread.{blankThread, none, _is_, statusNumber}
 use Rattle.machine.specs.State.{Job, State, threadAt, onCore}
 use Rattle.machine.specs.Turn.{byteOf}
 use Rattle.machine.specs.Rules.{isSeed}
-use Rattle.scheduler.specs.Search.{lentParent, seedAbove, seedOn, seedFrom, idleChoice, choiceOf, suspendedFrom}
+use Rattle.search.specs.Search.{lentParent, seedAbove, seedOn, seedFrom, idleChoice, choiceOf, suspendedFrom}
 
 module _ (j : Job) (s : State) where
   -- a thread's number is below 32, so only its status and its next command count

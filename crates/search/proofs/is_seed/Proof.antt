@@ -1,9 +1,9 @@
--- `scheduler::search::is_seed` meets its contract. Assumes nothing.
+-- `search::is_seed` meets its contract. Assumes nothing.
 use mathlib.Core.Path.{sym, _∙_}
 use borrow.Author.Tests.{eq-eqb, ne-eqb, not-true, not-false}
 use borrow.Author.Needs.{needs}
-use Rattle.scheduler.proofs.search.is_seed.Statement.{statement}
-use Rattle.scheduler.proofs.search.is_seed.Tie as tie
+use Rattle.search.proofs.is_seed.Statement.{statement}
+use Rattle.search.proofs.is_seed.Tie as tie
 
 same-status-requires : tie.Need-same-status-requires
 same-status-requires c κs = search needs

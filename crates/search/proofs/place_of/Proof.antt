@@ -1,9 +1,9 @@
--- `scheduler::search::place_of` meets its contract. Assumes nothing.
+-- `search::place_of` meets its contract. Assumes nothing.
 use lib.ListN.{List·getD-eq-default}
 use native.Mathlib.Omega.{arith}
 use borrow.Author.Needs.{needs}
-use Rattle.scheduler.proofs.search.place_of.Statement.{statement}
-use Rattle.scheduler.proofs.search.place_of.Tie as tie
+use Rattle.search.proofs.place_of.Statement.{statement}
+use Rattle.search.proofs.place_of.Tie as tie
 
 mul-result : tie.Need-mul-result
 mul-result c = search needs

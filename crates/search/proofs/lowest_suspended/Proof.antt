@@ -1,13 +1,13 @@
--- `scheduler::search::lowest_suspended` meets its contract. The loop's invariant: the threads left have the lowest suspended one of all.
+-- `search::lowest_suspended` meets its contract. The loop's invariant: the threads left have the lowest suspended one of all.
 -- The measure is how many are left. Assumes nothing.
 use mathlib.Core.Path.{_≡_, refl, sym, _∙_}
 use Prim.Native.Nat.{_-_, _≤_}
 use native.Mathlib.Omega.{arith}
-use Rattle.scheduler.specs.Search.{suspendedFrom}
-use Rattle.scheduler.proofs.Searching.{lowest-here, lowest-later, lowest-none}
+use Rattle.search.specs.Search.{suspendedFrom}
+use Rattle.search.proofs.Searching.{lowest-here, lowest-later, lowest-none}
 use borrow.Author.Needs.{needs}
-use Rattle.scheduler.proofs.search.lowest_suspended.Statement.{statement}
-use Rattle.scheduler.proofs.search.lowest_suspended.Tie as tie
+use Rattle.search.proofs.lowest_suspended.Statement.{statement}
+use Rattle.search.proofs.lowest_suspended.Tie as tie
 
 abbrev Inv-loop : tie.InvT-loop
 Inv-loop threads t₀ t = (t ≤ 32) × (suspendedFrom (32 - t) threads t ≡ suspendedFrom 32 threads 0)

@@ -1,0 +1,2 @@
+-- What a core tries, and which thread is enabled.
+pub mod Search
