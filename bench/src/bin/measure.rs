@@ -117,7 +117,7 @@ fn rows() -> Vec<Row> {
             &thieves,
             &stolen,
             entries(&stolen),
-            Some(3.0),
+            None,
         ),
         serial_row("serial run, loop", &workload::counted(2000), Some(1.5)),
         serial_row("serial run, Fibonacci 15", &workload::fibonacci(15), Some(1.5)),

@@ -8,6 +8,7 @@ use Prim.Native.Nat.{ℕ, _+_, _%_, _≤_, _<_}
 use native.Mathlib.Omega.{arith}
 use lib.Dec.{eqb, ltb}
 use lib.ListN.{length, getD, set}
+use lib.Seq.{set-getD}
 use Rattle.schedule.specs.declared.Entry.the-variants.{Step}
 use Rattle.schedule.specs.declared.EntryRead.the-variants.{Found}
 use Rattle.schedule.specs.Format.{entryAt}
@@ -29,7 +30,7 @@ use Rattle.machine.specs.Own.{steppingOf, Owned, ownOf}
 use Rattle.machine.specs.Call.{Called, Finished}
 use Rattle.machine.proofs.Way.{record-of}
 use Rattle.machine.proofs.OwnWay.{onward}
-use Rattle.machine.proofs.HeldWay.{holding, holds-own, HeldMeans, held-entry}
+use Rattle.machine.proofs.HeldWay.{again, holding, HeldMeans, held-entry}
 use Rattle.machine.proofs.CallWay.{CallWrites, FinishWrites, called, finished}
 use Rattle.play.proofs.Playing.{Left, has-room, goes}
 
@@ -89,6 +90,31 @@ module _ (im ss ps : List ℕ) (al : ℕ) (s₀ : State) (schedule log₀ : List
     pub held-within : at + 2 ≤ length schedule
     held-within = found schedule at (Step c) (at + 2) (held .here) .within
 
+-- the machine with these units
+abbrev with-units : Machine → List Thread → ℕ → Machine
+with-units m threads units = record {
+  threads = threads;
+  cores = m .cores;
+  count = m .count;
+  stacklets = m .stacklets;
+  «free_threads» = m .«free_threads»;
+  «free_stacklets» = m .«free_stacklets»;
+  ready = m .ready;
+  units = units;
+  over = m .over;
+  result = m .result;
+  fault = m .fault;
+  «fault_thread» = m .«fault_thread»;
+  «fault_offset» = m .«fault_offset»;
+  log = m .log;
+}
+
+-- nothing is changed where the position that is held is the machine's own
+holds-own : (m : Machine) (t units : ℕ) (ws ms : List ℕ)
+    → meaning (with-units m (m .threads) units) ws ms ≡ meaning (holding m t (record-of m t .position) units) ws ms
+unfolding meaning
+holds-own m t units ws ms = ap (λ (l : List Thread). meaning (with-units m l units) ws ms) (sym (set-getD (m .threads) t blankThread))
+
 -- a thread is stepped by a core below 4
 core-few : (over count : ℕ) (cores : List ℕ) (c t : ℕ) → t ≡ steppingOf over count cores (Step c) → t < 32 → c < 4
 unfolding steppingOf
@@ -109,14 +135,14 @@ module _ (schedule : List ℕ) (at c : ℕ) (told : c ≡ stepCoreOf (entryAt sc
 
   module _ (im ss ps : List ℕ) (al : ℕ) (s₀ : State) (log₀ : List ℕ) (m : Machine) (t : ℕ) (steps : t ≡ steppingOf (m .over) (m .count) (m .cores) (Step c))
       (small : t < 32) (ws ms : List ℕ) (k : ℕ) (log : List ℕ) where
-    -- nothing is changed where what is held is the machine's own
-    pub holds : Left (jobOf im ss ps al) s₀ schedule log₀ (meaning m ws ms) at k log
-        → Held im ss ps al s₀ schedule log₀ m c t (record-of m t .position) (m .units) ws ms at k log
-    holds left = record {
+    -- the next entry is a step of core c: its thread's position is read, and the units are held already
+    pub holds : (units : ℕ) → Left (jobOf im ss ps al) s₀ schedule log₀ (meaning (with-units m (m .threads) units) ws ms) at k log
+        → Held im ss ps al s₀ schedule log₀ m c t (record-of m t .position) units ws ms at k log
+    holds units left = record {
       here = step-stands (core-few _ _ _ c t steps small);
       steps = steps;
       small = small;
-      left = rw (← holds-own m t ws ms) left;
+      left = rw (← holds-own m t units ws ms) left;
     }
 
     -- the next entry is a step of the same core
@@ -128,3 +154,8 @@ module _ (schedule : List ℕ) (at c : ℕ) (told : c ≡ stepCoreOf (entryAt sc
       small = small;
       left = left;
     }
+
+-- the test before a thread is stepped: it is not left to the rule, and it is stepped
+pub may-step : (b : Bool) (t x : ℕ) → t ≡ cond b none x → t < 32 → (again b ≡ 1) × (t ≡ x)
+may-step true t x e small = absurd (omega (arith, e, small))
+may-step false t x e small = (refl, e)

@@ -3,7 +3,6 @@ use machine::Machine;
 use machine::OwnStep;
 use machine::calling::begin_call;
 use machine::calling::end_call;
-use machine::own::in_place;
 use machine::own::own_step;
 use machine::own::stepping;
 use queue::put_last;
@@ -15,9 +14,23 @@ use stacklets::set_top;
 use thread::record::blank_thread;
 use thread::record::joined_at;
 use thread::record::moved_to;
+ghost use mathlib.Core.Bool.{cond};
 ghost use mathlib.Core.Path.{_≡_};
+ghost use Rattle.schedule.specs.declared.Entry.the-variants.{Step};
+ghost use Rattle.thread.specs.Thread.{none};
+ghost use Rattle.machine.specs.Own.{steppingOf};
 ghost use Rattle.machine.specs.State.{jobOf, meaning};
 ghost use Rattle.play.specs.Entries.{Playable, Played};
+
+// The thread that core c steps, if its command may be met in place; 32 where there is none, or where it was found to be met by the rule.
+fn stepping_in_place(by_rule: bool, c: u8, over: u8, count: u8, cores: [u8; 4]) -> u8
+    ensures { λ r. ⌜ r ≡ cond «by_rule» none (steppingOf over count cores (Step c)) ⌝ }
+{
+    if by_rule {
+        return 32;
+    }
+    stepping(Entry::Step(c), over, count, cores)
+}
 
 // The machine meets the schedule's entries one after another; each leaves its log byte at its number.
 pub fn play(
@@ -41,8 +54,8 @@ pub fn play(
     let mut by_rule = false;
     'entries: loop {
         let mut c = step_core(schedule, at);
-        let mut t = stepping(Entry::Step(c), m.over, m.count, m.cores);
-        if in_place(by_rule, t) {
+        let mut t = stepping_in_place(by_rule, c, m.over, m.count, m.cores);
+        if t < 32 {
             let first = m.threads[t as usize];
             let mut position = first.position;
             let mut units = m.units;
@@ -73,8 +86,6 @@ pub fn play(
                             continue;
                         }
                         m.threads[k].position = position;
-                        m.units = units;
-                        m.log = 0;
                         // another core's step, which goes on in the same way
                         let u = stepping(Entry::Step(next), m.over, m.count, m.cores);
                         if u < 32 {
@@ -84,6 +95,8 @@ pub fn play(
                             t = u;
                             continue;
                         }
+                        m.units = units;
+                        m.log = 0;
                         continue 'entries;
                     }
                     OwnStep::Joined(behind, more) => {

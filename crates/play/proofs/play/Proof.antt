@@ -12,8 +12,8 @@ use Rattle.schedule.proofs.Following.{read-malformed}
 use Rattle.machine.specs.declared.OwnStep.the-variants.{Moved, Joined, Calls, Ends, Other}
 use Rattle.machine.specs.State.{State, jobOf, meaning, after}
 use Rattle.play.proofs.Playing.{Left, begins, has-room, goes, ends}
-use Rattle.machine.proofs.HeldWay.{again, again-few, may-own}
-use Rattle.play.proofs.Holding.{Held, held-goes, held-room, held-within, holds, holds-on}
+use Rattle.machine.proofs.HeldWay.{again, again-few}
+use Rattle.play.proofs.Holding.{Held, held-goes, held-room, held-within, holds, holds-on, may-step}
 use Rattle.play.proofs.play.Statement.{statement}
 use Rattle.play.proofs.play.Tie as tie
 
@@ -42,30 +42,30 @@ entries-holds c = (refl, refl, refl, begins _ _ _ _ (c .before .before .before .
 step-core-requires : tie.Need-step-core-requires Inv-loop μ-loop Inv-entries μ-entries
 step-core-requires c κs = search needs
 
-stepping-requires : tie.Need-stepping-requires Inv-loop μ-loop Inv-entries μ-entries
-stepping-requires c κs = search needs
-
-in-place-requires : tie.Need-in-place-requires Inv-loop μ-loop Inv-entries μ-entries
-in-place-requires c κs = search needs
+stepping-in-place-requires :
+    tie.Need-stepping-in-place-requires Inv-loop μ-loop Inv-entries μ-entries
+stepping-in-place-requires c κs = search needs
 
 cast-first : tie.Need-cast-first Inv-loop μ-loop Inv-entries μ-entries
-cast-first c = omega (arith, may-own (c .before .before .before .before .before .entries .by-rule) (c .before .before .stepping .result) (c .before .in-place .result) (c .before .in-place .ensures) (c .if1 .taken) .1)
+cast-first c = search needs
 
 mul-first : tie.Need-mul-first Inv-loop μ-loop Inv-entries μ-entries
-mul-first c = omega (arith, may-own (c .before .before .before .before .before .entries .by-rule) (c .before .before .stepping .result) (c .before .in-place .result) (c .before .in-place .ensures) (c .if1 .taken) .1)
+mul-first c = search needs
 
 element-copy-out-first : tie.Need-element-copy-out-first Inv-loop μ-loop Inv-entries μ-entries
-element-copy-out-first c = may-own (c .before .before .before .before .before .entries .by-rule) (c .before .before .stepping .result) (c .before .in-place .result) (c .before .in-place .ensures) (c .if1 .taken) .1
+element-copy-out-first c = search needs
 
 loop-holds : tie.Need-loop-holds Inv-loop μ-loop Inv-entries μ-entries
+unfolding meaning
 loop-holds c =
-    let small = may-own (c .before .before .before .before .before .before .entries .by-rule) (c .before .before .before .stepping .result) (c .before .before .in-place .result) (c .before .before .in-place .ensures) (c .before .if1 .taken) .1 in (
+    let small = c .before .if1 .taken in
+    let steps = may-step (c .before .before .before .before .before .entries .by-rule) (c .before .before .stepping-in-place .result) _ (c .before .before .stepping-in-place .ensures) (c .before .if1 .taken) .1 in (
       refl,
       refl,
       refl,
       omega arith,
       small,
-      λ s first left. holds _ _ _ (c .before .before .before .before .before .step-core .ensures) _ _ _ _ s first _ _ (c .before .before .before .stepping .ensures) small _ _ _ _ left,
+      λ s first left. holds _ _ _ (c .before .before .before .before .step-core .ensures) _ _ _ _ s first _ _ steps small _ _ _ _ _ left,
     )
 
 cast-k : tie.Need-cast-k Inv-loop μ-loop Inv-entries μ-entries
@@ -89,7 +89,7 @@ enum-known-own c = search needs
 slice-write-log : tie.Need-slice-write-log Inv-loop μ-loop Inv-entries μ-entries
 slice-write-log c =
     let l = c .before .before .before .before .before .before .before .before .before .before .before .before in
-    let e = c .before .before .before .before .before .before .before .before .before .before .before .before .before .before .before .before .before .before .before in
+    let e = c .before .before .before .before .before .before .before .before .before .before .before .before .before .before .before .before .before .before in
     let i = l .loop .inv in
     let o = e .entries .inv in
     let held = i .5 _ _ (o .3) in
@@ -98,20 +98,20 @@ slice-write-log c =
 add-number : tie.Need-add-number Inv-loop μ-loop Inv-entries μ-entries
 add-number c =
     let l = c .before .before .before .before .before .before .before .before .before .before .before .before in
-    let e = c .before .before .before .before .before .before .before .before .before .before .before .before .before .before .before .before .before .before .before in
+    let e = c .before .before .before .before .before .before .before .before .before .before .before .before .before .before .before .before .before .before in
     let i = l .loop .inv in
     let o = e .entries .inv in
     let held = i .5 _ _ (o .3) in
-    omega (arith, held-room _ _ _ _ _ _ _ _ _ _ _ _ _ _ _ _ _ held, c .before .before .before .before .before .before .before .before .before .before .before .before .before .before .before .before .before .before .before .before .before .before .before .before .before .before .before .good .1 .1 .0)
+    omega (arith, held-room _ _ _ _ _ _ _ _ _ _ _ _ _ _ _ _ _ held, c .before .before .before .before .before .before .before .before .before .before .before .before .before .before .before .before .before .before .before .before .before .before .before .before .before .before .good .1 .1 .0)
 
 add-at : tie.Need-add-at Inv-loop μ-loop Inv-entries μ-entries
 add-at c =
     let l = c .before .before .before .before .before .before .before .before .before .before .before .before in
-    let e = c .before .before .before .before .before .before .before .before .before .before .before .before .before .before .before .before .before .before .before in
+    let e = c .before .before .before .before .before .before .before .before .before .before .before .before .before .before .before .before .before .before in
     let i = l .loop .inv in
     let o = e .entries .inv in
     let held = i .5 _ _ (o .3) in
-    omega (arith, held-within _ _ _ _ _ _ _ _ _ _ _ _ _ _ _ _ _ held, c .before .before .before .before .before .before .before .before .before .before .before .before .before .before .before .before .before .before .before .before .before .before .before .before .before .before .before .good .1 .0 .0)
+    omega (arith, held-within _ _ _ _ _ _ _ _ _ _ _ _ _ _ _ _ _ held, c .before .before .before .before .before .before .before .before .before .before .before .before .before .before .before .before .before .before .before .before .before .before .before .before .before .before .good .1 .0 .0)
 
 step-core-requires-2 : tie.Need-step-core-requires-2 Inv-loop μ-loop Inv-entries μ-entries
 step-core-requires-2 c κs = search needs
@@ -119,7 +119,7 @@ step-core-requires-2 c κs = search needs
 loop-less : tie.Need-loop-less Inv-loop μ-loop Inv-entries μ-entries
 loop-less c =
     let l = c .before .before .before .before .before .before .before .before .before .before .before .before .before .before in
-    let e = c .before .before .before .before .before .before .before .before .before .before .before .before .before .before .before .before .before .before .before .before .before in
+    let e = c .before .before .before .before .before .before .before .before .before .before .before .before .before .before .before .before .before .before .before .before in
     let i = l .loop .inv in
     let o = e .entries .inv in
     let held = i .5 _ _ (o .3) in
@@ -128,7 +128,7 @@ loop-less c =
 loop-again : tie.Need-loop-again Inv-loop μ-loop Inv-entries μ-entries
 loop-again c =
     let l = c .before .before .before .before .before .before .before .before .before .before .before .before .before .before in
-    let e = c .before .before .before .before .before .before .before .before .before .before .before .before .before .before .before .before .before .before .before .before .before in
+    let e = c .before .before .before .before .before .before .before .before .before .before .before .before .before .before .before .before .before .before .before .before in
     let i = l .loop .inv in
     let o = e .entries .inv in
     let kept = c .before .before .before .before .before .before .before .before .before .own-step .kept .1 .1 .1 .1 .1 in (
@@ -149,8 +149,8 @@ mul-m c = search needs
 way-write-given-m : tie.Need-way-write-given-m Inv-loop μ-loop Inv-entries μ-entries
 way-write-given-m c = search needs
 
-stepping-requires-2 : tie.Need-stepping-requires-2 Inv-loop μ-loop Inv-entries μ-entries
-stepping-requires-2 c κs = search needs
+stepping-requires : tie.Need-stepping-requires Inv-loop μ-loop Inv-entries μ-entries
+stepping-requires c κs = search needs
 
 cast-other : tie.Need-cast-other Inv-loop μ-loop Inv-entries μ-entries
 cast-other c = search needs
@@ -164,7 +164,7 @@ element-copy-out-other c = search needs
 loop-less-2 : tie.Need-loop-less-2 Inv-loop μ-loop Inv-entries μ-entries
 loop-less-2 c =
     let l = c .before .before .before .before .before .before .before .before .before .before .before .before .before .before .before .before .before .before .before in
-    let e = c .before .before .before .before .before .before .before .before .before .before .before .before .before .before .before .before .before .before .before .before .before .before .before .before .before .before in
+    let e = c .before .before .before .before .before .before .before .before .before .before .before .before .before .before .before .before .before .before .before .before .before .before .before .before .before in
     let i = l .loop .inv in
     let o = e .entries .inv in
     let held = i .5 _ _ (o .3) in
@@ -174,7 +174,7 @@ loop-again-2 : tie.Need-loop-again-2 Inv-loop μ-loop Inv-entries μ-entries
 unfolding meaning
 loop-again-2 c =
     let l = c .before .before .before .before .before .before .before .before .before .before .before .before .before .before .before .before .before .before .before in
-    let e = c .before .before .before .before .before .before .before .before .before .before .before .before .before .before .before .before .before .before .before .before .before .before .before .before .before .before in
+    let e = c .before .before .before .before .before .before .before .before .before .before .before .before .before .before .before .before .before .before .before .before .before .before .before .before .before in
     let i = l .loop .inv in
     let o = e .entries .inv in
     let kept = c .before .before .before .before .before .before .before .before .before .before .before .before .before .before .own-step .kept .1 .1 .1 .1 .1 in (
@@ -185,14 +185,14 @@ loop-again-2 c =
       c .before .if3 .taken,
       λ s first left.
           let held = i .5 s first left in
-          holds _ _ _ (c .before .before .before .before .before .before .step-core2 .ensures) _ _ _ _ s first _ _ (c .before .before .stepping2 .ensures) (c .before .if3 .taken) _ _ _ _
+          holds _ _ _ (c .before .before .before .before .before .before .step-core2 .ensures) _ _ _ _ s first _ _ (c .before .before .stepping .ensures) (c .before .if3 .taken) _ _ _ _ _
           (held-goes _ _ _ _ _ _ _ _ _ _ _ _ _ _ _ _ _ held (Moved _ _) _ _ (rw (c .before .before .before .before .before .before .before .before .before .before .before .before .before .before .before .before .before .moved-to .ensures, c .before .before .before .before .before .before .before .before .own .given .1) at (c .before .before .before .before .before .before .before .before .before .before .before .before .before .before .own-step .ensures))),
     )
 
 entries-less : tie.Need-entries-less Inv-loop μ-loop Inv-entries μ-entries
 entries-less c =
     let l = c .before .before .before .before .before .before .before .before .before .before .before .before .before .before .before .before .before .before in
-    let e = c .before .before .before .before .before .before .before .before .before .before .before .before .before .before .before .before .before .before .before .before .before .before .before .before .before in
+    let e = c .before .before .before .before .before .before .before .before .before .before .before .before .before .before .before .before .before .before .before .before .before .before .before .before in
     let i = l .loop .inv in
     let o = e .entries .inv in
     let held = i .5 _ _ (o .3) in
@@ -202,7 +202,7 @@ entries-again : tie.Need-entries-again Inv-loop μ-loop Inv-entries μ-entries
 unfolding meaning
 entries-again c =
     let l = c .before .before .before .before .before .before .before .before .before .before .before .before .before .before .before .before .before .before in
-    let e = c .before .before .before .before .before .before .before .before .before .before .before .before .before .before .before .before .before .before .before .before .before .before .before .before .before in
+    let e = c .before .before .before .before .before .before .before .before .before .before .before .before .before .before .before .before .before .before .before .before .before .before .before .before in
     let i = l .loop .inv in
     let o = e .entries .inv in
     let held = i .5 _ _ (o .3) in
@@ -216,8 +216,8 @@ enum-known-own-2 c = search needs
 joined-at-requires : tie.Need-joined-at-requires Inv-loop μ-loop Inv-entries μ-entries
 joined-at-requires c κs = search needs
 
-mul-t88 : tie.Need-mul-t88 Inv-loop μ-loop Inv-entries μ-entries
-mul-t88 c = search needs
+mul-t87 : tie.Need-mul-t87 Inv-loop μ-loop Inv-entries μ-entries
+mul-t87 c = search needs
 
 element-set-from-m : tie.Need-element-set-from-m Inv-loop μ-loop Inv-entries μ-entries
 element-set-from-m c = search needs
@@ -225,7 +225,7 @@ element-set-from-m c = search needs
 slice-write-log-2 : tie.Need-slice-write-log-2 Inv-loop μ-loop Inv-entries μ-entries
 slice-write-log-2 c =
     let l = c .before .before .before .before .before .before .before .before .before .before .before .before .before in
-    let e = c .before .before .before .before .before .before .before .before .before .before .before .before .before .before .before .before .before .before .before .before in
+    let e = c .before .before .before .before .before .before .before .before .before .before .before .before .before .before .before .before .before .before .before in
     let i = l .loop .inv in
     let o = e .entries .inv in
     let held = i .5 _ _ (o .3) in
@@ -234,25 +234,25 @@ slice-write-log-2 c =
 add-number-2 : tie.Need-add-number-2 Inv-loop μ-loop Inv-entries μ-entries
 add-number-2 c =
     let l = c .before .before .before .before .before .before .before .before .before .before .before .before .before in
-    let e = c .before .before .before .before .before .before .before .before .before .before .before .before .before .before .before .before .before .before .before .before in
+    let e = c .before .before .before .before .before .before .before .before .before .before .before .before .before .before .before .before .before .before .before in
     let i = l .loop .inv in
     let o = e .entries .inv in
     let held = i .5 _ _ (o .3) in
-    omega (arith, held-room _ _ _ _ _ _ _ _ _ _ _ _ _ _ _ _ _ held, c .before .before .before .before .before .before .before .before .before .before .before .before .before .before .before .before .before .before .before .before .before .before .before .before .before .before .before .before .good .1 .1 .0)
+    omega (arith, held-room _ _ _ _ _ _ _ _ _ _ _ _ _ _ _ _ _ held, c .before .before .before .before .before .before .before .before .before .before .before .before .before .before .before .before .before .before .before .before .before .before .before .before .before .before .before .good .1 .1 .0)
 
 add-at-2 : tie.Need-add-at-2 Inv-loop μ-loop Inv-entries μ-entries
 add-at-2 c =
     let l = c .before .before .before .before .before .before .before .before .before .before .before .before .before in
-    let e = c .before .before .before .before .before .before .before .before .before .before .before .before .before .before .before .before .before .before .before .before in
+    let e = c .before .before .before .before .before .before .before .before .before .before .before .before .before .before .before .before .before .before .before in
     let i = l .loop .inv in
     let o = e .entries .inv in
     let held = i .5 _ _ (o .3) in
-    omega (arith, held-within _ _ _ _ _ _ _ _ _ _ _ _ _ _ _ _ _ held, c .before .before .before .before .before .before .before .before .before .before .before .before .before .before .before .before .before .before .before .before .before .before .before .before .before .before .before .before .good .1 .0 .0)
+    omega (arith, held-within _ _ _ _ _ _ _ _ _ _ _ _ _ _ _ _ _ held, c .before .before .before .before .before .before .before .before .before .before .before .before .before .before .before .before .before .before .before .before .before .before .before .before .before .before .before .good .1 .0 .0)
 
 entries-less-2 : tie.Need-entries-less-2 Inv-loop μ-loop Inv-entries μ-entries
 entries-less-2 c =
     let l = c .before .before .before .before .before .before .before .before .before .before .before .before .before in
-    let e = c .before .before .before .before .before .before .before .before .before .before .before .before .before .before .before .before .before .before .before .before in
+    let e = c .before .before .before .before .before .before .before .before .before .before .before .before .before .before .before .before .before .before .before in
     let i = l .loop .inv in
     let o = e .entries .inv in
     let held = i .5 _ _ (o .3) in
@@ -261,7 +261,7 @@ entries-less-2 c =
 entries-again-2 : tie.Need-entries-again-2 Inv-loop μ-loop Inv-entries μ-entries
 entries-again-2 c =
     let l = c .before .before .before .before .before .before .before .before .before .before .before .before .before in
-    let e = c .before .before .before .before .before .before .before .before .before .before .before .before .before .before .before .before .before .before .before .before in
+    let e = c .before .before .before .before .before .before .before .before .before .before .before .before .before .before .before .before .before .before .before in
     let i = l .loop .inv in
     let o = e .entries .inv in
     let held = i .5 _ _ (o .3) in
@@ -314,7 +314,7 @@ element-write-m c = search needs
 slice-write-log-3 : tie.Need-slice-write-log-3 Inv-loop μ-loop Inv-entries μ-entries
 slice-write-log-3 c =
     let l = c .before .before .before .before .before .before .before .before .before .before .before .before .before .before .before .before .before .before .before .before .before .before .before .before .before .before .before .before .before .before .before in
-    let e = c .before .before .before .before .before .before .before .before .before .before .before .before .before .before .before .before .before .before .before .before .before .before .before .before .before .before .before .before .before .before .before .before .before .before .before .before .before .before in
+    let e = c .before .before .before .before .before .before .before .before .before .before .before .before .before .before .before .before .before .before .before .before .before .before .before .before .before .before .before .before .before .before .before .before .before .before .before .before .before in
     let i = l .loop .inv in
     let o = e .entries .inv in
     let held = i .5 _ _ (o .3) in
@@ -323,25 +323,25 @@ slice-write-log-3 c =
 add-number-3 : tie.Need-add-number-3 Inv-loop μ-loop Inv-entries μ-entries
 add-number-3 c =
     let l = c .before .before .before .before .before .before .before .before .before .before .before .before .before .before .before .before .before .before .before .before .before .before .before .before .before .before .before .before .before .before .before in
-    let e = c .before .before .before .before .before .before .before .before .before .before .before .before .before .before .before .before .before .before .before .before .before .before .before .before .before .before .before .before .before .before .before .before .before .before .before .before .before .before in
+    let e = c .before .before .before .before .before .before .before .before .before .before .before .before .before .before .before .before .before .before .before .before .before .before .before .before .before .before .before .before .before .before .before .before .before .before .before .before .before in
     let i = l .loop .inv in
     let o = e .entries .inv in
     let held = i .5 _ _ (o .3) in
-    omega (arith, held-room _ _ _ _ _ _ _ _ _ _ _ _ _ _ _ _ _ held, c .before .before .before .before .before .before .before .before .before .before .before .before .before .before .before .before .before .before .before .before .before .before .before .before .before .before .before .before .before .before .before .before .before .before .before .before .before .before .before .before .before .before .before .before .before .before .good .1 .1 .0)
+    omega (arith, held-room _ _ _ _ _ _ _ _ _ _ _ _ _ _ _ _ _ held, c .before .before .before .before .before .before .before .before .before .before .before .before .before .before .before .before .before .before .before .before .before .before .before .before .before .before .before .before .before .before .before .before .before .before .before .before .before .before .before .before .before .before .before .before .before .good .1 .1 .0)
 
 add-at-3 : tie.Need-add-at-3 Inv-loop μ-loop Inv-entries μ-entries
 add-at-3 c =
     let l = c .before .before .before .before .before .before .before .before .before .before .before .before .before .before .before .before .before .before .before .before .before .before .before .before .before .before .before .before .before .before .before in
-    let e = c .before .before .before .before .before .before .before .before .before .before .before .before .before .before .before .before .before .before .before .before .before .before .before .before .before .before .before .before .before .before .before .before .before .before .before .before .before .before in
+    let e = c .before .before .before .before .before .before .before .before .before .before .before .before .before .before .before .before .before .before .before .before .before .before .before .before .before .before .before .before .before .before .before .before .before .before .before .before .before in
     let i = l .loop .inv in
     let o = e .entries .inv in
     let held = i .5 _ _ (o .3) in
-    omega (arith, held-within _ _ _ _ _ _ _ _ _ _ _ _ _ _ _ _ _ held, c .before .before .before .before .before .before .before .before .before .before .before .before .before .before .before .before .before .before .before .before .before .before .before .before .before .before .before .before .before .before .before .before .before .before .before .before .before .before .before .before .before .before .before .before .before .before .good .1 .0 .0)
+    omega (arith, held-within _ _ _ _ _ _ _ _ _ _ _ _ _ _ _ _ _ held, c .before .before .before .before .before .before .before .before .before .before .before .before .before .before .before .before .before .before .before .before .before .before .before .before .before .before .before .before .before .before .before .before .before .before .before .before .before .before .before .before .before .before .before .before .before .good .1 .0 .0)
 
 entries-less-3 : tie.Need-entries-less-3 Inv-loop μ-loop Inv-entries μ-entries
 entries-less-3 c =
     let l = c .before .before .before .before .before .before .before .before .before .before .before .before .before .before .before .before .before .before .before .before .before .before .before .before .before .before .before .before .before .before .before in
-    let e = c .before .before .before .before .before .before .before .before .before .before .before .before .before .before .before .before .before .before .before .before .before .before .before .before .before .before .before .before .before .before .before .before .before .before .before .before .before .before in
+    let e = c .before .before .before .before .before .before .before .before .before .before .before .before .before .before .before .before .before .before .before .before .before .before .before .before .before .before .before .before .before .before .before .before .before .before .before .before .before in
     let i = l .loop .inv in
     let o = e .entries .inv in
     let held = i .5 _ _ (o .3) in
@@ -351,7 +351,7 @@ entries-again-3 : tie.Need-entries-again-3 Inv-loop μ-loop Inv-entries μ-entri
 unfolding meaning
 entries-again-3 c =
     let l = c .before .before .before .before .before .before .before .before .before .before .before .before .before .before .before .before .before .before .before .before .before .before .before .before .before .before .before .before .before .before .before in
-    let e = c .before .before .before .before .before .before .before .before .before .before .before .before .before .before .before .before .before .before .before .before .before .before .before .before .before .before .before .before .before .before .before .before .before .before .before .before .before .before in
+    let e = c .before .before .before .before .before .before .before .before .before .before .before .before .before .before .before .before .before .before .before .before .before .before .before .before .before .before .before .before .before .before .before .before .before .before .before .before .before in
     let i = l .loop .inv in
     let o = e .entries .inv in
     let held = i .5 _ _ (o .3) in
@@ -363,17 +363,17 @@ entries-again-3 c =
 entries-less-4 : tie.Need-entries-less-4 Inv-loop μ-loop Inv-entries μ-entries
 entries-less-4 c =
     let l = c .before .before .before .before .before .before .before .before .before .before .before .before .before .before .before .before .before .before .before .before .before .before .before .before .before in
-    let e = c .before .before .before .before .before .before .before .before .before .before .before .before .before .before .before .before .before .before .before .before .before .before .before .before .before .before .before .before .before .before .before .before in
+    let e = c .before .before .before .before .before .before .before .before .before .before .before .before .before .before .before .before .before .before .before .before .before .before .before .before .before .before .before .before .before .before .before in
     let i = l .loop .inv in
     let o = e .entries .inv in
     let held = i .5 _ _ (o .3) in
-    omega (arith, held-within _ _ _ _ _ _ _ _ _ _ _ _ _ _ _ _ _ held, i .3, may-own (c .before .before .before .before .before .before .before .before .before .before .before .before .before .before .before .before .before .before .before .before .before .before .before .before .before .before .before .before .before .before .before .before .entries .by-rule) (c .before .before .before .before .before .before .before .before .before .before .before .before .before .before .before .before .before .before .before .before .before .before .before .before .before .before .before .before .before .stepping .result) (c .before .before .before .before .before .before .before .before .before .before .before .before .before .before .before .before .before .before .before .before .before .before .before .before .before .before .before .before .in-place .result) (c .before .before .before .before .before .before .before .before .before .before .before .before .before .before .before .before .before .before .before .before .before .before .before .before .before .before .before .before .in-place .ensures) (c .before .before .before .before .before .before .before .before .before .before .before .before .before .before .before .before .before .before .before .before .before .before .before .before .before .before .before .if1 .taken) .0)
+    omega (arith, held-within _ _ _ _ _ _ _ _ _ _ _ _ _ _ _ _ _ held, i .3, may-step (c .before .before .before .before .before .before .before .before .before .before .before .before .before .before .before .before .before .before .before .before .before .before .before .before .before .before .before .before .before .before .before .entries .by-rule) (c .before .before .before .before .before .before .before .before .before .before .before .before .before .before .before .before .before .before .before .before .before .before .before .before .before .before .before .before .stepping-in-place .result) _ (c .before .before .before .before .before .before .before .before .before .before .before .before .before .before .before .before .before .before .before .before .before .before .before .before .before .before .before .before .stepping-in-place .ensures) (c .before .before .before .before .before .before .before .before .before .before .before .before .before .before .before .before .before .before .before .before .before .before .before .before .before .before .before .if1 .taken) .0)
 
 entries-again-4 : tie.Need-entries-again-4 Inv-loop μ-loop Inv-entries μ-entries
 unfolding meaning
 entries-again-4 c =
     let l = c .before .before .before .before .before .before .before .before .before .before .before .before .before .before .before .before .before .before .before .before .before .before .before .before .before in
-    let e = c .before .before .before .before .before .before .before .before .before .before .before .before .before .before .before .before .before .before .before .before .before .before .before .before .before .before .before .before .before .before .before .before in
+    let e = c .before .before .before .before .before .before .before .before .before .before .before .before .before .before .before .before .before .before .before .before .before .before .before .before .before .before .before .before .before .before .before in
     let i = l .loop .inv in
     let o = e .entries .inv in
     let held = i .5 _ _ (o .3) in
@@ -420,8 +420,8 @@ put-last-requires-2 c κs = search needs
 blank-thread-requires : tie.Need-blank-thread-requires Inv-loop μ-loop Inv-entries μ-entries
 blank-thread-requires c κs = search needs
 
-mul-t138 : tie.Need-mul-t138 Inv-loop μ-loop Inv-entries μ-entries
-mul-t138 c = omega (arith, c .before .before .before .before .before .before .before .before .before .before .before .before .before .before .before .before .before .before .before .before .before .before .before .before .before .before .before .before .before .before .before .before .before .loop .inv .4)
+mul-t137 : tie.Need-mul-t137 Inv-loop μ-loop Inv-entries μ-entries
+mul-t137 c = omega (arith, c .before .before .before .before .before .before .before .before .before .before .before .before .before .before .before .before .before .before .before .before .before .before .before .before .before .before .before .before .before .before .before .before .before .loop .inv .4)
 
 element-set-from-m-2 : tie.Need-element-set-from-m-2 Inv-loop μ-loop Inv-entries μ-entries
 element-set-from-m-2 c = c .before .before .before .before .before .before .before .before .before .before .before .before .before .before .before .before .before .before .before .before .before .before .before .before .before .before .before .before .before .before .before .before .before .loop .inv .4
@@ -445,7 +445,7 @@ element-write-m-2 c = search needs
 slice-write-log-4 : tie.Need-slice-write-log-4 Inv-loop μ-loop Inv-entries μ-entries
 slice-write-log-4 c =
     let l = c .before .before .before .before .before .before .before .before .before .before .before .before .before .before .before .before .before .before .before .before .before .before .before .before .before .before .before .before .before .before .before .before .before in
-    let e = c .before .before .before .before .before .before .before .before .before .before .before .before .before .before .before .before .before .before .before .before .before .before .before .before .before .before .before .before .before .before .before .before .before .before .before .before .before .before .before .before in
+    let e = c .before .before .before .before .before .before .before .before .before .before .before .before .before .before .before .before .before .before .before .before .before .before .before .before .before .before .before .before .before .before .before .before .before .before .before .before .before .before .before in
     let i = l .loop .inv in
     let o = e .entries .inv in
     let held = i .5 _ _ (o .3) in
@@ -454,25 +454,25 @@ slice-write-log-4 c =
 add-number-4 : tie.Need-add-number-4 Inv-loop μ-loop Inv-entries μ-entries
 add-number-4 c =
     let l = c .before .before .before .before .before .before .before .before .before .before .before .before .before .before .before .before .before .before .before .before .before .before .before .before .before .before .before .before .before .before .before .before .before in
-    let e = c .before .before .before .before .before .before .before .before .before .before .before .before .before .before .before .before .before .before .before .before .before .before .before .before .before .before .before .before .before .before .before .before .before .before .before .before .before .before .before .before in
+    let e = c .before .before .before .before .before .before .before .before .before .before .before .before .before .before .before .before .before .before .before .before .before .before .before .before .before .before .before .before .before .before .before .before .before .before .before .before .before .before .before in
     let i = l .loop .inv in
     let o = e .entries .inv in
     let held = i .5 _ _ (o .3) in
-    omega (arith, held-room _ _ _ _ _ _ _ _ _ _ _ _ _ _ _ _ _ held, c .before .before .before .before .before .before .before .before .before .before .before .before .before .before .before .before .before .before .before .before .before .before .before .before .before .before .before .before .before .before .before .before .before .before .before .before .before .before .before .before .before .before .before .before .before .before .before .before .good .1 .1 .0)
+    omega (arith, held-room _ _ _ _ _ _ _ _ _ _ _ _ _ _ _ _ _ held, c .before .before .before .before .before .before .before .before .before .before .before .before .before .before .before .before .before .before .before .before .before .before .before .before .before .before .before .before .before .before .before .before .before .before .before .before .before .before .before .before .before .before .before .before .before .before .before .good .1 .1 .0)
 
 add-at-4 : tie.Need-add-at-4 Inv-loop μ-loop Inv-entries μ-entries
 add-at-4 c =
     let l = c .before .before .before .before .before .before .before .before .before .before .before .before .before .before .before .before .before .before .before .before .before .before .before .before .before .before .before .before .before .before .before .before .before in
-    let e = c .before .before .before .before .before .before .before .before .before .before .before .before .before .before .before .before .before .before .before .before .before .before .before .before .before .before .before .before .before .before .before .before .before .before .before .before .before .before .before .before in
+    let e = c .before .before .before .before .before .before .before .before .before .before .before .before .before .before .before .before .before .before .before .before .before .before .before .before .before .before .before .before .before .before .before .before .before .before .before .before .before .before .before in
     let i = l .loop .inv in
     let o = e .entries .inv in
     let held = i .5 _ _ (o .3) in
-    omega (arith, held-within _ _ _ _ _ _ _ _ _ _ _ _ _ _ _ _ _ held, c .before .before .before .before .before .before .before .before .before .before .before .before .before .before .before .before .before .before .before .before .before .before .before .before .before .before .before .before .before .before .before .before .before .before .before .before .before .before .before .before .before .before .before .before .before .before .before .before .good .1 .0 .0)
+    omega (arith, held-within _ _ _ _ _ _ _ _ _ _ _ _ _ _ _ _ _ held, c .before .before .before .before .before .before .before .before .before .before .before .before .before .before .before .before .before .before .before .before .before .before .before .before .before .before .before .before .before .before .before .before .before .before .before .before .before .before .before .before .before .before .before .before .before .before .before .good .1 .0 .0)
 
 entries-less-5 : tie.Need-entries-less-5 Inv-loop μ-loop Inv-entries μ-entries
 entries-less-5 c =
     let l = c .before .before .before .before .before .before .before .before .before .before .before .before .before .before .before .before .before .before .before .before .before .before .before .before .before .before .before .before .before .before .before .before .before in
-    let e = c .before .before .before .before .before .before .before .before .before .before .before .before .before .before .before .before .before .before .before .before .before .before .before .before .before .before .before .before .before .before .before .before .before .before .before .before .before .before .before .before in
+    let e = c .before .before .before .before .before .before .before .before .before .before .before .before .before .before .before .before .before .before .before .before .before .before .before .before .before .before .before .before .before .before .before .before .before .before .before .before .before .before .before in
     let i = l .loop .inv in
     let o = e .entries .inv in
     let held = i .5 _ _ (o .3) in
@@ -482,7 +482,7 @@ entries-again-5 : tie.Need-entries-again-5 Inv-loop μ-loop Inv-entries μ-entri
 unfolding meaning
 entries-again-5 c =
     let l = c .before .before .before .before .before .before .before .before .before .before .before .before .before .before .before .before .before .before .before .before .before .before .before .before .before .before .before .before .before .before .before .before .before in
-    let e = c .before .before .before .before .before .before .before .before .before .before .before .before .before .before .before .before .before .before .before .before .before .before .before .before .before .before .before .before .before .before .before .before .before .before .before .before .before .before .before .before in
+    let e = c .before .before .before .before .before .before .before .before .before .before .before .before .before .before .before .before .before .before .before .before .before .before .before .before .before .before .before .before .before .before .before .before .before .before .before .before .before .before .before in
     let i = l .loop .inv in
     let o = e .entries .inv in
     let held = i .5 _ _ (o .3) in
@@ -500,17 +500,17 @@ entries-again-5 c =
 entries-less-6 : tie.Need-entries-less-6 Inv-loop μ-loop Inv-entries μ-entries
 entries-less-6 c =
     let l = c .before .before .before .before .before .before .before .before .before .before .before .before .before .before .before .before .before .before .before .before .before .before in
-    let e = c .before .before .before .before .before .before .before .before .before .before .before .before .before .before .before .before .before .before .before .before .before .before .before .before .before .before .before .before .before in
+    let e = c .before .before .before .before .before .before .before .before .before .before .before .before .before .before .before .before .before .before .before .before .before .before .before .before .before .before .before .before in
     let i = l .loop .inv in
     let o = e .entries .inv in
     let held = i .5 _ _ (o .3) in
-    omega (arith, held-within _ _ _ _ _ _ _ _ _ _ _ _ _ _ _ _ _ held, i .3, may-own (c .before .before .before .before .before .before .before .before .before .before .before .before .before .before .before .before .before .before .before .before .before .before .before .before .before .before .before .before .before .entries .by-rule) (c .before .before .before .before .before .before .before .before .before .before .before .before .before .before .before .before .before .before .before .before .before .before .before .before .before .before .stepping .result) (c .before .before .before .before .before .before .before .before .before .before .before .before .before .before .before .before .before .before .before .before .before .before .before .before .before .in-place .result) (c .before .before .before .before .before .before .before .before .before .before .before .before .before .before .before .before .before .before .before .before .before .before .before .before .before .in-place .ensures) (c .before .before .before .before .before .before .before .before .before .before .before .before .before .before .before .before .before .before .before .before .before .before .before .before .if1 .taken) .0)
+    omega (arith, held-within _ _ _ _ _ _ _ _ _ _ _ _ _ _ _ _ _ held, i .3, may-step (c .before .before .before .before .before .before .before .before .before .before .before .before .before .before .before .before .before .before .before .before .before .before .before .before .before .before .before .before .entries .by-rule) (c .before .before .before .before .before .before .before .before .before .before .before .before .before .before .before .before .before .before .before .before .before .before .before .before .before .stepping-in-place .result) _ (c .before .before .before .before .before .before .before .before .before .before .before .before .before .before .before .before .before .before .before .before .before .before .before .before .before .stepping-in-place .ensures) (c .before .before .before .before .before .before .before .before .before .before .before .before .before .before .before .before .before .before .before .before .before .before .before .before .if1 .taken) .0)
 
 entries-again-6 : tie.Need-entries-again-6 Inv-loop μ-loop Inv-entries μ-entries
 unfolding meaning
 entries-again-6 c =
     let l = c .before .before .before .before .before .before .before .before .before .before .before .before .before .before .before .before .before .before .before .before .before .before in
-    let e = c .before .before .before .before .before .before .before .before .before .before .before .before .before .before .before .before .before .before .before .before .before .before .before .before .before .before .before .before .before in
+    let e = c .before .before .before .before .before .before .before .before .before .before .before .before .before .before .before .before .before .before .before .before .before .before .before .before .before .before .before .before in
     let i = l .loop .inv in
     let o = e .entries .inv in
     let held = i .5 _ _ (o .3) in
@@ -530,17 +530,17 @@ way-write-given-m-4 c = search needs
 entries-less-7 : tie.Need-entries-less-7 Inv-loop μ-loop Inv-entries μ-entries
 entries-less-7 c =
     let l = c .before .before .before .before .before .before .before .before .before .before .before .before in
-    let e = c .before .before .before .before .before .before .before .before .before .before .before .before .before .before .before .before .before .before .before in
+    let e = c .before .before .before .before .before .before .before .before .before .before .before .before .before .before .before .before .before .before in
     let i = l .loop .inv in
     let o = e .entries .inv in
     let held = i .5 _ _ (o .3) in
-    omega (arith, held-within _ _ _ _ _ _ _ _ _ _ _ _ _ _ _ _ _ held, i .3, may-own (c .before .before .before .before .before .before .before .before .before .before .before .before .before .before .before .before .before .before .before .entries .by-rule) (c .before .before .before .before .before .before .before .before .before .before .before .before .before .before .before .before .stepping .result) (c .before .before .before .before .before .before .before .before .before .before .before .before .before .before .before .in-place .result) (c .before .before .before .before .before .before .before .before .before .before .before .before .before .before .before .in-place .ensures) (c .before .before .before .before .before .before .before .before .before .before .before .before .before .before .if1 .taken) .0)
+    omega (arith, held-within _ _ _ _ _ _ _ _ _ _ _ _ _ _ _ _ _ held, i .3, may-step (c .before .before .before .before .before .before .before .before .before .before .before .before .before .before .before .before .before .before .entries .by-rule) (c .before .before .before .before .before .before .before .before .before .before .before .before .before .before .before .stepping-in-place .result) _ (c .before .before .before .before .before .before .before .before .before .before .before .before .before .before .before .stepping-in-place .ensures) (c .before .before .before .before .before .before .before .before .before .before .before .before .before .before .if1 .taken) .0)
 
 entries-again-7 : tie.Need-entries-again-7 Inv-loop μ-loop Inv-entries μ-entries
 unfolding meaning
 entries-again-7 c =
     let l = c .before .before .before .before .before .before .before .before .before .before .before .before in
-    let e = c .before .before .before .before .before .before .before .before .before .before .before .before .before .before .before .before .before .before .before in
+    let e = c .before .before .before .before .before .before .before .before .before .before .before .before .before .before .before .before .before .before in
     let i = l .loop .inv in
     let o = e .entries .inv in
     let held = i .5 _ _ (o .3) in
@@ -555,25 +555,25 @@ enum-known-found : tie.Need-enum-known-found Inv-loop μ-loop Inv-entries μ-ent
 enum-known-found c = search needs
 
 entry-requires : tie.Need-entry-requires Inv-loop μ-loop Inv-entries μ-entries
-entry-requires c κs = c .before .before .before .before .before .before .before .before .before .before .before .entries .inv .3 .sound
+entry-requires c κs = c .before .before .before .before .before .before .before .before .before .before .entries .inv .3 .sound
 
 slice-write-log-5 : tie.Need-slice-write-log-5 Inv-loop μ-loop Inv-entries μ-entries
 slice-write-log-5 c =
-    let e = c .before .before .before .before .before .before .before .before .before .before .before .before .before .before .before .before in
+    let e = c .before .before .before .before .before .before .before .before .before .before .before .before .before .before .before in
     let o = e .entries .inv in
     let is = sym (c .before .before .before .before .before .before .before .before .before .before .read-at .ensures) ∙ c .before .before .before .before .before .before .before .before .found .given .1 in
     omega (arith, has-room _ _ _ _ _ _ _ _ (o .3) _ _ is, o .0)
 
 add-number-5 : tie.Need-add-number-5 Inv-loop μ-loop Inv-entries μ-entries
 add-number-5 c =
-    let e = c .before .before .before .before .before .before .before .before .before .before .before .before .before .before .before .before in
+    let e = c .before .before .before .before .before .before .before .before .before .before .before .before .before .before .before in
     let o = e .entries .inv in
     let is = sym (c .before .before .before .before .before .before .before .before .before .before .read-at .ensures) ∙ c .before .before .before .before .before .before .before .before .found .given .1 in
-    omega (arith, has-room _ _ _ _ _ _ _ _ (o .3) _ _ is, c .before .before .before .before .before .before .before .before .before .before .before .before .before .before .before .before .before .before .before .before .before .before .before .before .good .1 .1 .0)
+    omega (arith, has-room _ _ _ _ _ _ _ _ (o .3) _ _ is, c .before .before .before .before .before .before .before .before .before .before .before .before .before .before .before .before .before .before .before .before .before .before .before .good .1 .1 .0)
 
 entries-less-8 : tie.Need-entries-less-8 Inv-loop μ-loop Inv-entries μ-entries
 entries-less-8 c =
-    let e = c .before .before .before .before .before .before .before .before .before .before .before .before .before .before .before .before in
+    let e = c .before .before .before .before .before .before .before .before .before .before .before .before .before .before .before in
     let o = e .entries .inv in
     let is = sym (c .before .before .before .before .before .before .before .before .before .before .read-at .ensures) ∙ c .before .before .before .before .before .before .before .before .found .given .1 in
     let f = found _ _ _ _ is in
@@ -582,7 +582,7 @@ entries-less-8 c =
 entries-again-8 : tie.Need-entries-again-8 Inv-loop μ-loop Inv-entries μ-entries
 unfolding after
 entries-again-8 c =
-    let e = c .before .before .before .before .before .before .before .before .before .before .before .before .before .before .before .before in
+    let e = c .before .before .before .before .before .before .before .before .before .before .before .before .before .before .before in
     let o = e .entries .inv in
     let is = sym (c .before .before .before .before .before .before .before .before .before .before .read-at .ensures) ∙ c .before .before .before .before .before .before .before .before .found .given .1 in
     let kept = c .before .before .before .before .entry .kept .1 .1 .1 .1 .1 in
@@ -601,7 +601,7 @@ same-length-3 : tie.Need-same-length-3 Inv-loop μ-loop Inv-entries μ-entries
 same-length-3 c = search needs
 
 returns : tie.Need-returns Inv-loop μ-loop Inv-entries μ-entries
-returns c = ends _ _ _ _ _ _ _ _ (c .before .before .before .before .before .before .before .before .entries .inv .3) (sym (c .before .before .read-at .ensures) ∙ c .enum-told2 .given .1)
+returns c = ends _ _ _ _ _ _ _ _ (c .before .before .before .before .before .before .before .entries .inv .3) (sym (c .before .before .read-at .ensures) ∙ c .enum-told2 .given .1)
 
 enum-told-3 : tie.Need-enum-told-3 Inv-loop μ-loop Inv-entries μ-entries
 enum-told-3 c = search needs
@@ -616,7 +616,7 @@ same-length-6 : tie.Need-same-length-6 Inv-loop μ-loop Inv-entries μ-entries
 same-length-6 c = search needs
 
 returns-2 : tie.Need-returns-2 Inv-loop μ-loop Inv-entries μ-entries
-returns-2 c = absurd (read-malformed _ _ _ (c .before .before .before .before .before .before .before .before .entries .inv .3 .here) (sym (c .before .before .read-at .ensures) ∙ c .enum-told3 .given .1))
+returns-2 c = absurd (read-malformed _ _ _ (c .before .before .before .before .before .before .before .entries .inv .3 .here) (sym (c .before .before .read-at .ensures) ∙ c .enum-told3 .given .1))
 
 pub play-spec : {M : Type 1} → statement M
 play-spec =
@@ -628,8 +628,7 @@ play-spec =
     μ-entries
     entries-holds
     step-core-requires
-    stepping-requires
-    in-place-requires
+    stepping-in-place-requires
     cast-first
     mul-first
     element-copy-out-first
@@ -648,7 +647,7 @@ play-spec =
     loop-again
     mul-m
     way-write-given-m
-    stepping-requires-2
+    stepping-requires
     cast-other
     mul-other
     element-copy-out-other
@@ -658,7 +657,7 @@ play-spec =
     entries-again
     enum-known-own-2
     joined-at-requires
-    mul-t88
+    mul-t87
     element-set-from-m
     slice-write-log-2
     add-number-2
@@ -699,7 +698,7 @@ play-spec =
     put-last-requires
     put-last-requires-2
     blank-thread-requires
-    mul-t138
+    mul-t137
     element-set-from-m-2
     cast-parent
     mul-parent-2
