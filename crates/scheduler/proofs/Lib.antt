@@ -1,5 +1,5 @@
--- In reading order: the search for a seed and for a suspended thread; an entry written to the buffer; refused entries; a try; the rounds;
--- a step in place.
+-- In reading order: an entry written to the buffer; refused entries; a try; the rounds; steps in place; the run by the entries written; and
+-- what `run` promises.
 pub mod Keeping
 pub mod Refusing
 pub mod Trying

@@ -1,4 +1,4 @@
--- In reading order: which entry a core tries, the rounds, what the inner functions give, and what `run` promises.
+-- In reading order: the rounds, what the inner functions give, and what `run` promises.
 pub mod Rounds
 pub mod Steps
 pub mod Promise
