@@ -5,10 +5,9 @@ pub mod words;
 
 use crate::words::answer_words;
 use crate::words::statuses_of;
-use run::tell::image_number;
+use image::number::image_number;
 ghost use mathlib.Core.Path.{_≡_};
 ghost use Rattle.image.specs.Image.{imageVerdict, numberIn};
-ghost use Rattle.run.specs.Run.{Input};
 ghost use Rattle.abi.specs.Told.{RunTold};
 
 // Document 01's number of an image; 0 where it is accepted.

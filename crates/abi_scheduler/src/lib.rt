@@ -2,7 +2,6 @@
 // slice is passed as a pointer and a length, an array as a pointer.
 use abi::words::answer_words;
 use abi::words::statuses_of;
-ghost use Rattle.run.specs.Run.{Input};
 ghost use Rattle.abi_scheduler.specs.Told.{ScheduledTold};
 
 // A run by the built-in scheduler, told as a run by a schedule is. It gives the bytes of the entries at the buffer's front.

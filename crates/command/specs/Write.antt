@@ -4,7 +4,7 @@ use mathlib.Core.List.{List, _++_}
 use mathlib.Core.Path.{_≡_}
 use Prim.Native.Nat.{ℕ}
 use lib.Dec.{leb}
-use lib.ListN.{length, take, drop}
+use lib.ListN.{length, drop}
 use Rattle.command.specs.declared.Command.{Command}
 use Rattle.command.specs.declared.CommandWritten.{CommandWritten}
 use Rattle.command.specs.declared.CommandWritten.the-variants.{Bytes, TooShort}

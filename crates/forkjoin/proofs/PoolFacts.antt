@@ -1,6 +1,6 @@
 -- What holds in every pool that a run reaches, read off the tree that it represents: threads are valid, their windows are apart, a child's
 -- result slot is pending in its parent and is its own, there is one root, and when nothing of the root is pending no other thread is left.
-use mathlib.Core.Path.{_∙_, _≡_, ap, refl, subst, sym}
+use mathlib.Core.Path.{_∙_, _≡_, refl, subst, sym}
 use mathlib.Core.List.{[], _∷_}
 use mathlib.Core.Bool.{false, true}
 use Prim.Native.Nat.{ℕ}

@@ -1,15 +1,14 @@
 -- What the machine and the serial run may rely on once an image is accepted. A thread's place is a routine and a position in its
 -- code; it is good when a command starts there. Assumes nothing.
 use borrow.Author.Tests.{leb-true}
-use mathlib.Core.Bool.{Bool, true, false, _&&_}
-use mathlib.Core.List.{List, [], _∷_}
-use mathlib.Core.Path.{_≡_, refl, sym, _∙_, ap}
-use Prim.Native.Nat.{ℕ, zero, suc, _+_, _-_, _*_, _≤_, _<_}
+use mathlib.Core.Bool.{true, false, _&&_}
+use mathlib.Core.List.{List}
+use mathlib.Core.Path.{_≡_, sym, _∙_, ap}
+use Prim.Native.Nat.{ℕ, zero, suc, _+_, _-_, _≤_, _<_}
 use native.Mathlib.Decide.{ℕ-discrete}
-use native.Mathlib.Nat.{add-zero}
 use native.Mathlib.Omega.{arith}
-use lib.Dec.{leb, ltb}
-use lib.ListN.{length, getD, take, drop, length-take, length-drop}
+use lib.Dec.{leb}
+use lib.ListN.{length, getD, drop, length-take, length-drop}
 use lib.Seq.{getD-take, getD-drop}
 use Rattle.command.specs.declared.Command.{Command}
 use Rattle.command.specs.declared.CommandRead.the-variants.{Found}
@@ -19,10 +18,10 @@ use Rattle.command.proofs.RoundTrip.{stands, found-alike}
 use Rattle.image.specs.declared.Verdict.the-variants.{Accepted}
 use Rattle.image.specs.Layout.{countOf, slotsOf, argumentsOf, lengthOf, startOf, codeOf}
 use Rattle.image.specs.Code.{commandsOf, isStart, ends, targetGood, routineVerdict}
-use Rattle.image.specs.Image.{inRange, rowGood, rowsGood, routinesVerdict, imageVerdict}
+use Rattle.image.specs.Image.{inRange, rowGood, routinesVerdict}
 use Rattle.image.proofs.Places.{code-inside, good-all}
-use Rattle.image.proofs.Accepted.{Accepts, accepted}
-use Rattle.image.proofs.Starts.{Standing, standing, first-start, both-accept}
+use Rattle.image.proofs.Accepted.{Accepts}
+use Rattle.image.proofs.Starts.{standing, first-start, both-accept}
 
 -- a command of an accepted image, at position p of routine r
 pub record Placed (s : List ℕ) (r p : ℕ) : Type 0 where

@@ -1,5 +1,5 @@
 -- A routine's verdict from what the two passes found. Assumes nothing.
-use mathlib.Core.Bool.{Bool, true, false, cond}
+use mathlib.Core.Bool.{Bool, true, false}
 use mathlib.Core.List.{List}
 use mathlib.Core.Path.{_≡_, refl, sym, _∙_, ap, fun-ext}
 use Prim.Native.Nat.{ℕ, zero, suc}
@@ -9,7 +9,7 @@ use Rattle.image.specs.declared.Verdict.{Verdict}
 use Rattle.image.specs.declared.Verdict.the-variants.{Accepted, Refused}
 use Rattle.image.specs.declared.Refusal.{Refusal}
 use Rattle.image.specs.declared.Refusal.the-variants.{BadEnd, BadTarget}
-use Rattle.image.specs.Code.{commandsOf, verdictFrom, lastEnds, isStart, targetsGood, routineVerdict, _then_}
+use Rattle.image.specs.Code.{commandsOf, verdictFrom, lastEnds, isStart, targetsGood, routineVerdict}
 use Rattle.image.specs.Marks.{marked, WalkedBy}
 
 module _ (ok : Command → Bool) (code marks : List ℕ) (verdict : Verdict) (ends : Bool) (w : WalkedBy ok code marks verdict ends) where

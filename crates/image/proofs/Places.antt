@@ -1,5 +1,5 @@
 -- Where the codes stand, row by row: what the loops over the rows and over the routines rest on. Assumes nothing.
-use mathlib.Core.Bool.{Bool, true, false, cond, _&&_}
+use mathlib.Core.Bool.{Bool, true, false}
 use mathlib.Core.List.{List}
 use mathlib.Core.Path.{_≡_, refl, sym, _∙_, ap}
 use Prim.Native.Nat.{ℕ, zero, suc, _+_, _-_, _*_, _≤_, _<_}
@@ -13,8 +13,8 @@ use Rattle.image.specs.declared.Row.{Row}
 use Rattle.image.specs.declared.Verdict.{Verdict}
 use Rattle.image.specs.declared.Verdict.the-variants.{Accepted, Refused}
 use Rattle.image.specs.declared.Refusal.{Refusal}
-use Rattle.image.specs.Layout.{countOf, slotsOf, lengthOf, rowsEnd, startOf, codeOf, rowOf, rowsOf, blankRow, programOf, startsIn, startsUpTo}
-use Rattle.image.specs.Code.{routineVerdict, _then_}
+use Rattle.image.specs.Layout.{countOf, slotsOf, lengthOf, startOf, codeOf, rowOf, rowsOf, blankRow, programOf, startsIn, startsUpTo}
+use Rattle.image.specs.Code.{routineVerdict}
 use Rattle.image.specs.Image.{rowGood, rowsGood, inRange, routinesVerdict}
 
 module _ (s : List ℕ) where

@@ -1,16 +1,15 @@
 -- The two passes over a code, turn by turn: what is left of the code gives what the whole gives. Assumes nothing.
-use borrow.Author.Tests.{le-leb, lt-leb, lt-ltb, le-ltb, eq-eqb, ne-eqb}
-use mathlib.Core.Bool.{Bool, true, false, cond, _&&_, _||_, and-false, or-false, or-true}
-use mathlib.Core.List.{List, [], _∷_}
+use borrow.Author.Tests.{le-leb, lt-leb, lt-ltb, eq-eqb, ne-eqb}
+use mathlib.Core.Bool.{Bool, true, false, _&&_, _||_, and-false, or-false, or-true}
+use mathlib.Core.List.{List, []}
 use mathlib.Core.Path.{_≡_, refl, sym, _∙_, ap}
 use Prim.Native.Nat.{ℕ, zero, suc, _+_, _≤_, _<_}
 use native.Mathlib.Decide.{ℕ-discrete}
 use native.Mathlib.Omega.{arith}
-use lib.Dec.{leb, ltb, eqb}
+use lib.Dec.{ltb, eqb}
 use lib.ListN.{length, getD, set}
 use lib.Seq.{getD-set-same, getD-set-other}
 use Rattle.command.specs.declared.Command.{Command}
-use Rattle.command.specs.declared.CommandRead.{CommandRead}
 use Rattle.command.specs.declared.CommandRead.the-variants.{Found, Unknown, CutOff}
 use Rattle.command.specs.Command.{commandAt}
 use Rattle.command.proofs.RoundTrip.{stands, at-end}
@@ -18,7 +17,7 @@ use Rattle.image.specs.declared.Verdict.{Verdict}
 use Rattle.image.specs.declared.Verdict.the-variants.{Accepted, Refused}
 use Rattle.image.specs.declared.Refusal.{Refusal}
 use Rattle.image.specs.declared.Refusal.the-variants.{UnknownByte, OperandsCutOff, OutOfRange}
-use Rattle.image.specs.Code.{commandsFrom, commandsOf, verdictFrom, lastEnds, ends, isStart, targetGood, targetsGood, whenFound, readVerdict}
+use Rattle.image.specs.Code.{commandsFrom, commandsOf, verdictFrom, lastEnds, ends, isStart, targetGood, targetsGood}
 use Rattle.image.specs.Marks.{marked, Blank, WalkedBy}
 
 accepted-at-end : (ok : Command → Bool) (code : List ℕ) (left at : ℕ) → length code ≤ at → Accepted ≡ verdictFrom ok code left at

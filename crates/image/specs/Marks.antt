@@ -1,8 +1,8 @@
 -- What the two passes over a code hand to each other: a byte for each byte of the code, 1 where a command starts.
-use mathlib.Core.Bool.{Bool, true, false, _&&_}
+use mathlib.Core.Bool.{Bool, false, _&&_}
 use mathlib.Core.List.{List}
 use mathlib.Core.Path.{_≡_}
-use Prim.Native.Nat.{ℕ, _<_}
+use Prim.Native.Nat.{ℕ}
 use lib.Dec.{ltb, eqb}
 use lib.ListN.{getD, length}
 use Rattle.command.specs.declared.Command.{Command}

@@ -7,7 +7,7 @@ use command::Command;
 use command::CommandRead;
 ghost use mathlib.Core.Path.{_≡_};
 ghost use mathlib.Core.Bool.{true};
-ghost use Prim.Native.Nat.{ℕ, _≤_};
+ghost use Prim.Native.Nat.{_≤_};
 ghost use lib.ListN.{length};
 ghost use Rattle.image.specs.Code.{ends, targetGood, targetsGood, commandsOf, routineVerdict};
 ghost use Rattle.image.specs.Image.{inRange};

@@ -1,7 +1,9 @@
 // The image reader: it accepts an image and says where its routines stand, or gives the number of the first test that fails.
 
 mod code;
+pub mod number;
 mod range;
+pub mod routines;
 mod rows;
 
 use crate::code::check_routine;

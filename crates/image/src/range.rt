@@ -1,4 +1,5 @@
 // Number 6: are a command's slots, argument run and routine in range?
+use crate::routines::arguments_of;
 use command::Command;
 use command::byte_at;
 ghost use mathlib.Core.Path.{_≡_};
@@ -33,7 +34,7 @@ fn fork_in_range(image: &[u8], slots: u8, routine: u8, result: u8, first: u8, cu
     if !two_slots(slots, result, cut) {
         return false;
     }
-    let arguments = byte_at(image, 4 * (routine as usize) + 2);
+    let arguments = arguments_of(image, routine);
     (first as u16) + (arguments as u16) <= (slots as u16)
 }
 

@@ -19,11 +19,12 @@ use Rattle.thread.specs.declared.Thread.{Thread}
 use Rattle.thread.specs.Thread.{newThread, behindFork}
 use Rattle.machine.specs.declared.Machine.{Machine}
 use Rattle.machine.specs.declared.Met.{Met}
-use Rattle.machine.specs.declared.ForkKind.{ForkKind}
-use Rattle.machine.specs.declared.ForkKind.the-variants.{Called, Queued, Stolen}
-use Rattle.machine.specs.State.{jobOf, meaning, after}
-use Rattle.machine.specs.Update.{refused}
-use Rattle.machine.specs.Fork.{placeOf, goesAbove, asked, born, forkOn, forkWith, forkOf, childStatus, parentStatus, isConnected}
+use Rattle.rules.specs.declared.ForkKind.{ForkKind}
+use Rattle.rules.specs.declared.ForkKind.the-variants.{Called, Queued, Stolen}
+use Rattle.rules.specs.State.{jobOf}
+use Rattle.machine.specs.Meaning.{meaning, after}
+use Rattle.rules.specs.Update.{refused}
+use Rattle.rules.specs.Fork.{placeOf, goesAbove, asked, born, forkOn, forkWith, forkOf, childStatus, parentStatus, isConnected}
 use Rattle.machine.specs.Parts.{turnBy, placeBy, coreOf, readyOf}
 
 module _ (m : Machine) (o : Met) (ws ms im ss ps : List ℕ) (al r d a e : ℕ) where

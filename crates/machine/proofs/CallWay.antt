@@ -1,5 +1,5 @@
 -- An lfork's step and the return of its child, carried out in place: the machine is then as the rule says. Assumes nothing.
-use mathlib.Core.Bool.{true, false, cond}
+use mathlib.Core.Bool.{false, cond}
 use mathlib.Core.List.{List}
 use mathlib.Core.Path.{_≡_, refl, sym, _∙_, ap}
 use Prim.Native.Nat.{ℕ, _+_, _%_, _<_}
@@ -16,11 +16,12 @@ use Rattle.machine.specs.declared.Machine.{Machine}
 use Rattle.machine.specs.declared.Met.{Met}
 use Rattle.machine.specs.declared.Call.{Call}
 use Rattle.machine.specs.declared.Finish.{Finish}
-use Rattle.machine.specs.declared.ForkKind.the-variants.{Called as ByCall}
-use Rattle.machine.specs.State.{jobOf, meaning, after}
-use Rattle.machine.specs.Update.{accepted}
-use Rattle.machine.specs.Fork.{asked, forkOf}
-use Rattle.machine.specs.Return.{returnOf, wakes, statusAfter, readyAfter, stackletsWithout}
+use Rattle.rules.specs.declared.ForkKind.the-variants.{Called as ByCall}
+use Rattle.rules.specs.State.{jobOf}
+use Rattle.machine.specs.Meaning.{meaning, after}
+use Rattle.rules.specs.Update.{accepted}
+use Rattle.rules.specs.Fork.{asked, forkOf}
+use Rattle.rules.specs.Return.{returnOf, wakes, statusAfter, readyAfter, stackletsWithout}
 use Rattle.machine.specs.Parts.{turnBy}
 use Rattle.machine.specs.Call.{Called, Finished}
 use Rattle.machine.proofs.Birth.{fork-on, born-as}

@@ -15,9 +15,10 @@ use Rattle.thread.specs.Thread.{blankThread, movedTo, joinedAt, none}
 use Rattle.machine.specs.declared.Machine.{Machine}
 use Rattle.machine.specs.declared.OwnStep.{OwnStep}
 use Rattle.machine.specs.declared.OwnStep.the-variants.{Moved, Joined, Calls, Ends, Other}
-use Rattle.machine.specs.State.{Job, jobOf, State, After, meaning, after}
-use Rattle.machine.specs.Rules.{entryOf}
-use Rattle.machine.specs.Sound.{Sound}
+use Rattle.rules.specs.State.{jobOf, After}
+use Rattle.machine.specs.Meaning.{meaning, after}
+use Rattle.rules.specs.Rules.{entryOf}
+use Rattle.rules.specs.Sound.{Sound}
 use Rattle.machine.specs.Own.{steppingOf, Owned, ownOf}
 use Rattle.machine.proofs.Way.{record-of}
 use Rattle.machine.proofs.OwnWay.{onward, Means, own-entry}

@@ -2,7 +2,7 @@
 -- Assumes nothing.
 use borrow.Author.Tests.{eqb-true, ltb-true, lt-ltb, le-ltb, lt-leb}
 use mathlib.Core.Bool.{Bool, true, false, cond, _&&_}
-use mathlib.Core.List.{List, [], _∷_}
+use mathlib.Core.List.{List, _∷_}
 use mathlib.Core.Path.{_≡_, refl, sym, _∙_, ap}
 use Prim.Native.Nat.{ℕ, _+_, _-_, _%_, _≤_, _<_, _^_}
 use native.Mathlib.Nat.{mod-eq-of-lt}
@@ -34,10 +34,11 @@ use Rattle.machine.specs.declared.Call.{Call}
 use Rattle.machine.specs.declared.Finish.{Finish}
 use Rattle.machine.specs.declared.OwnStep.{OwnStep}
 use Rattle.machine.specs.declared.OwnStep.the-variants.{Moved, Joined, Calls, Ends, Other}
-use Rattle.machine.specs.State.{Job, jobOf, State, After, meaning, after, threadAt}
-use Rattle.machine.specs.Turn.{Turn, turnAt, offsetOf, byteOf, effectAt, tooDear, waits}
-use Rattle.machine.specs.Rules.{carriedOf, turnOf, stepOf, entryOf}
-use Rattle.machine.specs.Sound.{Sound, Used}
+use Rattle.rules.specs.State.{Job, jobOf, After}
+use Rattle.machine.specs.Meaning.{meaning, after}
+use Rattle.rules.specs.Turn.{turnAt, offsetOf, byteOf, effectAt, waits}
+use Rattle.rules.specs.Rules.{carriedOf, turnOf, stepOf, entryOf}
+use Rattle.rules.specs.Sound.{Sound, Used}
 use Rattle.machine.specs.Own.{steppingOf, coreStepped, Own, Owned, leaving, ownBy, ownEffect, ownOf}
 use Rattle.machine.specs.Parts.{Bounded}
 use Rattle.machine.specs.Call.{Called, Finished}

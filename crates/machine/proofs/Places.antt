@@ -6,7 +6,7 @@ use Prim.Native.Nat.{ℕ, _<_}
 use native.Mathlib.Omega.{arith}
 use Rattle.queue.specs.Contents.{firstOf, restOf}
 use Rattle.queue.specs.declared.Front.the-variants.{Number}
-use Rattle.machine.specs.Fork.{placeOf}
+use Rattle.rules.specs.Fork.{placeOf}
 use Rattle.machine.specs.Parts.{placeBy, HeadBelow}
 
 -- a place from the free stacklets

@@ -8,9 +8,9 @@ use lib.ListN.{set}
 use Rattle.queue.specs.declared.Front.the-variants.{Number}
 use Rattle.queue.specs.Contents.{contents, queueOf, firstOf, restOf}
 use Rattle.queue.proofs.Laws.{number-first}
-use Rattle.stacklets.specs.Tops.{topAt, baseOn, fitsOn, pushedTops}
+use Rattle.stacklets.specs.Tops.{topAt, fitsOn, pushedTops}
 use Rattle.stacklets.specs.Frames.{framed, pushedWords}
-use Rattle.machine.specs.Fork.{placeOf}
+use Rattle.rules.specs.Fork.{placeOf}
 use Rattle.machine.specs.Parts.{placeBy}
 
 -- above the parent's frame

@@ -1,80 +1,42 @@
 -- What a sound state gives for a command that is met: its place is in the image, its operands are in range, and what carrying it out
 -- relies on. Assumes nothing.
-use borrow.Author.Tests.{ltb-true, eqb-true}
+use borrow.Author.Tests.{eqb-true}
 use mathlib.Core.Bool.{Bool, true, _&&_}
-use mathlib.Core.List.{List, [], _∷_}
-use mathlib.Core.Path.{_≡_, refl, sym, _∙_, ap}
+use mathlib.Core.List.{List}
+use mathlib.Core.Path.{_≡_, sym, _∙_}
 use Prim.Native.Nat.{ℕ, _+_, _-_, _≤_, _<_, _^_}
 use native.Mathlib.Omega.{arith}
-use lib.Dec.{ltb, leb}
 use lib.ListN.{getD}
 use Rattle.command.specs.declared.Command.{Command}
-use Rattle.command.specs.declared.Command.the-variants.{Set, Add, Subtract, Load, Store, JumpIfZero, Jump, Lfork, Fork, Join, Suspend, Yield, Return}
 use Rattle.command.specs.Command.{decodedAt, widthOf}
 use Rattle.command.specs.Weight.{weightOf, standardWeights}
-use Rattle.command.proofs.RoundTrip.{stands}
-use Rattle.command.proofs.Tables.{width-most}
-use Rattle.image.specs.Layout.{countOf, slotsOf, argumentsOf, startOf}
-use Rattle.image.specs.Image.{inRange, allSlots, forkInRange}
-use Rattle.image.proofs.Accepted.{accepted}
-use Rattle.image.proofs.Laws.{placed, slots-most}
+use Rattle.image.specs.Layout.{argumentsOf}
 use Rattle.command.proofs.Bools.{both}
 use Rattle.stacklets.specs.Frames.{slotOf}
 use Rattle.window.specs.declared.Window.{Window}
-use Rattle.window.specs.declared.Cut.{Cut}
-use Rattle.window.specs.declared.Cut.the-variants.{Parts, OutOfRange}
-use Rattle.window.specs.Rights.{Fits, cutAt}
-use Rattle.window.proofs.Laws.{store-means, cut-means}
+use Rattle.window.specs.Rights.{Fits}
+use Rattle.window.proofs.Laws.{store-means}
 use Rattle.thread.specs.declared.Effect.{Effect}
 use Rattle.thread.specs.declared.Effect.the-variants.{Faults, Sets, Loads, Stores, Goes, Continues, Lforks, Forks, Joins, Suspends, Yields, Returns}
-use Rattle.thread.specs.View.{viewOf, isCut, mayCut}
+use Rattle.thread.specs.View.{viewOf, mayCut}
 use Rattle.thread.specs.declared.Status.the-variants.{Lent}
 use Rattle.thread.specs.Thread.{isPending, statusNumber, _is_}
 use Rattle.thread.proofs.Routines.{InRange}
+use Rattle.thread.proofs.CommandMet.{cut-inside, place-small, next-small, some-bytes, operands-few}
 use Rattle.thread.proofs.EffectFacts.{Guarded, guarded}
 use Rattle.machine.specs.declared.Machine.{Machine}
 use Rattle.machine.specs.declared.Met.{Met}
-use Rattle.machine.specs.State.{Job, jobOf, State, meaning, threadAt}
-use Rattle.machine.specs.Turn.{offsetOf, byteOf}
-use Rattle.machine.specs.Sound.{Sound, Used}
+use Rattle.rules.specs.State.{Job, jobOf, State, threadAt}
+use Rattle.machine.specs.Meaning.{meaning}
+use Rattle.rules.specs.Turn.{offsetOf, byteOf}
+use Rattle.rules.specs.Sound.{Sound, Used}
 use Rattle.machine.specs.Parts.{metAt, Bounded, Leaving, Carrying}
 use Rattle.machine.proofs.Way.{record-of, effect-of}
 use Rattle.machine.proofs.Able.{used-below, free-first, linked-below, children-few, parent-bears}
 
--- a command in range names slots among the sixteen
-fork-in-range : (s : List ℕ) (slots r d a w : ℕ) → slots ≤ 16 → forkInRange s slots r d a w ≡ true → d < 16
-fork-in-range s slots r d a w m e =
-    let x = both (ltb r (countOf s)) (allSlots slots (d ∷ w ∷ []) && leb (a + argumentsOf s r) slots) e .1 in
-    let y = both (allSlots slots (d ∷ w ∷ [])) (leb (a + argumentsOf s r) slots) x .0 in
-    let z = ltb-true d slots (both (ltb d slots) (allSlots slots (w ∷ [])) y .0) in
-    omega arith
-
-return-in-range : (slots a : ℕ) → slots ≤ 16 → allSlots slots (a ∷ []) ≡ true → a < 16
-return-in-range slots a m e = let z = ltb-true a slots (both (ltb a slots) true e .0) in omega arith
-
-in-range : (s : List ℕ) (slots : ℕ) (c : Command) → slots ≤ 16 → inRange s slots c ≡ true → InRange c
-unfolding inRange
-in-range s slots (Set d v) m e = tt
-in-range s slots (Add d a b) m e = tt
-in-range s slots (Subtract d a b) m e = tt
-in-range s slots (Load d a) m e = tt
-in-range s slots (Store a b) m e = tt
-in-range s slots (JumpIfZero a t) m e = tt
-in-range s slots (Jump t) m e = tt
-in-range s slots (Lfork r d a w) m e = fork-in-range s slots r d a w m e
-in-range s slots (Fork r d a w) m e = fork-in-range s slots r d a w m e
-in-range s slots Join m e = tt
-in-range s slots Suspend m e = tt
-in-range s slots Yield m e = tt
-in-range s slots (Return a) m e = return-in-range slots a m e
-
 -- a cut that is allowed is at most hi
 cut-small : (w : Window) (e : ℕ) → Fits w → mayCut w e ≡ true → e < 65536
-cut-small w e f h = go (cutAt w e) refl h
-  where
-    go : (x : Cut) → cutAt w e ≡ x → isCut x ≡ true → e < 65536
-    go (Parts child rest) p h = omega (arith, cut-means w e child rest p .high, f .within)
-    go OutOfRange p h = let z : _≡_ {A = ℕ} 0 1 = cc in absurd (omega arith)
+cut-small w e f h = omega (arith, cut-inside w e h .1, f .within)
 
 -- what was tested bounds the effect
 bounded : (arguments : ℕ → ℕ) (slots : ℕ → ℕ) (pending : ℕ → Bool) (w : Window) (e : Effect) → Fits w
@@ -100,21 +62,12 @@ pub record Meets (j : Job) (s : State) (t : ℕ) : Type 0 where
   pub range : InRange (decodedAt (j .image) (offsetOf j (threadAt s t)))
 
 pub meets : (j : Job) (s : State) → Sound j s → (t : ℕ) → Used s t → Meets j s t
-meets j s ok t u =
-    let r = threadAt s t .routine in
-    let p = threadAt s t .position in
-    let acc = accepted (j .image) (ok .job .image) in
-    let inside = ok .placed .routine t u in
-    let q = placed (j .image) acc r inside p (ok .placed .position t u) in
-    let st = stands (j .image) (startOf (j .image) r + p) (q .command) (q .width) (q .found) in
-    let start = ok .job .starts r inside in
-    let off : offsetOf j (threadAt s t) ≡ startOf (j .image) r + p = ap (λ x. x + p) start in
-    record {
-      place = omega (arith, off, st .whole, acc .size);
-      next = omega (arith, off, st .whole, acc .size, width-most (byteOf j (threadAt s t)));
-      some = rw (off, ← st .width) (st .some);
-      range = rw (off, ← st .is) (in-range (j .image) (slotsOf (j .image) r) (q .command) (slots-most (j .image) acc r inside) (q .range));
-    }
+meets j s ok t u = record {
+  place = place-small j (ok .job) (threadAt s t .routine) (threadAt s t .position) (ok .placed .routine t u) (ok .placed .position t u);
+  next = next-small j (ok .job) (threadAt s t .routine) (threadAt s t .position) (ok .placed .routine t u) (ok .placed .position t u);
+  some = some-bytes j (ok .job) (threadAt s t .routine) (threadAt s t .position) (ok .placed .routine t u) (ok .placed .position t u);
+  range = operands-few j (ok .job) (threadAt s t .routine) (threadAt s t .position) (ok .placed .routine t u) (ok .placed .position t u);
+}
 
 module _ (m : Machine) (im ss ps ws ms : List ℕ) (al : ℕ) (ok : Sound (jobOf im ss ps al) (meaning m ws ms)) where
   -- indices and sums on the way to the command

@@ -5,11 +5,12 @@ use mathlib.Core.Path.{_≡_, refl, ap}
 use Prim.Native.Nat.{ℕ}
 use Rattle.queue.specs.declared.Queue.{Queue}
 use Rattle.queue.specs.Contents.{contents, appended, capacity}
-use Rattle.machine.specs.Update.{accepted, enqueueReady}
+use Rattle.rules.specs.Update.{accepted, enqueueReady}
 use lib.Dec.{eqb}
 use borrow.Author.Tests.{eq-eqb, ne-eqb}
 use Rattle.machine.specs.declared.Machine.{Machine}
-use Rattle.machine.specs.State.{State, Outcome, finished, faulted, isOver, outcomeOf, meaning, after}
+use Rattle.rules.specs.State.{State, Outcome, finished, faulted, isOver}
+use Rattle.machine.specs.Meaning.{outcomeOf, meaning, after}
 
 closed : (b : Bool) (x y : Outcome) → isOver x ≡ true → isOver y ≡ true → isOver (cond b x y) ≡ true
 closed true x y p q = p

@@ -19,11 +19,12 @@ use Rattle.thread.specs.View.{viewOf}
 use Rattle.thread.specs.Thread.{blankThread, isPending, _is_}
 use Rattle.machine.specs.declared.Machine.{Machine}
 use Rattle.machine.specs.declared.Met.{Met}
-use Rattle.machine.specs.State.{jobOf, meaning}
-use Rattle.machine.specs.Update.{accepted, refused}
-use Rattle.machine.specs.Turn.{turnAt, effectAt}
-use Rattle.machine.specs.Leave.{leaves}
-use Rattle.machine.specs.Rules.{carriedOf, turnOf, stepOf, isSeed, stolenOf, stealOf}
+use Rattle.rules.specs.State.{jobOf}
+use Rattle.machine.specs.Meaning.{meaning}
+use Rattle.rules.specs.Update.{accepted, refused}
+use Rattle.rules.specs.Turn.{turnAt, effectAt}
+use Rattle.rules.specs.Leave.{leaves}
+use Rattle.rules.specs.Rules.{carriedOf, turnOf, stepOf, isSeed, stolenOf, stealOf}
 use Rattle.machine.specs.Parts.{turnBy, metAt}
 use Rattle.machine.proofs.Tests.{over-false}
 

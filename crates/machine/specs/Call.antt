@@ -19,7 +19,7 @@ use Rattle.thread.specs.Thread.{newThread, behindFork, withoutChild}
 use Rattle.machine.specs.declared.Spot.{Spot}
 use Rattle.machine.specs.declared.Call.{Call}
 use Rattle.machine.specs.declared.Finish.{Finish}
-use Rattle.machine.specs.Fork.{Place, placeOf}
+use Rattle.rules.specs.Fork.{Place, placeOf}
 use Rattle.machine.specs.Parts.{placeBy}
 
 -- the stacklet of a new frame of `size` words, for a child of the frame of `slots` words at a base

@@ -1,13 +1,5 @@
--- In reading order: what a state is, its small changes, what a command needs, the rules, and what a sound state is.
-pub mod State
-pub mod Update
-pub mod Turn
-pub mod Leave
-pub mod Fork
-pub mod Return
-pub mod Rules
-pub mod Lists
-pub mod Sound
+-- What the code's contracts need beside the rules: what its tables mean, and its own functions' parts.
+pub mod Meaning
 pub mod Parts
 pub mod Own
 pub mod Call

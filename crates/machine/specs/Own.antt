@@ -1,6 +1,6 @@
 -- A step whose command changes its own thread, its slots and the memory alone: 01 to 07, and a join that passes. It is the rule's step
 -- (proofs/OwnWay.antt), said of the thread's record, its words and the memory, and not of the machine. An lfork and a return are only told.
-use mathlib.Core.Bool.{Bool, true, false, cond, _&&_}
+use mathlib.Core.Bool.{cond, _&&_}
 use mathlib.Core.List.{List}
 use mathlib.Core.Path.{_≡_}
 use Prim.Native.Nat.{ℕ, _+_, _-_, _%_, _^_}
@@ -20,8 +20,8 @@ use Rattle.thread.specs.View.{viewOf}
 use Rattle.thread.specs.Thread.{isPending, none}
 use Rattle.machine.specs.declared.OwnStep.{OwnStep}
 use Rattle.machine.specs.declared.OwnStep.the-variants.{Moved, Joined, Calls, Ends, Other}
-use Rattle.machine.specs.State.{Job}
-use Rattle.machine.specs.Turn.{offsetOf, byteOf}
+use Rattle.rules.specs.State.{Job}
+use Rattle.rules.specs.Turn.{offsetOf, byteOf}
 
 -- the thread that an entry steps, on a core below the count (of at most 4) while the machine is open; none where there is none
 unfoldable pub steppingOf : ℕ → ℕ → List ℕ → Entry → ℕ

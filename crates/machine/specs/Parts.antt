@@ -16,12 +16,13 @@ use Rattle.thread.specs.declared.Thread.{Thread}
 use Rattle.thread.specs.Thread.{blankThread}
 use Rattle.machine.specs.declared.Machine.{Machine}
 use Rattle.machine.specs.declared.Met.{Met}
-use Rattle.machine.specs.declared.ForkKind.{ForkKind}
-use Rattle.machine.specs.declared.ForkKind.the-variants.{Called, Queued, Stolen}
-use Rattle.machine.specs.State.{Job, meaning}
-use Rattle.machine.specs.Turn.{Turn}
-use Rattle.machine.specs.Fork.{Place, onStacklet, nowhere}
-use Rattle.machine.specs.Sound.{Sound}
+use Rattle.rules.specs.declared.ForkKind.{ForkKind}
+use Rattle.rules.specs.declared.ForkKind.the-variants.{Called, Queued, Stolen}
+use Rattle.rules.specs.State.{Job}
+use Rattle.machine.specs.Meaning.{meaning}
+use Rattle.rules.specs.Turn.{Turn}
+use Rattle.rules.specs.Fork.{Place, onStacklet, nowhere}
+use Rattle.rules.specs.Sound.{Sound}
 
 -- a command that is met, as the code holds it
 abbrev pub turnBy : Met → Turn

@@ -1,9 +1,9 @@
 // A command is carried out by a step, by its effect.
-use crate::ForkKind;
 use crate::Machine;
 use crate::Met;
 use crate::parts::load_word;
 use crate::parts::store_word;
+use rules::ForkKind;
 use stacklets::set_slot;
 use thread::Effect;
 use thread::Status;
@@ -14,11 +14,12 @@ ghost use mathlib.Core.List.{List};
 ghost use mathlib.Core.Path.{_≡_};
 ghost use Prim.Native.Nat.{ℕ, _<_};
 ghost use Rattle.thread.specs.declared.Status.the-variants.{Ready, Suspended};
-ghost use Rattle.machine.specs.State.{jobOf, meaning, after};
-ghost use Rattle.machine.specs.Update.{accepted, enqueueReady};
-ghost use Rattle.machine.specs.Turn.{goesOn, faults};
-ghost use Rattle.machine.specs.Leave.{leaves};
-ghost use Rattle.machine.specs.Rules.{carriedOf};
+ghost use Rattle.rules.specs.State.{jobOf};
+ghost use Rattle.machine.specs.Meaning.{meaning, after};
+ghost use Rattle.rules.specs.Update.{accepted, enqueueReady};
+ghost use Rattle.rules.specs.Turn.{goesOn, faults};
+ghost use Rattle.rules.specs.Leave.{leaves};
+ghost use Rattle.rules.specs.Rules.{carriedOf};
 ghost use Rattle.machine.specs.Parts.{turnBy, Seated, Carrying};
 
 impl Machine {

@@ -2,9 +2,10 @@
 use crate::Machine;
 use schedule::Entry;
 ghost use mathlib.Core.Path.{_≡_};
-ghost use Rattle.machine.specs.State.{jobOf, meaning, after};
-ghost use Rattle.machine.specs.Rules.{entryOf};
-ghost use Rattle.machine.specs.Sound.{Sound};
+ghost use Rattle.rules.specs.State.{jobOf};
+ghost use Rattle.machine.specs.Meaning.{meaning, after};
+ghost use Rattle.rules.specs.Rules.{entryOf};
+ghost use Rattle.rules.specs.Sound.{Sound};
 
 impl Machine {
     // The machine meets an entry.

@@ -1,8 +1,6 @@
 // A fork: 08 and 09 by a step, and either as a seed by a steal.
-use crate::ForkKind;
 use crate::Machine;
 use crate::Met;
-use crate::parts::arguments_of;
 use crate::parts::child_core;
 use crate::parts::child_queue;
 use crate::parts::child_status;
@@ -10,8 +8,10 @@ use crate::parts::find_place;
 use crate::parts::goes_above;
 use crate::parts::is_connected;
 use crate::parts::parent_status;
-use crate::parts::slots_of;
+use image::routines::arguments_of;
+use image::routines::slots_of;
 use queue::Front;
+use rules::ForkKind;
 use thread::Thread;
 use thread::record::behind_fork;
 use thread::record::new_thread;
@@ -21,8 +21,9 @@ ghost use mathlib.Core.Path.{_≡_};
 ghost use Prim.Native.Nat.{ℕ, _<_};
 ghost use Rattle.window.specs.Rights.{childOf, restOf};
 ghost use Rattle.thread.specs.Thread.{newThread, behindFork};
-ghost use Rattle.machine.specs.State.{jobOf, meaning, after};
-ghost use Rattle.machine.specs.Fork.{asked, forkOf, childStatus, parentStatus, isConnected};
+ghost use Rattle.rules.specs.State.{jobOf};
+ghost use Rattle.machine.specs.Meaning.{meaning, after};
+ghost use Rattle.rules.specs.Fork.{asked, forkOf, childStatus, parentStatus, isConnected};
 ghost use Rattle.machine.specs.Parts.{turnBy, Forking};
 
 // The child's window: from the mark to the cut.

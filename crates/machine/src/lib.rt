@@ -40,13 +40,6 @@ pub struct Machine {
     pub log: u8,
 }
 
-// How a fork is carried out: by an lfork's step, by a fork's step, or by a steal.
-pub enum ForkKind {
-    Called,
-    Queued,
-    Stolen,
-}
-
 // A command that is met: the core and the thread's number and record, its weight, the position behind it, and its first byte in the image.
 pub struct Met {
     pub core: u8,

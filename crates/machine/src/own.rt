@@ -4,11 +4,11 @@
 use crate::OwnStep;
 use crate::parts::left_of;
 use crate::parts::load_word;
-use crate::parts::place_in_image;
 use crate::parts::store_word;
 use command::command_of;
 use command::five_at;
 use command::weight;
+use image::routines::place_in_image;
 use schedule::Entry;
 use stacklets::set_slot;
 use std::num::wrapping_add_u16;
@@ -18,7 +18,7 @@ use thread::effects::own_effect;
 ghost use mathlib.Core.Bool.{_&&_, not};
 ghost use mathlib.Core.Path.{_≡_};
 ghost use lib.Dec.{ltb};
-ghost use Rattle.machine.specs.State.{jobOf};
+ghost use Rattle.rules.specs.State.{jobOf};
 ghost use Rattle.machine.specs.Own.{steppingOf, Owned, joinBy, ownBy, ownOf};
 
 // The thread that an entry steps, on a core of an open machine; 32 where there is none.

@@ -1,25 +1,23 @@
 // The parts of the machine that a command changes: what a part becomes, one small function each, named as the rule that it follows.
-use crate::ForkKind;
-use command::byte_at;
 use queue::Dequeued;
 use queue::Front;
 use queue::Queue;
+use rules::ForkKind;
 use stacklets::Stacklets;
 use thread::Status;
 use thread::Thread;
 use thread::record::same_status;
 ghost use mathlib.Core.Bool.{cond, _&&_, _||_};
 ghost use mathlib.Core.Path.{_≡_};
-ghost use Prim.Native.Nat.{_+_, _-_, _*_, _/_, _≤_, _<_};
+ghost use Prim.Native.Nat.{_-_, _/_, _<_};
 ghost use lib.Dec.{eqb, ltb};
 ghost use lib.ListN.{getD, set};
-ghost use Rattle.image.specs.Layout.{slotsOf, argumentsOf};
 ghost use Rattle.queue.specs.Contents.{contents};
 ghost use Rattle.stacklets.specs.Tops.{topsOf, isTopmost, fitsOn};
 ghost use Rattle.thread.specs.declared.Status.the-variants.{Lent};
 ghost use Rattle.thread.specs.Thread.{none, _is_};
-ghost use Rattle.machine.specs.Fork.{childStatus, parentStatus, isConnected, placeOf};
-ghost use Rattle.machine.specs.Return.{stackletsWithout, wakes, statusAfter, readyAfter};
+ghost use Rattle.rules.specs.Fork.{childStatus, parentStatus, isConnected, placeOf};
+ghost use Rattle.rules.specs.Return.{stackletsWithout, wakes, statusAfter, readyAfter};
 ghost use Rattle.machine.specs.Parts.{placeBy, coreOf, readyOf};
 
 // What an idle core has in place of a thread.
@@ -182,31 +180,6 @@ pub fn may_steal(status: Status, byte: u8) -> bool
         return true;
     }
     byte == 9
-}
-
-// The slots in routine r's row of the image.
-pub fn slots_of(image: &[u8], r: u8) -> u8
-    ensures { λ n. ⌜ n ≡ slotsOf (now (image .entry)) r ⌝ }
-{
-    byte_at(image, 4 * (r as usize) + 1)
-}
-
-// The arguments in routine r's row of the image.
-pub fn arguments_of(image: &[u8], r: u8) -> u8
-    ensures { λ n. ⌜ n ≡ argumentsOf (now (image .entry)) r ⌝ }
-{
-    byte_at(image, 4 * (r as usize) + 2)
-}
-
-// Where a position of routine r stands in the image.
-pub fn place_in_image(starts: &[u16], r: u8, position: u16) -> usize
-    ensures { λ n. ⌜ n ≡ getD (now (starts .entry)) r 0 + position ⌝ }
-{
-    let i = r as usize;
-    if i < starts.len() {
-        return (starts[i] as usize) + (position as usize);
-    }
-    position as usize
 }
 
 // The word at an address: of the parameter words, or of the memory words.

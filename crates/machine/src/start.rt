@@ -1,6 +1,6 @@
 // The machine at Start.
 use crate::Machine;
-use crate::parts::slots_of;
+use image::routines::slots_of;
 use queue::Queue;
 use stacklets::Stacklets;
 use thread::record::blank_thread;
@@ -9,8 +9,9 @@ ghost use mathlib.Core.List.{List};
 ghost use mathlib.Core.Path.{_≡_};
 ghost use Prim.Native.Nat.{ℕ};
 ghost use lib.ListN.{length, replicate};
-ghost use Rattle.machine.specs.State.{jobOf, meaning};
-ghost use Rattle.machine.specs.Rules.{startState};
+ghost use Rattle.rules.specs.State.{jobOf};
+ghost use Rattle.machine.specs.Meaning.{meaning};
+ghost use Rattle.rules.specs.Start.{startState};
 
 // All words become zero.
 fn clear(words: &mut [u32])

@@ -1,22 +1,23 @@
 // A steal: an idle core carries out a lent thread's next command as a seed.
-use crate::ForkKind;
 use crate::Machine;
 use crate::Met;
 use crate::parts::may_steal;
-use crate::parts::place_in_image;
 use crate::step::meet;
 use command::byte_at;
 use command::fetch;
 use command::weight;
+use image::routines::place_in_image;
+use rules::ForkKind;
 use thread::Effect;
 use thread::effects::effect;
 ghost use mathlib.Core.List.{List};
 ghost use mathlib.Core.Path.{_≡_};
 ghost use Prim.Native.Nat.{ℕ};
-ghost use Rattle.machine.specs.State.{jobOf, meaning, after};
-ghost use Rattle.machine.specs.Update.{refused};
-ghost use Rattle.machine.specs.Rules.{stolenOf, stealOf};
-ghost use Rattle.machine.specs.Sound.{Sound};
+ghost use Rattle.rules.specs.State.{jobOf};
+ghost use Rattle.machine.specs.Meaning.{meaning, after};
+ghost use Rattle.rules.specs.Update.{refused};
+ghost use Rattle.rules.specs.Rules.{stolenOf, stealOf};
+ghost use Rattle.rules.specs.Sound.{Sound};
 ghost use Rattle.machine.specs.Parts.{turnBy, Carrying};
 
 impl Machine {

@@ -2,20 +2,21 @@
 use crate::Machine;
 use crate::Met;
 use crate::parts::must_wait;
-use crate::parts::place_in_image;
 use command::byte_at;
 use command::fetch;
 use command::weight;
 use command::width;
+use image::routines::place_in_image;
 use thread::Status;
 use thread::Thread;
 use thread::effects::effect;
 ghost use mathlib.Core.Path.{_≡_};
 ghost use Prim.Native.Nat.{_+_, _<_};
 ghost use Rattle.command.specs.Command.{widthOf};
-ghost use Rattle.machine.specs.State.{jobOf, meaning, after};
-ghost use Rattle.machine.specs.Rules.{stepOf};
-ghost use Rattle.machine.specs.Sound.{Sound};
+ghost use Rattle.rules.specs.State.{jobOf};
+ghost use Rattle.machine.specs.Meaning.{meaning, after};
+ghost use Rattle.rules.specs.Rules.{stepOf};
+ghost use Rattle.rules.specs.Sound.{Sound};
 ghost use Rattle.machine.specs.Parts.{metAt};
 
 // The command of a byte, at a place in the image, is met by core c, of thread t.

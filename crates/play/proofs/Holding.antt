@@ -24,8 +24,9 @@ use Rattle.machine.specs.declared.Call.{Call}
 use Rattle.machine.specs.declared.Finish.{Finish}
 use Rattle.machine.specs.declared.OwnStep.{OwnStep}
 use Rattle.machine.specs.declared.OwnStep.the-variants.{Moved, Joined, Calls, Ends, Other}
-use Rattle.machine.specs.State.{jobOf, State, meaning, after}
-use Rattle.machine.specs.Rules.{entryOf}
+use Rattle.rules.specs.State.{jobOf, State}
+use Rattle.machine.specs.Meaning.{meaning, after}
+use Rattle.rules.specs.Rules.{entryOf}
 use Rattle.machine.specs.Own.{steppingOf, Owned, ownOf}
 use Rattle.machine.specs.Call.{Called, Finished}
 use Rattle.machine.proofs.Way.{record-of}

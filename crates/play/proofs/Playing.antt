@@ -11,13 +11,13 @@ use Rattle.schedule.specs.declared.Entry.{Entry}
 use Rattle.schedule.specs.declared.EntryRead.the-variants.{Found, End}
 use Rattle.schedule.specs.Format.{entryAt}
 use Rattle.schedule.specs.Meaning.{entries, entriesOf, scheduleOf}
-use Rattle.schedule.proofs.Standing.{Found-at, found}
-use Rattle.schedule.proofs.Following.{Read-of, read-entry, read-end, accepted}
-use Rattle.machine.specs.State.{Job, State, After}
-use Rattle.machine.specs.Rules.{entryOf}
-use Rattle.machine.specs.Sound.{Sound}
+use Rattle.schedule.proofs.Following.{read-entry, read-end, accepted}
+use Rattle.rules.specs.State.{Job, State, After}
+use Rattle.rules.specs.Rules.{entryOf}
+use Rattle.rules.specs.Sound.{Sound}
 use Rattle.soundness.proofs.Kept.{entry-sound}
-use Rattle.play.specs.Entries.{runFrom, logsFrom, logged, Playable, Played}
+use Rattle.rules.specs.Runs.{runFrom, logsFrom}
+use Rattle.play.specs.Entries.{Playable, Played}
 
 -- k entries have been met, and the log has a byte for each
 pub record Left (j : Job) (s₀ : State) (schedule log₀ : List ℕ) (s : State) (at k : ℕ) (logNow : List ℕ) : Type 0 where

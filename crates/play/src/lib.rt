@@ -19,7 +19,8 @@ ghost use mathlib.Core.Path.{_≡_};
 ghost use Rattle.schedule.specs.declared.Entry.the-variants.{Step};
 ghost use Rattle.thread.specs.Thread.{none};
 ghost use Rattle.machine.specs.Own.{steppingOf};
-ghost use Rattle.machine.specs.State.{jobOf, meaning};
+ghost use Rattle.rules.specs.State.{jobOf};
+ghost use Rattle.machine.specs.Meaning.{meaning};
 ghost use Rattle.play.specs.Entries.{Playable, Played};
 
 // The thread that core c steps, if its command may be met in place; 32 where there is none, or where it was found to be met by the rule.

@@ -1,5 +1,5 @@
 -- The starred cases hold, computed by the definitions that `run` is proved equal to. Assumes nothing.
-use mathlib.Core.Bool.{Bool, true, false, cond}
+use mathlib.Core.Bool.{cond}
 use mathlib.Core.List.{List, [], _∷_}
 use mathlib.Core.Path.{_≡_, refl}
 use Prim.Native.Nat.{ℕ}
@@ -17,11 +17,12 @@ use Rattle.stacklets.specs.Frames.{argumentsAt, framed, pushedWords}
 use Rattle.thread.specs.Effect.{run, anyPending, unlessPending, provided, forking, effectOf}
 use Rattle.thread.specs.Thread.{isPending, withPending}
 use Rattle.window.specs.Rights.{mayStore, mayLoad, cutAt}
-use Rattle.machine.specs.Turn.{effectAt}
-use Rattle.machine.specs.Leave.{leaves}
-use Rattle.machine.specs.Fork.{goesAbove, placeOf, born, forkOn, forkWith, forkOf}
-use Rattle.machine.specs.Return.{stackletsWithout, wakes, statusAfter, readyAfter, returnToParent, returnOf}
-use Rattle.machine.specs.Rules.{carriedOf, turnOf, stepOf, takeInto, takeOf, isSeed, stolenOf, stealOf, enableOf, entryOf, startState}
+use Rattle.rules.specs.Turn.{effectAt}
+use Rattle.rules.specs.Leave.{leaves}
+use Rattle.rules.specs.Fork.{goesAbove, placeOf, born, forkOn, forkWith, forkOf}
+use Rattle.rules.specs.Return.{stackletsWithout, wakes, statusAfter, readyAfter, returnToParent, returnOf}
+use Rattle.rules.specs.Rules.{carriedOf, turnOf, stepOf, takeInto, takeOf, isSeed, stolenOf, stealOf, enableOf, entryOf}
+use Rattle.rules.specs.Start.{startState}
 use Rattle.run.specs.declared.RunAnswer.{RunAnswer}
 use Rattle.run.specs.declared.RunAnswer.the-variants.{Refused}
 use Rattle.run.specs.Run.{Input, jobIn, startIn, refusalOf, runFrom, logsFrom, answerOf}

@@ -9,16 +9,17 @@ use native.Mathlib.Omega.{arith}
 use lib.ListN.{length, getD, drop, length-append, length-drop}
 use Rattle.command.proofs.RoundTrip.{reads-back, writes-again}
 use Rattle.schedule.specs.declared.Entry.{Entry}
-use Rattle.schedule.specs.Meaning.{entries, scheduleOf}
+use Rattle.schedule.specs.Meaning.{entries}
 use Rattle.forkjoin.proofs.Arrays.{words-from, words-eq}
 use Rattle.forkjoin.proofs.SerialRun.{done as t-done}
-use Rattle.machine.specs.State.{Job, State, Outcome, going, finished, faulted, isOver}
-use Rattle.machine.specs.Rules.{entryOf, startState, stepOf, takeOf}
-use Rattle.machine.specs.Sound.{Sound, statusAt}
+use Rattle.rules.specs.State.{Job, State, Outcome, going, finished, faulted, isOver}
+use Rattle.rules.specs.Rules.{entryOf, stepOf, takeOf}
+use Rattle.rules.specs.Start.{startState}
+use Rattle.rules.specs.Sound.{Sound, statusAt}
 use Rattle.serial.specs.Serial.{Ended, done, stopped, serialOf, serialFrom}
 use Rattle.thread.specs.declared.Status.the-variants.{Free}
 use Rattle.census.proofs.Totals.{all-in}
-use Rattle.soundness.proofs.Kept.{stateAfter, run-sound, entry-sound}
+use Rattle.soundness.proofs.Kept.{run-sound, entry-sound}
 use Rattle.soundness.proofs.KeepSized.{keep-count}
 use Rattle.soundness.proofs.StartSound.{start-sound}
 use Rattle.soundness.proofs.Finished.{finished-free, finished-numbers}
@@ -30,18 +31,12 @@ use Rattle.simulation.proofs.EntriesRun.{entries-agree, entries-faultless}
 use Rattle.run.proofs.Passing.{good, takes, has-room}
 use Rattle.run.proofs.SerialTheory.{asOutcome, memoryOf, IsTheory, is-theory}
 use Rattle.run.specs.declared.Ran.{Ran}
-use Rattle.run.specs.declared.RunAnswer.{RunAnswer}
 use Rattle.run.specs.declared.RunAnswer.the-variants.{Refused}
 use Rattle.run.specs.Run.{Input, jobIn, startIn, runFrom, logsFrom, logged, answerOf, refusalOf, entryCount, RunsAs}
 use Rattle.run.specs.Demands.{Takes, Demand1, Demand2, Demand3, AllFree, IsRefusal, IsTight, serialIn}
 
--- the fold of entries is the one that soundness and the simulation speak of
-run-is : (j : Job) (s : State) (es : List Entry) → runFrom j s es ≡ stateAfter j s es
+cores-kept : (j : Job) (s : State) → Sound j s → (es : List Entry) → runFrom j s es .count ≡ s .count
 unfolding runFrom
-run-is j s [] = refl
-run-is j s (e ∷ es) = run-is j (entryOf j s e .state) es
-
-cores-kept : (j : Job) (s : State) → Sound j s → (es : List Entry) → stateAfter j s es .count ≡ s .count
 cores-kept j s ok [] = refl
 cores-kept j s ok (e ∷ es) = cores-kept j (entryOf j s e .state) (entry-sound j s ok e) es ∙ keep-count j s ok e
 
@@ -60,7 +55,7 @@ module _ (i : Input) (k : Takes i) where
 
   module _ (es : List Entry) where
     abbrev end : State
-    end = stateAfter (jobIn i) (startIn i) es
+    end = runFrom (jobIn i) (startIn i) es
 
     sound : Sound (jobIn i) end
     sound = run-sound (jobIn i) (i .cores) (i .arguments) (i .memory) (good i k) (k .some) (k .most) (k .memory) es
@@ -112,11 +107,8 @@ module _ (i : Input) (k : Takes i) where
     at-end : Demand3 i end
     at-end = record { agrees = agree; free = free; unfinished = unfinished; unfaulted = unfaulted; jam = never-jams }
 
-    demand-3-here : Demand3 i (runFrom (jobIn i) (startIn i) es)
-    demand-3-here = subst (Demand3 i) (sym (run-is (jobIn i) (startIn i) es)) at-end
-
 pub demand-3 : (i : Input) → Takes i → (es : List Entry) → Demand3 i (runFrom (jobIn i) (startIn i) es)
-demand-3 i k es = demand-3-here i k es
+demand-3 i k es = at-end i k es
 
 -- entries one after another
 run-append : (j : Job) (s : State) (before after : List Entry) → runFrom j s (before ++ after) ≡ runFrom j (runFrom j s before) after
@@ -141,7 +133,7 @@ logs-many j s [] = refl
 logs-many j s (e ∷ es) = ap suc (logs-many j (entryOf j s e .state) es)
 
 pub sound-after : (i : Input) → Takes i → (es : List Entry) → Sound (jobIn i) (runFrom (jobIn i) (startIn i) es)
-sound-after i k es = subst (Sound (jobIn i)) (sym (run-is (jobIn i) (startIn i) es)) (sound i k es)
+sound-after i k es = sound i k es
 
 -- demand 2, whatever stands behind the log bytes
 pub demand-2-logged : (i : Input) → Takes i → (es : List Entry) (rest : List ℕ) → Demand2 i es (logsFrom (jobIn i) (startIn i) es ++ rest)

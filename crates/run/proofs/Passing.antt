@@ -3,7 +3,7 @@
 use borrow.Author.Tests.{eqb-true, eqb-false, ltb-false, not-false}
 use mathlib.Core.Bool.{Bool, true, false, cond, _||_, not}
 use mathlib.Core.List.{List}
-use mathlib.Core.Path.{_≡_, refl, sym, _∙_, ap}
+use mathlib.Core.Path.{_≡_, refl}
 use Prim.Native.Nat.{ℕ, _≤_, _<_}
 use native.Mathlib.Omega.{arith}
 use lib.Dec.{ltb, eqb}
@@ -18,7 +18,7 @@ use Rattle.image.proofs.Accepted.{accepted}
 use Rattle.image.proofs.Places.{starts-at}
 use Rattle.schedule.specs.declared.Entry.{Entry}
 use Rattle.schedule.specs.Meaning.{Schedule, entries, malformed, scheduleOf, numberOf}
-use Rattle.machine.specs.Sound.{GoodJob}
+use Rattle.rules.specs.Sound.{GoodJob}
 use Rattle.soundness.proofs.StartSound.{start-sound}
 use Rattle.run.specs.Run.{Input, jobIn, startIn, badCores, badArguments, badWords, entryCount, refusalOf}
 use Rattle.play.specs.Entries.{Playable}

@@ -5,7 +5,7 @@ use Prim.Native.Nat.{ℕ, _<_}
 use lib.ListN.{length, getD, drop}
 use Rattle.schedule.specs.declared.Entry.{Entry}
 use Rattle.schedule.specs.Meaning.{entries, scheduleOf}
-use Rattle.machine.specs.State.{meaning}
+use Rattle.machine.specs.Meaning.{meaning}
 use Rattle.run.proofs.Demands.{demand-1, demand-2-logged, demand-3}
 use Rattle.run.proofs.Passing.{takes}
 use Rattle.run.specs.declared.Ran.{Ran}

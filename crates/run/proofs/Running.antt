@@ -9,7 +9,8 @@ use Rattle.image.specs.declared.Verdict.the-variants.{Accepted}
 use Rattle.image.specs.Layout.{programOf, startsIn}
 use Rattle.image.specs.Image.{imageVerdict, imageAnswer, numberIn, programFor}
 use Rattle.thread.specs.Job.{jobOf}
-use Rattle.machine.specs.State.{State, meaning, outcomeOf}
+use Rattle.rules.specs.State.{State}
+use Rattle.machine.specs.Meaning.{meaning, outcomeOf}
 use Rattle.run.proofs.Passing.{takes, playable}
 use Rattle.run.specs.declared.Ran.{Ran}
 use Rattle.run.specs.declared.begin.Begun.{Begun}

@@ -49,7 +49,7 @@ use Rattle.thread.proofs.SerialSteps.{
 use Rattle.serial.specs.declared.Routine.{Routine}
 use Rattle.serial.specs.Serial.{Ended, done, stopped, andThen, movedTo, withSlot, goesOn, joined, forked, startedOn, argumentsFrom, wordAt, weightAt, effectAt, forkCalled, carried, runFrom, serialFrom}
 use Rattle.serial.specs.Steps.{GoodRoutine}
-use Rattle.serial.proofs.CommandMet.{ForkMet, Next, next-met, weighs, met, KnownHere, fresh}
+use Rattle.serial.proofs.CommandMet.{ForkMet, Known, Next, next-met, weighs, met, slots-few, fresh}
 use Rattle.serial.proofs.Unrolled.{Between, between, between-done, unrolled}
 use Rattle.simulation.proofs.JobCode.{codeOf}
 use Rattle.simulation.proofs.EntriesRun.{serialRun}
@@ -142,14 +142,14 @@ module _ (j : Job) (good : GoodJob j) where
         ∙ set-is j good l g d (wordAt j m a) h) refl
         (serial-loads windows window-tests (codeOf j good) (j .allowance) n (stateOf l) ws u paid-here d a (met-here (Loads d a) e) (omega arith))
 
-    parts : (r d a e : ℕ) → ForkMet (j .image) (l .window) r d a e → partsOf (cutAt (l .window) e) ≡ some (childOf (l .window) e, restOf (l .window) e)
+    parts : (r d a e : ℕ) → ForkMet j good l g r d a e → partsOf (cutAt (l .window) e) ≡ some (childOf (l .window) e, restOf (l .window) e)
     parts r d a e k = ap partsOf (cut-made (l .window) e (k .low) (k .high))
 
     -- a fork: the child's run, then the parent's
     abbrev called : ℕ → ℕ → ℕ → ℕ → TheoryOutcome
     called r d a e = then-child windows window-tests (codeOf j good) (j .allowance) n (stateOf l) ws u paid-here r d a (childOf (l .window) e) (restOf (l .window) e)
 
-    forks : (r d a e : ℕ) → ForkMet (j .image) (l .window) r d a e → GoodRoutine j (startedOn r (argumentsFrom j l r a) (childOf (l .window) e))
+    forks : (r d a e : ℕ) → ForkMet j good l g r d a e → GoodRoutine j (startedOn r (argumentsFrom j l r a) (childOf (l .window) e))
         → ((v : ℕ) → GoodRoutine j (withSlot d v (goesOn j (forked d e l))))
         → (n < 31 → theory n (stateOf l) ws u ≡ called r d a e) → (31 ≤ n → theory n (stateOf l) ws u ≡ t-stopped 26 ws u) → Dec (n < 31)
         → Same (forkCalled j (runFrom j) (suc n) l r d a e m u) (theory n (stateOf l) ws u)
@@ -158,8 +158,8 @@ module _ (j : Job) (good : GoodJob j) where
         rw (le-leb 32 (suc n) (omega arith)) (along _ _ _ (deep (omega arith)) (record { same = refl; size = all }))
     forks r d a e k child parent shallow deep (yes h) =
         rw (lt-leb 32 (suc n) (omega arith)) (along _ _ _
-        (shallow h ∙ (λ ι. and-then (theory (suc n) (child-is j good l g r a e (omega (arith, k .arguments)) ι) ws (charged ι))
-        (λ v m' u'. theory n (parent-is j good l g d e v (k .result) ι) m' u')))
+        (shallow h ∙ (λ ι. and-then (theory (suc n) (child-is j good l g r a e (omega (arith, k .arguments, slots-few j good l g)) ι) ws (charged ι))
+        (λ v m' u'. theory n (parent-is j good l g d e v (omega (arith, k .result, slots-few j good l g)) ι) m' u')))
         (then-same (runFrom j (suc (suc n)) (startedOn r (argumentsFrom j l r a) (childOf (l .window) e)) m (u + weightAt j l)) _ _ _
         (ih (suc n) (startedOn r (argumentsFrom j l r a) (childOf (l .window) e)) m (u + weightAt j l) child all (omega (arith, some-weight)))
         (λ v m' u' x all'. ih n (withSlot d v (goesOn j (forked d e l))) m' u' (parent v) all' (later v m' u' x))))
@@ -173,7 +173,7 @@ module _ (j : Job) (good : GoodJob j) where
             omega (arith, c .0, some-weight)
 
     -- by the effect
-    by-effect : (e : Effect) → effectAt j l ≡ e → KnownHere j good l g e → Next j l e
+    by-effect : (e : Effect) → effectAt j l ≡ e → Known j good l g e → Next j l e
         → Same (carried j (runFrom j) (suc n) l m u e) (theory n (stateOf l) ws u)
     unfolding carried
     by-effect (Faults x) e k g' = record {
@@ -190,16 +190,16 @@ module _ (j : Job) (good : GoodJob j) where
         (serial-goes windows window-tests (codeOf j good) (j .allowance) n (stateOf l) ws u paid-here p (met-here (Goes p) e))
     by-effect Continues e k g' = goes (goesOn j l) m _ ws g' all (onward-is j good l g) refl
         (serial-continues windows window-tests (codeOf j good) (j .allowance) n (stateOf l) ws u paid-here (met-here Continues e))
-    by-effect (Lforks r d a c) e k g' = forks r d a c (k .onward .0) (g' .0) (g' .1)
+    by-effect (Lforks r d a c) e k g' = forks r d a c (k .told .facts .0) (g' .0) (g' .1)
         (λ h. serial-lforks windows window-tests (codeOf j good) (j .allowance) n (stateOf l) ws u paid-here r d a c (childOf (l .window) c) (restOf (l .window) c)
-        (met-here (Lforks r d a c) e) (parts r d a c (k .onward .0)) h)
+        (met-here (Lforks r d a c) e) (parts r d a c (k .told .facts .0)) h)
         (λ h. serial-lforks-deep windows window-tests (codeOf j good) (j .allowance) n (stateOf l) ws u paid-here r d a c (childOf (l .window) c) (restOf (l .window) c)
-        (met-here (Lforks r d a c) e) (parts r d a c (k .onward .0)) h) (decLt n 31)
-    by-effect (Forks r d a c) e k g' = forks r d a c (k .onward .0) (g' .0) (g' .1)
+        (met-here (Lforks r d a c) e) (parts r d a c (k .told .facts .0)) h) (decLt n 31)
+    by-effect (Forks r d a c) e k g' = forks r d a c (k .told .facts .0) (g' .0) (g' .1)
         (λ h. serial-forks windows window-tests (codeOf j good) (j .allowance) n (stateOf l) ws u paid-here r d a c (childOf (l .window) c) (restOf (l .window) c)
-        (met-here (Forks r d a c) e) (parts r d a c (k .onward .0)) h)
+        (met-here (Forks r d a c) e) (parts r d a c (k .told .facts .0)) h)
         (λ h. serial-forks-deep windows window-tests (codeOf j good) (j .allowance) n (stateOf l) ws u paid-here r d a c (childOf (l .window) c) (restOf (l .window) c)
-        (met-here (Forks r d a c) e) (parts r d a c (k .onward .0)) h) (decLt n 31)
+        (met-here (Forks r d a c) e) (parts r d a c (k .told .facts .0)) h) (decLt n 31)
     by-effect Joins e k g' = goes (goesOn j (joined l)) m _ ws g' all (join-is j good l g) refl
         (serial-joins windows window-tests (codeOf j good) (j .allowance) n (stateOf l) ws u paid-here (met-here Joins e))
     by-effect Suspends e k g' = goes (goesOn j l) m _ ws g' all (onward-is j good l g) refl

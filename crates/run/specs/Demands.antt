@@ -1,5 +1,5 @@
 -- The three demands, each as a record that can be laid beside the user's words line by line.
-use mathlib.Core.Bool.{Bool, true, false}
+use mathlib.Core.Bool.{true}
 use mathlib.Core.List.{List, [], _∷_, _++_}
 use mathlib.Core.Logic.{_⊎_}
 use mathlib.Core.Path.{_≡_}
@@ -15,10 +15,10 @@ use Rattle.image.specs.Image.{imageVerdict}
 use Rattle.schedule.specs.declared.Entry.{Entry}
 use Rattle.thread.specs.declared.Status.the-variants.{Free}
 use Rattle.census.specs.Counted.{countOf}
-use Rattle.machine.specs.Lists.{Member, Distinct}
-use Rattle.machine.specs.State.{Job, State, Outcome, finished, faulted, isOver, threadAt}
-use Rattle.machine.specs.Rules.{stepOf, takeOf, entryOf}
-use Rattle.machine.specs.Sound.{statusAt}
+use Rattle.rules.specs.Lists.{Member}
+use Rattle.rules.specs.State.{State, finished, faulted, isOver}
+use Rattle.rules.specs.Rules.{stepOf, takeOf, entryOf}
+use Rattle.rules.specs.Sound.{statusAt}
 use Rattle.soundness.specs.Numbers.{Numbers}
 use Rattle.serial.specs.Serial.{Ended, done, stopped, serialOf}
 use Rattle.run.specs.declared.Ran.{Ran}

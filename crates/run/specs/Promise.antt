@@ -4,7 +4,7 @@ use mathlib.Core.Path.{_≡_}
 use Prim.Native.Nat.{ℕ}
 use Rattle.schedule.specs.declared.Entry.{Entry}
 use Rattle.schedule.specs.Meaning.{entries, scheduleOf}
-use Rattle.machine.specs.State.{meaning}
+use Rattle.machine.specs.Meaning.{meaning}
 use Rattle.run.specs.declared.Ran.{Ran}
 use Rattle.run.specs.Run.{Input, refusalOf, RunsAs}
 use Rattle.run.specs.Demands.{Demand1, Demand2, Demand3}

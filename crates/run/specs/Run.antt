@@ -1,6 +1,6 @@
 -- A run by a schedule: the whole-run tests, and what a run answers; the fold of the machine's entries is crate `play`'s. Document 01, "Schedule" and "Who
 -- can cause which number".
-use mathlib.Core.Bool.{Bool, true, false, cond, _||_, not}
+use mathlib.Core.Bool.{Bool, cond, _||_, not}
 use mathlib.Core.List.{List}
 use mathlib.Core.Path.{_≡_}
 use Prim.Native.Nat.{ℕ}
@@ -11,14 +11,15 @@ use Rattle.image.specs.Image.{imageVerdict, numberIn}
 use Rattle.schedule.specs.declared.Entry.{Entry}
 use Rattle.schedule.specs.Meaning.{Schedule, entries, malformed, scheduleOf, numberOf}
 use Rattle.thread.specs.Job.{Job, jobOf}
-use Rattle.machine.specs.State.{State, Outcome, going, finished, faulted, meaning}
-use Rattle.machine.specs.Rules.{startState}
+use Rattle.rules.specs.State.{State, Outcome, going, finished, faulted}
+use Rattle.machine.specs.Meaning.{meaning}
+use Rattle.rules.specs.Start.{startState}
 use Rattle.run.specs.declared.RunAnswer.{RunAnswer}
 use Rattle.run.specs.declared.RunAnswer.the-variants.{Refused, Finished, Faulted, Open}
 use Rattle.run.specs.declared.Ran.{Ran}
 use Rattle.run.specs.declared.begin.Begun.{Begun}
-unfoldable pub use Rattle.play.specs.Entries.{runFrom, logsFrom}
-pub use Rattle.play.specs.Entries.{logged}
+unfoldable pub use Rattle.rules.specs.Runs.{runFrom, logsFrom}
+pub use Rattle.rules.specs.Runs.{logged}
 
 -- what a run is given
 pub record Input : Type 0 where

@@ -1,12 +1,12 @@
 // What stands before a run's first entry: the whole-run tests, the machine at Start, and where the routines' codes start.
 use crate::refusal::refusal;
-use crate::tell::image_number;
+use image::number::image_number;
 use machine::Machine;
 use machine::start::start;
 ghost use mathlib.Core.Path.{_≡_};
 ghost use Prim.Native.Nat.{ℕ};
 ghost use lib.ListN.{length};
-ghost use Rattle.run.specs.Run.{Input, Begins};
+ghost use Rattle.run.specs.Run.{Begins};
 
 // A run at its beginning.
 pub struct Begun {

@@ -8,7 +8,6 @@ use crate::begin::begin;
 use crate::tell::answer;
 use machine::Machine;
 use play::play;
-ghost use Rattle.run.specs.Run.{Input};
 ghost use Rattle.run.specs.Promise.{Promise};
 
 // What a run answers.

@@ -1,11 +1,11 @@
 // The whole-run tests, in document 01's order: 23, image, 24, 13, 25.
-use command::byte_at;
+use image::routines::arguments_of;
 use schedule::Counted;
 use schedule::count;
 ghost use mathlib.Core.Path.{_≡_};
 ghost use Prim.Native.Nat.{ℕ};
 ghost use Rattle.image.specs.Image.{imageVerdict, numberIn};
-ghost use Rattle.run.specs.Run.{Input, refusalOf};
+ghost use Rattle.run.specs.Run.{refusalOf};
 
 // The number of the first test that is met, or 0. The image's own number is given.
 pub fn refusal(
@@ -30,7 +30,7 @@ pub fn refusal(
     if verdict != 0 {
         return verdict;
     }
-    let wanted = byte_at(image, 2) as usize;
+    let wanted = arguments_of(image, 0) as usize;
     if arguments.len() != wanted {
         return 24;
     }

@@ -2,7 +2,7 @@
 use borrow.Author.Tests.{leb-true}
 use mathlib.Core.Bool.{Bool, true, false, cond, not}
 use mathlib.Core.List.{List, [], _∷_, _++_}
-use mathlib.Core.Path.{_≡_, refl, sym, _∙_, ap, subst}
+use mathlib.Core.Path.{_≡_, refl, _∙_, ap, subst}
 use Prim.Native.Nat.{ℕ, zero, suc, _+_, _≤_, _<_}
 use native.Mathlib.Nat.{zero-add}
 use native.Mathlib.Omega.{arith}
@@ -11,11 +11,10 @@ use lib.ListN.{getD, length, length-append}
 use Rattle.schedule.specs.declared.Entry.{Entry}
 use Rattle.schedule.specs.declared.Entry.the-variants.{Enable}
 use Rattle.schedule.specs.Format.{bytesOf}
-use Rattle.schedule.specs.Meaning.{entries, scheduleOf}
 use Rattle.schedule.proofs.Following.{allBytes, accepts-short}
-use Rattle.machine.specs.Lists.{Every}
-use Rattle.machine.specs.State.{Job, State, isOver}
-use Rattle.machine.specs.Rules.{entryOf}
+use Rattle.rules.specs.Lists.{Every}
+use Rattle.rules.specs.State.{Job, State, isOver}
+use Rattle.rules.specs.Rules.{entryOf}
 use Rattle.run.specs.Run.{Input, jobIn, startIn, runFrom, logsFrom}
 use Rattle.run.specs.Demands.{Demand3}
 use Rattle.soundness.proofs.EntryCases.{and-true}
@@ -24,7 +23,8 @@ use Rattle.run.proofs.Passing.{takes}
 use Rattle.scheduler.proofs.Keeping.{short}
 use Rattle.scheduler.proofs.Trying.{bytes-snoc}
 use Rattle.search.specs.Search.{choiceOf, lowestSuspended}
-use Rattle.scheduler.specs.Rounds.{Progress, isWritten, mayTry, recorded, tried, turns, fresh, round, goesOn, wakened, rounds, usable, beginning, scheduledOf, bytesOfAll}
+use Rattle.rounds.specs.Rounds.{Progress, isWritten, mayTry, recorded, tried, turns, fresh, round, goesOn, wakened, rounds, usable, beginning, bytesOfAll}
+use Rattle.scheduler.specs.Promise.{scheduledOf}
 use Rattle.scheduler.specs.Promise.{refusalIn, EqualsRun}
 
 module _ (j : Job) where

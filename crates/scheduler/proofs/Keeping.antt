@@ -1,19 +1,18 @@
 -- An entry written to the buffer, or not. Assumes nothing.
 use borrow.Author.Tests.{le-leb}
-use mathlib.Core.Bool.{Bool, true, false, cond}
-use mathlib.Core.List.{List, [], _++_, append-assoc}
-use mathlib.Core.Path.{_≡_, refl, sym, _∙_, ap}
-use Prim.Native.Nat.{ℕ, _+_, _≤_, _<_}
+use mathlib.Core.Bool.{true, false}
+use mathlib.Core.List.{List, [], append-assoc}
+use mathlib.Core.Path.{_≡_, sym, _∙_}
+use Prim.Native.Nat.{ℕ, _+_, _≤_}
 use native.Mathlib.Nat.{add-zero}
 use native.Mathlib.Omega.{arith}
-use lib.ListN.{length, take, drop, take-append-drop}
+use lib.ListN.{length, take-append-drop}
 use Rattle.schedule.specs.declared.Entry.{Entry}
 use Rattle.schedule.specs.declared.Entry.the-variants.{Step, Take, Steal, Enable}
-use Rattle.schedule.specs.declared.Written.{Written}
 use Rattle.schedule.specs.declared.Written.the-variants.{Bytes, NoRoom}
 use Rattle.schedule.specs.Format.{bytesOf}
 use Rattle.schedule.specs.Writing.{placed, writtenOf, Writes}
-use Rattle.scheduler.specs.Rounds.{isWritten}
+use Rattle.rounds.specs.Rounds.{isWritten}
 use Rattle.scheduler.specs.Steps.{bytesKept, Keeps}
 
 -- "when .. fewer than 3 bytes are left": an entry has 2 or 3

@@ -13,8 +13,9 @@ use Rattle.thread.specs.Thread.{movedTo}
 use Rattle.machine.specs.declared.Machine.{Machine}
 use Rattle.machine.specs.declared.OwnStep.{OwnStep}
 use Rattle.machine.specs.declared.OwnStep.the-variants.{Moved}
-use Rattle.machine.specs.State.{Job, jobOf, State, isOver, outcomeOf, meaning, after}
-use Rattle.machine.specs.Rules.{entryOf}
+use Rattle.rules.specs.State.{Job, jobOf, State, isOver}
+use Rattle.machine.specs.Meaning.{outcomeOf, meaning, after}
+use Rattle.rules.specs.Rules.{entryOf}
 use Rattle.machine.specs.Own.{steppingOf, Owned, ownOf}
 use Rattle.machine.proofs.Tests.{over-true}
 use Rattle.machine.proofs.Way.{record-of}

@@ -4,8 +4,9 @@ use mathlib.Core.Path.{_≡_, refl, sym, _∙_, ap}
 use Prim.Native.Nat.{ℕ, _<_}
 use lib.ListN.{getD, length}
 use Rattle.thread.specs.Job.{jobOf}
-use Rattle.machine.specs.State.{State, meaning, outcomeOf}
-use Rattle.machine.specs.Sound.{Sound}
+use Rattle.rules.specs.State.{State}
+use Rattle.machine.specs.Meaning.{meaning, outcomeOf}
+use Rattle.rules.specs.Sound.{Sound}
 use Rattle.run.specs.declared.RunAnswer.the-variants.{Refused}
 use Rattle.run.specs.declared.begin.Begun.{Begun}
 use Rattle.run.specs.Run.{Input, jobIn, startIn, answerOf, Begins}

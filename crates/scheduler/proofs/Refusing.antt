@@ -1,7 +1,6 @@
 -- A refused entry changes nothing, and a suspended thread's enable is accepted. Assumes nothing.
 use borrow.Author.Tests.{le-leb, lt-ltb, le-ltb, leb-true}
-use mathlib.Core.Bool.{Bool, true, false, cond, _&&_, _||_}
-use mathlib.Core.Logic.{_⊎_}
+use mathlib.Core.Bool.{Bool, true, false, cond, _||_}
 use mathlib.Core.Path.{_≡_, refl, sym, _∙_}
 use Prim.Native.Nat.{ℕ, _≤_, _<_}
 use native.Mathlib.Omega.{arith}
@@ -10,12 +9,12 @@ use Rattle.schedule.specs.declared.Entry.{Entry}
 use Rattle.schedule.specs.declared.Entry.the-variants.{Step, Take, Steal, Enable}
 use Rattle.thread.specs.declared.Status.the-variants.{Suspended}
 use Rattle.thread.specs.Thread.{_is_}
-use Rattle.machine.specs.State.{Job, State, After, isOver, isBusy, threadAt}
-use Rattle.machine.specs.Update.{refused}
-use Rattle.machine.specs.Rules.{entryOf, enableOf, stealOf, isSeed}
+use Rattle.rules.specs.State.{Job, State, After, isOver, isBusy, threadAt}
+use Rattle.rules.specs.Update.{refused}
+use Rattle.rules.specs.Rules.{entryOf, enableOf, stealOf, isSeed}
 use Rattle.soundness.proofs.EntryCases.{Cases, entry-by}
 use Rattle.soundness.proofs.Tested.{fault-tested}
-use Rattle.scheduler.specs.Rounds.{isWritten}
+use Rattle.rounds.specs.Rounds.{isWritten}
 use Rattle.search.specs.Search.{isNothing}
 
 -- "accepted or faulting": 0 and 9 to 12 are

@@ -1,28 +1,28 @@
 -- The loop over the tries: the cores that are left in this round, and the rounds behind it, lead to where all rounds do. Assumes nothing.
 use borrow.Author.Tests.{lt-ltb, le-ltb, eqb-true}
 use mathlib.Core.Bool.{Bool, true, false, cond, _&&_, _||_}
-use mathlib.Core.List.{List, [], _∷_, _++_}
-use mathlib.Core.Path.{_≡_, refl, sym, _∙_, ap, subst}
+use mathlib.Core.List.{List, _++_}
+use mathlib.Core.Path.{_≡_, refl, sym, _∙_, ap}
 use Prim.Native.Nat.{ℕ, zero, suc, _+_, _-_, _*_, _≤_, _<_}
 use native.Mathlib.Numerals.{add-one}
 use native.Mathlib.Nat.{zero-add, sub-zero}
 use native.Mathlib.Omega.{arith}
-use lib.Dec.{ltb, eqb}
+use lib.Dec.{eqb}
 use lib.ListN.{length, drop}
 use Rattle.schedule.specs.declared.Entry.{Entry}
 use Rattle.schedule.specs.declared.Entry.the-variants.{Enable}
 use Rattle.thread.specs.Thread.{none, _is_}
 use Rattle.thread.specs.declared.Status.the-variants.{Suspended}
-use Rattle.machine.specs.State.{Job, State, After, isOver, threadAt}
-use Rattle.machine.specs.Rules.{entryOf}
-use Rattle.machine.specs.Sound.{Sound}
+use Rattle.rules.specs.State.{Job, State, After, isOver, threadAt}
+use Rattle.rules.specs.Rules.{entryOf}
+use Rattle.rules.specs.Sound.{Sound}
 use Rattle.soundness.proofs.Kept.{entry-sound}
 use Rattle.soundness.proofs.KeepSized.{keep-count}
 use Rattle.search.proofs.Searching.{lowest-is}
 use Rattle.scheduler.proofs.Refusing.{enables, nothing-refused}
 use Rattle.scheduler.proofs.Trying.{At, may, may-not-over, may-not-left, tries, writes, adds}
 use Rattle.search.specs.Search.{choiceOf, lowestSuspended}
-use Rattle.scheduler.specs.Rounds.{Progress, isWritten, mayTry, recorded, tried, turns, fresh, round, goesOn, wakened, rounds, usable, beginning, scheduledFrom, bytesOfAll, filled}
+use Rattle.rounds.specs.Rounds.{Progress, isWritten, mayTry, recorded, tried, turns, fresh, goesOn, wakened, rounds, usable, beginning, scheduledFrom, bytesOfAll, filled}
 use Rattle.search.specs.Search.{isNothing}
 use Rattle.scheduler.specs.Steps.{Keeps, Rounded}
 

@@ -1,9 +1,9 @@
 -- One try in the code and in the definition: the scheduler's variables stand at some progress, and go on to the next. Assumes nothing.
 use borrow.Author.Tests.{le-leb, lt-leb, leb-true, leb-false, eqb-true, eqb-false}
-use mathlib.Core.Bool.{Bool, true, false, cond, _&&_, _||_, not}
+use mathlib.Core.Bool.{Bool, true, false, _&&_, _||_, not}
 use mathlib.Core.List.{List, [], _∷_, _++_, append-nil, append-assoc}
 use mathlib.Core.Logic.{_⊎_, inl, inr}
-use mathlib.Core.Path.{_≡_, refl, sym, _∙_, ap, subst}
+use mathlib.Core.Path.{_≡_, refl, sym, _∙_, ap}
 use Prim.Native.Nat.{ℕ, _+_, _-_, _≤_, _<_}
 use native.Mathlib.Nat.{add-zero}
 use native.Mathlib.Omega.{arith}
@@ -13,13 +13,14 @@ use lib.Seq.{take-at, drop-at, drop-drop}
 use Rattle.schedule.specs.declared.Entry.{Entry}
 use Rattle.schedule.specs.Format.{bytesOf}
 use Rattle.machine.specs.declared.Machine.{Machine}
-use Rattle.machine.specs.State.{Job, State, After, isOver, outcomeOf}
-use Rattle.machine.specs.Rules.{entryOf}
+use Rattle.rules.specs.State.{Job, State, After, isOver}
+use Rattle.machine.specs.Meaning.{outcomeOf}
+use Rattle.rules.specs.Rules.{entryOf}
 use Rattle.machine.proofs.Tests.{over-true, over-false}
 use Rattle.soundness.proofs.EntryCases.{and-true}
 use Rattle.scheduler.proofs.Keeping.{short}
 use Rattle.scheduler.proofs.Refusing.{refused-stays}
-use Rattle.scheduler.specs.Rounds.{Progress, isWritten, mayTry, recorded, tried, bytesOfAll}
+use Rattle.rounds.specs.Rounds.{Progress, isWritten, mayTry, recorded, tried, bytesOfAll}
 use Rattle.scheduler.specs.Steps.{bytesKept, Keeps}
 
 pub bytes-snoc : (es : List Entry) (e : Entry) → bytesOfAll (es ++ (e ∷ [])) ≡ bytesOfAll es ++ bytesOf e

@@ -1,4 +1,3 @@
--- In reading order: the rounds, what the inner functions give, and what `run` promises.
-pub mod Rounds
-pub mod Steps
+-- In reading order: what `run` promises; and what the inner functions give, for the code's contracts alone.
 pub mod Promise
+pub mod Steps

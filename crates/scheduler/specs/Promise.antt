@@ -5,17 +5,21 @@ use mathlib.Core.Path.{_≡_}
 use Prim.Native.Nat.{ℕ}
 use lib.ListN.{length}
 use Rattle.schedule.specs.Meaning.{entries, scheduleOf}
-use Rattle.machine.specs.Lists.{Every}
-use Rattle.machine.specs.State.{meaning}
+use Rattle.rules.specs.Lists.{Every}
+use Rattle.machine.specs.Meaning.{meaning}
 use Rattle.run.specs.declared.RunAnswer.the-variants.{Refused}
 use Rattle.run.specs.Run.{Input, jobIn, startIn, runFrom, logsFrom, refusalOf, answerOf, numberOfAnswer}
 use Rattle.run.specs.Demands.{Demand3}
 use Rattle.scheduler.specs.declared.Scheduled.{Scheduled}
-use Rattle.scheduler.specs.Rounds.{Progress, isWritten, scheduledOf, bytesOfAll, filled}
+use Rattle.rounds.specs.Rounds.{Progress, isWritten, scheduledFrom, bytesOfAll, filled}
 
 -- 23, the image's, 24 and 25, this of the words only: the tests of a run by the empty schedule, which needs no log
 abbrev pub refusalIn : Input → ℕ
 refusalIn i = refusalOf i [] []
+
+-- the scheduler's whole run
+abbrev pub scheduledOf : Input → ℕ → Progress
+scheduledOf i size = scheduledFrom (jobIn i) (startIn i) size
 
 -- a run that is refused: its number alone, and nothing written; the machine beside it is as at Start
 pub record IsRefused (i : Input) (n : ℕ) (before : List ℕ) (r : Scheduled) (memoryAfter after : List ℕ) : Type 0 where

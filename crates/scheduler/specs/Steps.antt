@@ -6,8 +6,8 @@ use Prim.Native.Nat.{ℕ, _+_}
 use lib.ListN.{length, take, drop}
 use Rattle.schedule.specs.declared.Entry.{Entry}
 use Rattle.schedule.specs.Format.{bytesOf}
-use Rattle.machine.specs.State.{Job, State}
-use Rattle.scheduler.specs.Rounds.{isWritten, scheduledFrom, bytesOfAll, filled}
+use Rattle.rules.specs.State.{Job, State}
+use Rattle.rounds.specs.Rounds.{isWritten, scheduledFrom, bytesOfAll, filled}
 
 -- what is written of an entry with a log byte: its bytes, or nothing where it is refused
 abbrev pub bytesKept : Entry → ℕ → List ℕ

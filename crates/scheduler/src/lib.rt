@@ -1,13 +1,12 @@
 // The built-in scheduler, document 01's "house run": it makes its own schedule, round by round, and writes the entries it used.
 
-mod rounds;
+mod turns;
 
-use crate::rounds::play_rounds;
+use crate::turns::play_rounds;
 use machine::Machine;
 use run::RunAnswer;
 use run::begin::begin;
 use run::tell::answer;
-ghost use Rattle.run.specs.Run.{Input};
 ghost use Rattle.scheduler.specs.Promise.{Promise};
 
 // The answer, with the machine as the run left it and the words of its stacklets.

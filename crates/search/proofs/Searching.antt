@@ -1,5 +1,5 @@
 -- The search for the first seed, and for the lowest suspended thread: what is left to look at gives what the whole gives. Assumes nothing.
-use borrow.Author.Tests.{lt-ltb, le-ltb, eqb-true}
+use borrow.Author.Tests.{lt-ltb, le-ltb}
 use mathlib.Core.Bool.{Bool, true, false, cond, _&&_, _||_}
 use mathlib.Core.List.{List}
 use mathlib.Core.Path.{_≡_, refl, sym, _∙_}
@@ -12,10 +12,10 @@ use Rattle.schedule.specs.declared.Entry.{Entry}
 use Rattle.schedule.specs.declared.Entry.the-variants.{Step}
 use Rattle.thread.specs.declared.Thread.{Thread}
 use Rattle.thread.specs.declared.Status.the-variants.{Suspended, Lent}
-use Rattle.thread.specs.Thread.{blankThread, none, _is_, statusNumber}
-use Rattle.machine.specs.State.{Job, State, threadAt, onCore}
-use Rattle.machine.specs.Turn.{byteOf}
-use Rattle.machine.specs.Rules.{isSeed}
+use Rattle.thread.specs.Thread.{blankThread, none, _is_}
+use Rattle.rules.specs.State.{Job, State, threadAt, onCore}
+use Rattle.rules.specs.Turn.{byteOf}
+use Rattle.rules.specs.Rules.{isSeed}
 use Rattle.search.specs.Search.{lentParent, seedAbove, seedOn, seedFrom, idleChoice, choiceOf, suspendedFrom}
 
 module _ (j : Job) (s : State) where

@@ -1,2 +1,3 @@
--- What a core tries, and which thread is enabled.
+-- What a core tries, and which thread is enabled. `Showing` is only for the code's contracts.
 pub mod Search
+pub mod Showing

@@ -9,8 +9,8 @@ use Rattle.schedule.specs.declared.Entry.the-variants.{Step, Take, Steal, Enabl
 use Rattle.thread.specs.declared.Thread.{Thread}
 use Rattle.thread.specs.declared.Status.the-variants.{Suspended}
 use Rattle.thread.specs.Thread.{blankThread, none, _is_}
-use Rattle.machine.specs.State.{Job, State, threadAt, onCore, isBusy}
-use Rattle.machine.specs.Rules.{isSeed}
+use Rattle.rules.specs.State.{Job, State, threadAt, onCore, isBusy}
+use Rattle.rules.specs.Rules.{isSeed}
 
 -- the lent parent of a connected thread; of another thread none
 abbrev pub lentParent : Thread → ℕ

@@ -1,6 +1,8 @@
-// What a core tries, and which thread is enabled. Of a machine with more than 4 cores, which no sound state has, nothing is said.
+// What a core tries, and which thread is enabled, by the machine's threads, cores and ready queue. Of more than 4 cores, which no sound state
+// has, nothing is said.
 use command::byte_at;
-use machine::Machine;
+use image::routines::place_in_image;
+use queue::Queue;
 use schedule::Entry;
 use thread::Status;
 use thread::Thread;
@@ -11,10 +13,12 @@ ghost use mathlib.Core.Path.{_≡_};
 ghost use Prim.Native.Nat.{ℕ, _+_, _≤_};
 ghost use lib.Dec.{eqb, ltb};
 ghost use lib.ListN.{getD};
+ghost use Rattle.queue.specs.Contents.{contents};
 ghost use Rattle.schedule.specs.declared.Entry.the-variants.{Step};
 ghost use Rattle.thread.specs.declared.Status.the-variants.{Lent};
 ghost use Rattle.thread.specs.Thread.{_is_};
-ghost use Rattle.machine.specs.State.{jobOf, meaning};
+ghost use Rattle.rules.specs.State.{jobOf, State};
+ghost use Rattle.search.specs.Showing.{showing};
 ghost use Rattle.search.specs.Search.{lentParent, firstSeed, idleChoice, isNothing, suspendedFrom};
 
 // No thread.
@@ -30,17 +34,6 @@ fn lent_parent(h: Thread) -> u8
     NONE
 }
 
-// Where a position of routine r stands in the image.
-fn place_of(starts: &[u16], r: u8, position: u16) -> usize
-    ensures { λ n. ⌜ n ≡ getD (now (starts .entry)) r 0 + position ⌝ }
-{
-    let i = r as usize;
-    if i < starts.len() {
-        return (starts[i] as usize) + (position as usize);
-    }
-    position as usize
-}
-
 // Is a thread with this record lent, its next command an 08 or 09?
 fn is_seed(h: Thread, image: &[u8], starts: &[u16]) -> bool
     ensures { λ r. ⌜ r ≡ (h .status is Lent && (eqb (getD (now (image .entry)) (getD (now (starts .entry)) (h .routine) 0 + h .position) 0) 8 || eqb (getD (now (image .entry)) (getD (now (starts .entry)) (h .routine) 0 + h .position) 0) 9)) ⌝ }
@@ -49,7 +42,7 @@ fn is_seed(h: Thread, image: &[u8], starts: &[u16]) -> bool
     if !same_status(status, Status::Lent) {
         return false;
     }
-    let byte = byte_at(image, place_of(starts, h.routine, h.position));
+    let byte = byte_at(image, place_in_image(starts, h.routine, h.position));
     if byte == 8 {
         return true;
     }
@@ -57,24 +50,24 @@ fn is_seed(h: Thread, image: &[u8], starts: &[u16]) -> bool
 }
 
 // The first seed on the cores' chains of lent parents, from core 0 on.
-fn find_seed(m: Machine, image: &[u8], starts: &[u16]) -> u8
-    ensures { λ r. ⌜ (m .count ≤ 4 → (parameters words memory : List ℕ) (allowance : ℕ) → r ≡ firstSeed (jobOf (now (image .entry)) (now (starts .entry)) parameters allowance) (meaning m words memory)) ⌝ }
+fn find_seed(threads: [Thread; 32], cores: [u8; 4], count: u8, image: &[u8], starts: &[u16]) -> u8
+    ensures { λ r. ⌜ (count ≤ 4 → (parameters ready : List ℕ) (allowance : ℕ) (s : State) → r ≡ firstSeed (jobOf (now (image .entry)) (now (starts .entry)) parameters allowance) (showing threads cores count ready s)) ⌝ }
 {
-    if 4 < m.count {
+    if 4 < count {
         return NONE;
     }
     let mut c: u8 = 0;
     let found = 'search: loop {
-        if m.count <= c {
+        if count <= c {
             break NONE;
         }
-        let mut t = m.cores[c as usize];
+        let mut t = cores[c as usize];
         let mut links: u8 = 32;
         while 0 < links {
             if NONE <= t {
                 break;
             }
-            let h = m.threads[t as usize];
+            let h = threads[t as usize];
             if is_seed(h, image, starts) {
                 break 'search t;
             }
@@ -87,24 +80,40 @@ fn find_seed(m: Machine, image: &[u8], starts: &[u16]) -> u8
 }
 
 // What an idle core c tries.
-fn idle_choice(m: Machine, c: u8, image: &[u8], starts: &[u16]) -> Entry
-    ensures { λ r. ⌜ (m .count ≤ 4 → (parameters words memory : List ℕ) (allowance : ℕ) → r ≡ idleChoice (jobOf (now (image .entry)) (now (starts .entry)) parameters allowance) (meaning m words memory) c) ⌝ }
+fn idle_choice(
+    c: u8,
+    threads: [Thread; 32],
+    cores: [u8; 4],
+    count: u8,
+    ready: Queue,
+    image: &[u8],
+    starts: &[u16],
+) -> Entry
+    ensures { λ r. ⌜ (count ≤ 4 → (parameters : List ℕ) (allowance : ℕ) (s : State) → r ≡ idleChoice (jobOf (now (image .entry)) (now (starts .entry)) parameters allowance) (showing threads cores count (contents ready) s) c) ⌝ }
 {
-    let ready = m.ready;
     if 0 < ready.len() {
         return Entry::Take(c);
     }
-    Entry::Steal(c, find_seed(m, image, starts))
+    Entry::Steal(c, find_seed(threads, cores, count, image, starts))
 }
 
 // What core c tries, on which thread t runs; none does where t is 32 or more.
-pub fn choice(t: u8, m: Machine, c: u8, image: &[u8], starts: &[u16]) -> Entry
-    ensures { λ r. ⌜ (m .count ≤ 4 → (parameters words memory : List ℕ) (allowance : ℕ) → r ≡ cond (ltb t 32) (Step c) (idleChoice (jobOf (now (image .entry)) (now (starts .entry)) parameters allowance) (meaning m words memory) c)) ⌝ }
+pub fn choice(
+    t: u8,
+    c: u8,
+    threads: [Thread; 32],
+    cores: [u8; 4],
+    count: u8,
+    ready: Queue,
+    image: &[u8],
+    starts: &[u16],
+) -> Entry
+    ensures { λ r. ⌜ (count ≤ 4 → (parameters : List ℕ) (allowance : ℕ) (s : State) → r ≡ cond (ltb t 32) (Step c) (idleChoice (jobOf (now (image .entry)) (now (starts .entry)) parameters allowance) (showing threads cores count (contents ready) s) c)) ⌝ }
 {
     if t < NONE {
         return Entry::Step(c);
     }
-    idle_choice(m, c, image, starts)
+    idle_choice(c, threads, cores, count, ready, image, starts)
 }
 
 // Is this the steal of no thread, which is no try?

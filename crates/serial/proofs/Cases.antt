@@ -10,7 +10,7 @@ use Rattle.image.specs.Image.{rowsGood, inRange, routinesVerdict, imageVerdict}
 use Rattle.window.specs.Rights.{mayStore, mayLoad, cutAt}
 use Rattle.thread.specs.Effect.{run, anyPending, unlessPending, provided, forking, effectOf}
 use Rattle.thread.specs.Thread.{isPending, withPending}
-use Rattle.thread.specs.Job.{Job, jobOf}
+use Rattle.thread.specs.Job.{jobOf}
 use Rattle.serial.specs.Serial.{Ended, done, stopped, effectAt, carried, callWithin, runFrom, serialFrom, serialOf}
 
 -- "Whole": image `02 03 00 15 00 01 00 06 00`, codes `01 02 20 00 08 01 00 00 02 08 01 01 01 02 0A 02 00 00 01 0D 00` and `01 00 05 00 0D 00`

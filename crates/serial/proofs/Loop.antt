@@ -26,7 +26,7 @@ use Rattle.serial.specs.declared.SerialAnswer.{SerialAnswer}
 use Rattle.serial.specs.declared.SerialAnswer.the-variants.{Finished, Stopped}
 use Rattle.serial.specs.Serial.{Ended, done, stopped, andThen, endedBy, withSlot, goesOn, forked, startedOn, weightAt, effectAt, forkCalled, runFrom}
 use Rattle.serial.specs.Steps.{openAt, firstSlots, askedOf, slotsAfter, memoryAfter, childFrom, GoodRoutine, InReach, Ready, ForkReady, forkOf}
-use Rattle.serial.proofs.CommandMet.{reach-met, weighs, routine-few, next-small, nextOf}
+use Rattle.serial.proofs.CommandMet.{met, weighs, slots-few, next-small, nextOf}
 use Rattle.serial.proofs.Unrolled.{Between, ended, between, between-done}
 use Rattle.thread.proofs.Widths.{bytes-below}
 use Rattle.serial.proofs.Turns.{Calls, wide-here, turn-22, turn-goes, turn-joins, turn-stops, turn-returns, turn-calls}
@@ -39,9 +39,6 @@ pub record Far (j : Job) (depth : ℕ) (m₀ : List ℕ) (l₀ : Routine) (u₀ 
 pub far-starts : (j : Job) (depth : ℕ) (m : List ℕ) (r : ℕ) (arguments : List ℕ) (w : Window) (u : ℕ) (slots : List ℕ) → slots ≡ firstSlots arguments
     → Ready j (startedOn r arguments w) m u depth → Far j depth m (startedOn r arguments w) u m (openAt r 0 0 w slots) u
 far-starts j depth m r arguments w u slots e x = rw e (record { ready = x; is = refl })
-
-pub start-few : (j : Job) (depth : ℕ) (m : List ℕ) (r : ℕ) (arguments : List ℕ) (w : Window) (u : ℕ) → Ready j (startedOn r arguments w) m u depth → r < 32
-start-few j depth m r arguments w u x = routine-few j (x .job) (startedOn r arguments w) (x .routine)
 
 -- carrying out a fork: too deep, and else
 pub fork-deep : (j : Job) (child : Routine) (m : List ℕ) (u w depth : ℕ) → depth ≤ 1 → stopped 26 m u ≡ forkOf j (33 - depth) child m u w
@@ -138,7 +135,7 @@ module _ {j : Job} {depth : ℕ} {m₀ : List ℕ} {l₀ : Routine} {u₀ : ℕ}
       reach = (
         good .parameters,
         far .ready .memory,
-        rw e-is (reach-met j good l well),
+        rw e-is (met j good l well .reach),
         bytes-below (l .position) _ 65536 e (wide-here j n l m u good well paid-weight e e-is) (next-small j good l well),
       )
 
@@ -196,7 +193,7 @@ module _ {j : Job} {depth : ℕ} {m₀ : List ℕ} {l₀ : Routine} {u₀ : ℕ}
             job = good;
             routine = rw same-slots (called .1 .child);
             sixteen = ap length same-slots ∙ well .slots;
-            arguments = called .1 .asks .arguments;
+            arguments = omega (arith, called .1 .asks .arguments, slots-few j good l well);
             cut = called .1 .asks .high;
             memory = same-length;
             paid = paid-units;
@@ -205,7 +202,7 @@ module _ {j : Job} {depth : ℕ} {m₀ : List ℕ} {l₀ : Routine} {u₀ : ℕ}
           }
 
           pub call-slot : d < 16
-          call-slot = called .1 .asks .result
+          call-slot = omega (arith, called .1 .asks .result, slots-few j good l well)
 
           pub call-cut : c ≤ l .window .hi
           call-cut = called .1 .asks .high

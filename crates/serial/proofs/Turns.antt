@@ -7,6 +7,7 @@ use Prim.Native.Nat.{ℕ, _+_, _-_, _≤_, _<_}
 use native.Mathlib.Omega.{arith}
 use borrow.Author.Tests.{lt-ltb, le-ltb}
 use Rattle.command.specs.Command.{widthOf}
+use Rattle.image.specs.Layout.{slotsOf}
 use Rattle.window.specs.Rights.{childOf, rejoined}
 use Rattle.thread.specs.declared.Effect.{Effect}
 use Rattle.thread.specs.declared.Effect.the-variants.{Faults, Sets, Loads, Stores, Goes, Continues, Lforks, Forks, Joins, Suspends, Yields, Returns}
@@ -16,7 +17,8 @@ use Rattle.serial.specs.declared.Ask.{Ask}
 use Rattle.serial.specs.declared.Ask.the-variants.{GoOn, Join, Call, Stop, Return}
 use Rattle.serial.specs.Serial.{done, stopped, withSlot, goesOn, forked, startedOn, argumentsFrom, weightAt, effectAt, forkCalled, carried, runFrom}
 use Rattle.serial.specs.Steps.{openAt, askedOf, slotsAfter, memoryAfter, GoodRoutine}
-use Rattle.serial.proofs.CommandMet.{Next, next-met, met, ForkMet, KnownHere, width-met}
+use Rattle.serial.proofs.CommandMet.{Next, next-met, met, Known, width-met}
+use Rattle.thread.proofs.CommandMet.{ForkMet}
 use Rattle.serial.proofs.Unrolled.{unrolled}
 use Rattle.thread.proofs.Widths.{Widened}
 
@@ -125,7 +127,7 @@ module _ (j : Job) (n : ℕ) (l : Routine) (m : List ℕ) (u : ℕ) where
   -- what a fork leads to: the run's equation, what it asks for, and good routines; slots and memory are as they were
   pub record Calls (c r d a : ℕ) (e : Effect) : Type 0 where
     pub is : carried j (runFrom j) n l m u e ≡ forkCalled j (runFrom j) n l r d a c m u
-    pub asks : ForkMet (j .image) (l .window) r d a c
+    pub asks : ForkMet (j .image) (slotsOf (j .image) (l .routine)) (l .window) r d a c
     pub child : GoodRoutine j (startedOn r (argumentsFrom j l r a) (childOf (l .window) c))
     pub parent : (v : ℕ) → GoodRoutine j (withSlot d v (goesOn j (forked d c l)))
     pub five : width ≡ 5
@@ -136,7 +138,7 @@ module _ (j : Job) (n : ℕ) (l : Routine) (m : List ℕ) (u : ℕ) where
   by-fork e c' r' d' a' c r d a q x = rw (← q .0, ← q .1, ← q .2, ← q .3) x
 
   module _ (good : GoodJob j) (g : GoodRoutine j l) where
-    calls : (e : Effect) (c r d a : ℕ) → askedOf e (l .position) ≡ Call c r d a → Widened width e → KnownHere j good l g e → Next j l e
+    calls : (e : Effect) (c r d a : ℕ) → askedOf e (l .position) ≡ Call c r d a → Widened width e → Known j good l g e → Next j l e
         → Calls c r d a e
     unfolding askedOf carried slotsAfter memoryAfter kind
     calls (Faults y) c r d a h w k x = unlike _ _ h (λ z. omega arith)
@@ -146,9 +148,9 @@ module _ (j : Job) (n : ℕ) (l : Routine) (m : List ℕ) (u : ℕ) where
     calls (Goes t) c r d a h w k x = unlike _ _ h (λ z. omega arith)
     calls Continues c r d a h w k x = unlike _ _ h (λ z. omega arith)
     calls (Lforks r' d' a' c') c r d a h w k x = by-fork (Lforks r' d' a' c') c' r' d' a' c r d a (same-call _ _ _ _ _ _ _ _ h)
-        (record { is = refl; asks = k .onward .0; child = x .0; parent = x .1; five = w .is; slots = refl; memory = refl })
+        (record { is = refl; asks = k .told .facts .0; child = x .0; parent = x .1; five = w .is; slots = refl; memory = refl })
     calls (Forks r' d' a' c') c r d a h w k x = by-fork (Forks r' d' a' c') c' r' d' a' c r d a (same-call _ _ _ _ _ _ _ _ h)
-        (record { is = refl; asks = k .onward .0; child = x .0; parent = x .1; five = w .is; slots = refl; memory = refl })
+        (record { is = refl; asks = k .told .facts .0; child = x .0; parent = x .1; five = w .is; slots = refl; memory = refl })
     calls Joins c r d a h w k x = unlike _ _ h (λ z. omega arith)
     calls Suspends c r d a h w k x = unlike _ _ h (λ z. omega arith)
     calls Yields c r d a h w k x = unlike _ _ h (λ z. omega arith)
@@ -168,7 +170,7 @@ module _ (j : Job) (n : ℕ) (l : Routine) (m : List ℕ) (u : ℕ) where
         turned : runFrom j n l m u ≡ carried j (runFrom j) n l m u e
         turned = after-test ∙ ap (carried j (runFrom j) n l m u) (sym is)
 
-        known : KnownHere j good l g e
+        known : Known j good l g e
         known = rw is (met j good l g)
 
         next : Next j l e

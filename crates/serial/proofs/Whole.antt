@@ -1,13 +1,11 @@
 -- The whole-run tests of the serial run in their order, and what they give: a good job and a good first routine. Assumes nothing.
-use mathlib.Core.Bool.{Bool, true, false, cond, not}
 use mathlib.Core.List.{List}
-use mathlib.Core.Path.{_≡_, refl, sym, _∙_, ap}
-use Prim.Native.Nat.{ℕ, _+_, _-_, _≤_, _<_}
+use mathlib.Core.Path.{_≡_, sym, _∙_, ap}
+use Prim.Native.Nat.{ℕ, _-_, _≤_, _<_}
 use native.Mathlib.Omega.{arith}
 use borrow.Author.Tests.{eq-eqb, ne-eqb}
 use lib.ListN.{getD, length}
 use Rattle.command.proofs.Tables.{weight-least}
-use Rattle.image.specs.declared.Verdict.{Verdict}
 use Rattle.image.specs.declared.Verdict.the-variants.{Accepted, Refused}
 use Rattle.image.specs.declared.Refusal.{Refusal}
 use Rattle.image.specs.declared.Checked.{Checked}
@@ -20,7 +18,7 @@ use Rattle.window.specs.declared.Window.{Window}
 use Rattle.window.specs.Rights.{rootWindow}
 use Rattle.window.proofs.Laws.{root-fits}
 use Rattle.thread.specs.Job.{Job, jobOf, GoodJob}
-use Rattle.serial.specs.Serial.{Ended, stopped, startedOn, byVerdict, runFrom, serialFrom, serialOf}
+use Rattle.serial.specs.Serial.{Ended, stopped, startedOn, runFrom, serialFrom, serialOf}
 use Rattle.serial.specs.Steps.{Ready}
 use Rattle.serial.proofs.CommandMet.{fresh}
 

@@ -1,6 +1,6 @@
 -- The serial run, document 01's "plain run": each fork is a call. "It holds memory, units, and per open routine slots, pending slots,
 -- window, mark and position."
-use mathlib.Core.Bool.{Bool, true, false, cond, not}
+use mathlib.Core.Bool.{cond, not}
 use mathlib.Core.List.{List, _++_}
 use Prim.Native.Nat.{ℕ, zero, suc, _+_, _-_}
 use lib.Dec.{ltb, leb, eqb}
@@ -19,7 +19,7 @@ use Rattle.thread.specs.declared.Effect.the-variants.{Faults, Sets, Loads, Stor
 use Rattle.thread.specs.Effect.{effectOf}
 use Rattle.thread.specs.View.{viewOf}
 use Rattle.thread.specs.Thread.{isPending, withPending}
-use Rattle.thread.specs.Job.{Job, jobOf, offsetAt, byteAt}
+use Rattle.thread.specs.Job.{Job, offsetAt, byteAt}
 use Rattle.serial.specs.declared.Routine.{Routine}
 use Rattle.serial.specs.declared.SerialAnswer.{SerialAnswer}
 use Rattle.serial.specs.declared.SerialAnswer.the-variants.{Finished, Stopped}

@@ -2,6 +2,7 @@
 use crate::Ask;
 use crate::frame::put;
 use command::byte_at;
+use image::routines::place_in_image;
 use thread::Effect;
 ghost use mathlib.Core.Path.{_≡_};
 ghost use Prim.Native.Nat.{_+_, _<_};
@@ -19,11 +20,9 @@ pub fn wide(x: u16) -> usize
 
 // Where a routine's code starts.
 pub fn code_start(starts: &[u16; 32], routine: u8) -> usize
-    requires { ⌜ routine < 32 ⌝ }
-    ensures { λ r. ⌜ (r ≡ getD (now (starts .entry)) routine 0) × (r < 65536) ⌝ }
+    ensures { λ r. ⌜ (r ≡ getD (now (starts .entry)) routine 0) × (r < 131072) ⌝ }
 {
-    let r = routine as usize;
-    wide(starts[r])
+    place_in_image(starts, routine, 0)
 }
 
 // The weight, in a table, of the command with this first byte.

@@ -1,10 +1,8 @@
 // An open routine's frame: its arguments, its first slots, and the parts of its window at a fork.
-use command::byte_at;
 use window::Window;
 ghost use mathlib.Core.Path.{_≡_};
 ghost use Prim.Native.Nat.{_+_, _≤_, _<_};
 ghost use lib.ListN.{length, replicate, set};
-ghost use Rattle.image.specs.Layout.{argumentsOf};
 ghost use Rattle.window.specs.Rights.{childOf, restOf};
 ghost use Rattle.serial.specs.Steps.{firstSlots};
 
@@ -13,13 +11,6 @@ pub fn wide_byte(x: u8) -> usize
     ensures { λ r. ⌜ (r ≡ x) × (r < 256) ⌝ }
 {
     x as usize
-}
-
-// The number of a routine's arguments.
-pub fn arguments_of(image: &[u8], routine: u8) -> u8
-    ensures { λ r. ⌜ r ≡ argumentsOf (now (image .entry)) routine ⌝ }
-{
-    byte_at(image, 4 * (routine as usize) + 2)
 }
 
 // Lays a new routine's arguments in its first slots, which are zero.

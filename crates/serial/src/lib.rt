@@ -7,7 +7,6 @@ use crate::act::carry_out;
 use crate::act::code_start;
 use crate::act::cost_of;
 use crate::act::wide;
-use crate::frame::arguments_of;
 use crate::frame::child_window;
 use crate::frame::lay;
 use crate::frame::put;
@@ -16,8 +15,9 @@ use crate::frame::wide_byte;
 use command::command_of;
 use command::five_at;
 use command::weights;
-use image::Refusal;
 use image::Verdict;
+use image::number::number_of;
+use image::routines::arguments_of;
 use thread::effects::effect;
 use thread::pending::with_pending;
 use window::Window;
@@ -25,7 +25,6 @@ ghost use mathlib.Core.Path.{_≡_};
 ghost use Prim.Native.Nat.{_+_, _-_, _≤_};
 ghost use lib.ListN.{length};
 ghost use Rattle.image.specs.Layout.{programOf, startsIn};
-ghost use Rattle.image.specs.Image.{numberOf};
 ghost use Rattle.thread.specs.Job.{jobOf};
 ghost use Rattle.serial.specs.Serial.{endedBy, startedOn, runFrom, serialOf};
 ghost use Rattle.serial.specs.Steps.{Ready, ForkReady, childFrom, forkOf};
@@ -180,22 +179,6 @@ fn run_routine(
                 return SerialAnswer::Finished(value, units + cost);
             }
         }
-    }
-}
-
-// Document 01's number of a refused image.
-fn number_of(refusal: Refusal) -> u8
-    ensures { λ r. ⌜ r ≡ numberOf refusal ⌝ }
-{
-    match refusal {
-        Refusal::BadLength => 1,
-        Refusal::BadCount => 2,
-        Refusal::BadRow => 3,
-        Refusal::UnknownByte => 4,
-        Refusal::OperandsCutOff => 5,
-        Refusal::OutOfRange => 6,
-        Refusal::BadEnd => 7,
-        Refusal::BadTarget => 8,
     }
 }
 

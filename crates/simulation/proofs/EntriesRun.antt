@@ -21,11 +21,13 @@ use Rattle.thread.proofs.ThreadState.{ThreadState}
 use Rattle.thread.proofs.LawfulThreads.{threads}
 use Rattle.thread.proofs.CarriedThreads.{carried-threads, does}
 use Rattle.thread.proofs.MarkedWindows.{window-tests, root-job}
-use Rattle.machine.specs.State.{Job, State, After, going, finished, faulted, threadAt}
-use Rattle.machine.specs.Rules.{entryOf, startState}
-use Rattle.machine.specs.Sound.{GoodJob, Sound}
+use Rattle.rules.specs.State.{Job, State, After, going, finished, faulted, threadAt}
+use Rattle.rules.specs.Rules.{entryOf}
+use Rattle.rules.specs.Start.{startState}
+use Rattle.rules.specs.Runs.{runFrom}
+use Rattle.rules.specs.Sound.{GoodJob, Sound}
 use Rattle.soundness.proofs.StartSound.{start-sound}
-use Rattle.soundness.proofs.Kept.{entry-sound, stateAfter, run-sound}
+use Rattle.soundness.proofs.Kept.{entry-sound, run-sound}
 use Rattle.simulation.proofs.JobCode.{weightIn, codeOf}
 use Rattle.simulation.proofs.StatePool.{poolOf, cell-free}
 use Rattle.simulation.proofs.ReturnStep.{ResultsInFrame}
@@ -119,7 +121,8 @@ module _ (j : Job) (good : GoodJob j) (arguments memory : List ℕ) where
     halts = m .halts;
   })
 
-  entries-reached : (es : List Entry) (s : State) → Sound j s → ResultsInFrame j s → Reached s → Reached (stateAfter j s es)
+  entries-reached : (es : List Entry) (s : State) → Sound j s → ResultsInFrame j s → Reached s → Reached (runFrom j s es)
+  unfolding runFrom
   entries-reached [] s ok results r = r
   entries-reached (e ∷ es) s ok results r = entries-reached es (entryOf j s e .state) (entry-sound j s ok e) (results-kept j good s ok results e)
       (entry-reached s (entryOf j s e) (entry-sound j s ok e) r (entry-moves j good s ok results e))
@@ -127,7 +130,7 @@ module _ (j : Job) (good : GoodJob j) (arguments memory : List ℕ) where
   module _ (count : ℕ) (some : 1 ≤ count) (most : count ≤ 4) (few : length arguments ≡ argumentsOf (j .image) 0) (all : length memory ≡ 992) where
     -- the state after some entries from Start
     abbrev pub endOf : List Entry → State
-    endOf es = stateAfter j (startState j count arguments memory) es
+    endOf es = runFrom j (startState j count arguments memory) es
 
     start-open : startState j count arguments memory .outcome ≡ going
     unfolding startState

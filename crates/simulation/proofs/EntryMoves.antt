@@ -22,16 +22,16 @@ use Rattle.thread.proofs.ThreadState.{ThreadState}
 use Rattle.thread.proofs.CarriedThreads.{does}
 use Rattle.thread.proofs.MarkedWindows.{window-tests}
 use Rattle.thread.proofs.ThreadSteps.{ThreadStep, does-fault}
-use Rattle.machine.specs.declared.ForkKind.{ForkKind}
-use Rattle.machine.specs.declared.ForkKind.the-variants.{Called, Queued, Stolen}
-use Rattle.machine.specs.State.{Job, State, After, going, finished, faulted, threadAt}
-use Rattle.machine.specs.Update.{accepted, refused, setThread, setCore, setReady}
-use Rattle.machine.specs.Turn.{Turn, turnAt, effectAt, goesOn, faults, offsetOf}
-use Rattle.machine.specs.Leave.{leaves, runs}
-use Rattle.machine.specs.Fork.{Asked, asked, born}
-use Rattle.machine.specs.Return.{returnOf, returnToParent}
-use Rattle.machine.specs.Rules.{entryOf}
-use Rattle.machine.specs.Sound.{GoodJob, Sound, Used}
+use Rattle.rules.specs.declared.ForkKind.{ForkKind}
+use Rattle.rules.specs.declared.ForkKind.the-variants.{Called, Queued, Stolen}
+use Rattle.rules.specs.State.{Job, State, After, going, finished, faulted, threadAt}
+use Rattle.rules.specs.Update.{accepted, refused, setThread, setCore, setReady}
+use Rattle.rules.specs.Turn.{Turn, turnAt, effectAt, goesOn, faults, offsetOf}
+use Rattle.rules.specs.Leave.{leaves, runs}
+use Rattle.rules.specs.Fork.{Asked, asked, born}
+use Rattle.rules.specs.Return.{returnOf, returnToParent}
+use Rattle.rules.specs.Rules.{entryOf}
+use Rattle.rules.specs.Sound.{GoodJob, Sound, Used}
 use Rattle.soundness.proofs.Tested.{fault-tested}
 use Rattle.soundness.proofs.EntryCases.{Stepped, Chosen, above, onFree, Forked, Cases, entry-by}
 use Rattle.simulation.proofs.JobCode.{weightIn, codeOf}

@@ -17,20 +17,22 @@ use Rattle.image.specs.Code.{commandsFrom, commandsOf, isStart, verdictFrom, la
 use Rattle.image.specs.Image.{inRange, rowsGood, routinesVerdict, imageVerdict}
 use Rattle.schedule.specs.declared.Entry.{Entry}
 use Rattle.schedule.specs.declared.Entry.the-variants.{Step, Take, Steal, Enable}
-use Rattle.machine.specs.State.{Job, State, finished, jobOf}
-use Rattle.machine.specs.Sound.{GoodJob}
-use Rattle.machine.specs.Turn.{effectAt}
-use Rattle.machine.specs.Leave.{leaves}
-use Rattle.machine.specs.Fork.{goesAbove, placeOf, born, forkOn, forkWith, forkOf}
-use Rattle.machine.specs.Return.{stackletsWithout, wakes, statusAfter, readyAfter, returnToParent, returnOf}
-use Rattle.machine.specs.Rules.{carriedOf, turnOf, stepOf, takeInto, takeOf, isSeed, stolenOf, stealOf, enableOf, entryOf, startState}
+use Rattle.rules.specs.State.{Job, State, finished, jobOf}
+use Rattle.rules.specs.Sound.{GoodJob}
+use Rattle.rules.specs.Turn.{effectAt}
+use Rattle.rules.specs.Leave.{leaves}
+use Rattle.rules.specs.Fork.{goesAbove, placeOf, born, forkOn, forkWith, forkOf}
+use Rattle.rules.specs.Return.{stackletsWithout, wakes, statusAfter, readyAfter, returnToParent, returnOf}
+use Rattle.rules.specs.Rules.{carriedOf, turnOf, stepOf, takeInto, takeOf, isSeed, stolenOf, stealOf, enableOf, entryOf}
+use Rattle.rules.specs.Start.{startState}
+use Rattle.rules.specs.Runs.{runFrom}
 use Rattle.queue.specs.Contents.{appended}
 use Rattle.stacklets.specs.Tops.{fitsOn, pushedTops}
 use Rattle.stacklets.specs.Frames.{argumentsAt, framed, pushedWords}
 use Rattle.thread.specs.Effect.{run, anyPending, unlessPending, provided, forking, effectOf}
 use Rattle.thread.specs.Thread.{isPending, withPending}
 use Rattle.window.specs.Rights.{mayStore, mayLoad, cutAt}
-use Rattle.simulation.proofs.Operands.{both}
+use Rattle.command.proofs.Bools.{both}
 use Rattle.simulation.proofs.EntriesRun.{serialRun, endOf, entries-agree}
 
 abbrev image : List ℕ
@@ -73,7 +75,7 @@ end = endOf job good [] (replicate 992 0) 2 (omega arith) (omega arith) refl (le
 
 -- the machine's end, computed by the rules
 pub computed : (end .outcome ≡ finished 10) × (end .units ≡ 20) × (end .memory ≡ replicate 992 0)
-unfolding effectAt leaves goesAbove placeOf born forkOn forkWith forkOf stackletsWithout wakes statusAfter readyAfter returnToParent returnOf carriedOf turnOf stepOf takeInto takeOf isSeed stolenOf stealOf enableOf entryOf startState appended fitsOn pushedTops argumentsAt framed pushedWords run anyPending unlessPending provided forking effectOf isPending withPending mayStore mayLoad cutAt decoded
+unfolding runFrom effectAt leaves goesAbove placeOf born forkOn forkWith forkOf stackletsWithout wakes statusAfter readyAfter returnToParent returnOf carriedOf turnOf stepOf takeInto takeOf isSeed stolenOf stealOf enableOf entryOf startState appended fitsOn pushedTops argumentsAt framed pushedWords run anyPending unlessPending provided forking effectOf isPending withPending mayStore mayLoad cutAt decoded
 computed = (refl, refl, refl)
 
 -- and so the serial run's, by the theorem

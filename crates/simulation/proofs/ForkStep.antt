@@ -32,15 +32,15 @@ use Rattle.thread.specs.Thread.{statusNumber, none, newThread, behindFork}
 use Rattle.thread.proofs.ThreadState.{ThreadState, started, behind-fork}
 use Rattle.thread.proofs.MarkedWindows.{window-tests}
 use Rattle.thread.proofs.ThreadSteps.{ThreadStep, forked, lforks-step, forks-step}
-use Rattle.machine.specs.declared.ForkKind.{ForkKind}
-use Rattle.machine.specs.declared.ForkKind.the-variants.{Called, Queued, Stolen}
-use Rattle.machine.specs.State.{Job, State, threadAt}
-use Rattle.machine.specs.Turn.{turnAt, effectAt}
-use Rattle.machine.specs.Fork.{asked, born, childGoes, childStatus, parentStatus, isConnected, goesAbove}
-use Rattle.machine.specs.Lists.{Every}
-use Rattle.machine.specs.Sound.{GoodJob, Sound, Used, sizeAt, statusAt, Unused}
-use Rattle.soundness.proofs.CommandMet.{ForkMet}
-use Rattle.simulation.proofs.Operands.{both}
+use Rattle.rules.specs.declared.ForkKind.{ForkKind}
+use Rattle.rules.specs.declared.ForkKind.the-variants.{Called, Queued, Stolen}
+use Rattle.rules.specs.State.{Job, State, threadAt}
+use Rattle.rules.specs.Turn.{turnAt, effectAt}
+use Rattle.rules.specs.Fork.{asked, born, childGoes, childStatus, parentStatus, isConnected, goesAbove}
+use Rattle.rules.specs.Lists.{Every}
+use Rattle.rules.specs.Sound.{GoodJob, Sound, Used, sizeAt, statusAt, Unused}
+use Rattle.thread.proofs.CommandMet.{ForkMet}
+use Rattle.command.proofs.Bools.{both}
 use Rattle.simulation.proofs.JobCode.{codeOf}
 use Rattle.simulation.proofs.PendingSlots.{none-pending, more-pending}
 use Rattle.simulation.proofs.StatePool.{linkOf, cellOf, cellsOf, poolOf, cell-used, cell-free, cells-set, cells-words}

@@ -20,7 +20,8 @@ use Rattle.image.specs.Image.{imageVerdict}
 use Rattle.image.proofs.Accepted.{Accepts, accepted}
 use Rattle.image.proofs.Laws.{placed, slots-most}
 use Rattle.thread.proofs.Routines.{Code, InRange}
-use Rattle.simulation.proofs.Operands.{InFrame, both, in-frame, in-range}
+use Rattle.thread.proofs.Operands.{InFrame, in-frame, in-range}
+use Rattle.command.proofs.Bools.{both}
 
 -- does a command of routine r start at position p?
 abbrev pub isCommand : List ℕ → ℕ → ℕ → Bool

@@ -1,8 +1,8 @@
 -- A good job gives the theory's routines: those of its image, with its parameter words and weights. Assumes nothing.
 use Prim.Native.Nat.{ℕ}
 use Rattle.thread.proofs.Routines.{Code}
-use Rattle.machine.specs.State.{Job}
-use Rattle.machine.specs.Sound.{GoodJob}
+use Rattle.rules.specs.State.{Job}
+use Rattle.rules.specs.Sound.{GoodJob}
 use Rattle.simulation.proofs.ImageCode.{weightAt, imageCode}
 
 -- the weight of routine r's command at position p

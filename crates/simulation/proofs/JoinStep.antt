@@ -20,9 +20,9 @@ use Rattle.thread.specs.Thread.{statusNumber, isRoot, joinedAt}
 use Rattle.thread.proofs.ThreadState.{ThreadState, behind-join}
 use Rattle.thread.proofs.MarkedWindows.{window-tests}
 use Rattle.thread.proofs.ThreadSteps.{ThreadStep, joins-step}
-use Rattle.machine.specs.State.{Job, State, threadAt}
-use Rattle.machine.specs.Turn.{turnAt, byteOf, effectAt, waits, done}
-use Rattle.machine.specs.Sound.{GoodJob, Sound, Used, statusAt, isChild, childrenAmong}
+use Rattle.rules.specs.State.{Job, State, threadAt}
+use Rattle.rules.specs.Turn.{turnAt, byteOf, effectAt, waits, done}
+use Rattle.rules.specs.Sound.{GoodJob, Sound, Used, statusAt, isChild, childrenAmong}
 use Rattle.soundness.proofs.Tested.{join-tested}
 use Rattle.simulation.proofs.JobCode.{codeOf}
 use Rattle.simulation.proofs.PendingSlots.{none-pending}

@@ -1,6 +1,5 @@
 -- In reading order: a command's operands, an image as the theory's routines, a state as a pool of threads, the rules' changes as steps of
 -- the pool, entries, and lists of entries.
-pub mod Operands
 pub mod ImageCode
 pub mod JobCode
 pub mod PendingSlots

@@ -19,10 +19,10 @@ use Rattle.thread.specs.View.{viewOf}
 use Rattle.thread.specs.Thread.{isPending}
 use Rattle.thread.proofs.ThreadState.{effect}
 use Rattle.thread.proofs.MarkedWindows.{window-tests}
-use Rattle.machine.specs.State.{Job, State, threadAt}
-use Rattle.machine.specs.Turn.{offsetOf, byteOf, effectAt}
-use Rattle.machine.specs.Sound.{GoodJob, Placed, Used, sizeAt}
-use Rattle.simulation.proofs.Operands.{effect-alike}
+use Rattle.rules.specs.State.{Job, State, threadAt}
+use Rattle.rules.specs.Turn.{offsetOf, byteOf, effectAt}
+use Rattle.rules.specs.Sound.{GoodJob, Placed, Used, sizeAt}
+use Rattle.thread.proofs.Operands.{effect-alike}
 use Rattle.simulation.proofs.ImageCode.{Stood, stood, isCommand, is-command, firstByte, fetch-is, weight-is}
 use Rattle.simulation.proofs.JobCode.{weightIn, codeOf}
 use Rattle.simulation.proofs.StatePool.{threadOf}

@@ -35,10 +35,10 @@ use Rattle.thread.proofs.ThreadSteps.{
   loads-step,
   stores-step,
 }
-use Rattle.machine.specs.State.{Job, State, threadAt}
-use Rattle.machine.specs.Update.{setSlot, setMemory}
-use Rattle.machine.specs.Turn.{turnAt, effectAt, wordAt, done, goesOn}
-use Rattle.machine.specs.Sound.{GoodJob, Sound, Used, sizeAt}
+use Rattle.rules.specs.State.{Job, State, threadAt}
+use Rattle.rules.specs.Update.{setSlot, setMemory}
+use Rattle.rules.specs.Turn.{turnAt, effectAt, wordAt, done, goesOn}
+use Rattle.rules.specs.Sound.{GoodJob, Sound, Used, sizeAt}
 use Rattle.soundness.proofs.CommandMet.{MetAt, met-at}
 use Rattle.simulation.proofs.JobCode.{weightIn, codeOf}
 use Rattle.simulation.proofs.StatePool.{threadOf, linkOf, cellOf, cellsOf, poolOf, cell-used, used-below, cells-change}

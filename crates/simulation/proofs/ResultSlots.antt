@@ -17,17 +17,17 @@ use Rattle.thread.specs.declared.Thread.{Thread}
 use Rattle.thread.specs.Thread.{statusNumber, isPending, isRoot, none, blankThread, withStatus, disconnected, movedTo, withoutChild, behindFork, newThread}
 use Rattle.window.specs.Rights.{childOf, restOf}
 use Rattle.stacklets.specs.Tops.{baseOn}
-use Rattle.machine.specs.declared.ForkKind.{ForkKind}
-use Rattle.machine.specs.declared.ForkKind.the-variants.{Called, Queued, Stolen}
-use Rattle.machine.specs.State.{Job, State, threadAt}
-use Rattle.machine.specs.Update.{setThread, setCore}
-use Rattle.machine.specs.Turn.{turnAt, effectAt, goesOn}
-use Rattle.machine.specs.Leave.{leaves, runs}
-use Rattle.machine.specs.Fork.{asked, born, childGoes, childStatus, parentStatus, isConnected}
-use Rattle.machine.specs.Return.{returnOf, returnToParent, statusAfter}
-use Rattle.machine.specs.Rules.{entryOf}
-use Rattle.machine.specs.Lists.{Every}
-use Rattle.machine.specs.Sound.{GoodJob, Sound, Used, statusAt, sizeAt}
+use Rattle.rules.specs.declared.ForkKind.{ForkKind}
+use Rattle.rules.specs.declared.ForkKind.the-variants.{Called, Queued, Stolen}
+use Rattle.rules.specs.State.{Job, State, threadAt}
+use Rattle.rules.specs.Update.{setThread, setCore}
+use Rattle.rules.specs.Turn.{turnAt, effectAt, goesOn}
+use Rattle.rules.specs.Leave.{leaves, runs}
+use Rattle.rules.specs.Fork.{asked, born, childGoes, childStatus, parentStatus, isConnected}
+use Rattle.rules.specs.Return.{returnOf, returnToParent, statusAfter}
+use Rattle.rules.specs.Rules.{entryOf}
+use Rattle.rules.specs.Lists.{Every}
+use Rattle.rules.specs.Sound.{GoodJob, Sound, Used, statusAt, sizeAt}
 use Rattle.soundness.proofs.EntryCases.{Stepped, Forked, Cases, entry-by}
 use Rattle.soundness.proofs.Tested.{return-tested}
 use Rattle.simulation.proofs.StatePool.{InUse, used-below}

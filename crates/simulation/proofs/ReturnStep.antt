@@ -25,10 +25,10 @@ use Rattle.thread.proofs.ThreadState.{ThreadState, deliver}
 use Rattle.thread.proofs.CarriedThreads.{does}
 use Rattle.thread.proofs.MarkedWindows.{window-tests}
 use Rattle.thread.proofs.ThreadSteps.{ThreadStep, does-return, returns-step}
-use Rattle.machine.specs.State.{Job, State, threadAt}
-use Rattle.machine.specs.Turn.{turnAt, effectAt}
-use Rattle.machine.specs.Return.{wakes, statusAfter, returnToParent, returnOf}
-use Rattle.machine.specs.Sound.{GoodJob, Sound, Used, sizeAt}
+use Rattle.rules.specs.State.{Job, State, threadAt}
+use Rattle.rules.specs.Turn.{turnAt, effectAt}
+use Rattle.rules.specs.Return.{wakes, statusAfter, returnToParent, returnOf}
+use Rattle.rules.specs.Sound.{GoodJob, Sound, Used, sizeAt}
 use Rattle.simulation.proofs.JobCode.{codeOf}
 use Rattle.simulation.proofs.StatePool.{threadOf, linkOf, cellOf, cellsOf, poolOf, InUse, cell-used, used-below, cells-change, cells-set}
 use Rattle.simulation.proofs.OwnSteps.{frame-apart, frame-within, here, StepsTo, cell-here, thread-below, units-here, effect-met}

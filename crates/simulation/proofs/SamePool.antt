@@ -12,10 +12,10 @@ use Rattle.thread.specs.declared.Status.{Status}
 use Rattle.thread.specs.declared.Status.the-variants.{Running, Ready}
 use Rattle.thread.specs.declared.Thread.{Thread}
 use Rattle.thread.specs.Thread.{statusNumber, none, blankThread, withStatus, disconnected}
-use Rattle.machine.specs.State.{Job, State, threadAt}
-use Rattle.machine.specs.Update.{setThread, setCore, enqueueReady}
-use Rattle.machine.specs.Leave.{runs, leaves}
-use Rattle.machine.specs.Sound.{Used}
+use Rattle.rules.specs.State.{Job, State, threadAt}
+use Rattle.rules.specs.Update.{setThread, setCore, enqueueReady}
+use Rattle.rules.specs.Leave.{runs, leaves}
+use Rattle.rules.specs.Sound.{Used}
 use Rattle.simulation.proofs.StatePool.{poolOf, InUse, Alike, used-below, cells-alike}
 
 alike-status : (x : Status) (h : Thread) → InUse h → 0 < statusNumber x → Alike h (withStatus x h)

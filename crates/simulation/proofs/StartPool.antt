@@ -22,9 +22,9 @@ use Rattle.stacklets.proofs.Words.{pushed-slot}
 use Rattle.thread.specs.declared.Thread.{Thread}
 use Rattle.thread.specs.Thread.{blankThread, rootThread}
 use Rattle.thread.proofs.MarkedWindows.{root-job}
-use Rattle.machine.specs.State.{Job}
-use Rattle.machine.specs.Rules.{startState}
-use Rattle.machine.specs.Sound.{GoodJob}
+use Rattle.rules.specs.State.{Job}
+use Rattle.rules.specs.Start.{startState}
+use Rattle.rules.specs.Sound.{GoodJob}
 use Rattle.simulation.proofs.JobCode.{codeOf}
 use Rattle.simulation.proofs.PendingSlots.{none-pending}
 use Rattle.simulation.proofs.StatePool.{cellOf, cellsOf, poolOf, InUse}

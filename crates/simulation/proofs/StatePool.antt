@@ -20,7 +20,7 @@ use Rattle.thread.specs.declared.Status.{Status}
 use Rattle.thread.specs.declared.Status.the-variants.{Free, Running, Ready, Suspended, Waiting, Lent}
 use Rattle.thread.specs.Thread.{statusNumber, isPending, isRoot, none, blankThread}
 use Rattle.thread.proofs.ThreadState.{ThreadState}
-use Rattle.machine.specs.State.{Job, State}
+use Rattle.rules.specs.State.{Job, State}
 
 -- a thread's own state: its slots are its frame's words, and zero past them
 abbrev pub threadOf : Job → List ℕ → Thread → ThreadState Window

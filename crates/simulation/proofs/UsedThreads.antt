@@ -7,10 +7,10 @@ use native.Mathlib.Omega.{arith}
 use lib.Seq.{getD-set-same}
 use Rattle.thread.specs.declared.Thread.{Thread}
 use Rattle.thread.specs.Thread.{blankThread, movedTo}
-use Rattle.machine.specs.State.{Job, State, threadAt}
-use Rattle.machine.specs.Turn.{turnAt, goesOn}
-use Rattle.machine.specs.Lists.{Every}
-use Rattle.machine.specs.Sound.{Sound, Used, statusAt}
+use Rattle.rules.specs.State.{Job, State, threadAt}
+use Rattle.rules.specs.Turn.{turnAt, goesOn}
+use Rattle.rules.specs.Lists.{Every}
+use Rattle.rules.specs.Sound.{Sound, Used, statusAt}
 use Rattle.soundness.proofs.EntryCases.{Waits, Stepped, Seeded}
 use Rattle.simulation.proofs.StatePool.{used-below}
 use Rattle.simulation.proofs.SamePool.{used-set}

@@ -6,7 +6,7 @@ use Prim.Native.Nat.{ℕ, zero, suc, _+_, _-_, _≤_, _<_}
 use native.Mathlib.Decide.{ℕ-discrete}
 use native.Mathlib.Omega.{arith}
 use Rattle.queue.specs.Contents.{ascendingFrom}
-use Rattle.machine.specs.Lists.{Every, Member, Distinct}
+use Rattle.rules.specs.Lists.{Every, Member, Distinct}
 
 -- what holds of the numbers from k on holds of each
 pub ascending-every : (P : ℕ → Type 0) (k n : ℕ) → ((x : ℕ) → k ≤ x → x < k + n → P x) → Every P (ascendingFrom k n)

@@ -11,8 +11,8 @@ use Rattle.thread.specs.declared.Thread.{Thread}
 use Rattle.thread.specs.declared.Status.{Status}
 use Rattle.thread.specs.declared.Status.the-variants.{Free, Running, Ready, Suspended, Waiting, Lent}
 use Rattle.thread.specs.Thread.{blankThread, statusNumber}
-use Rattle.machine.specs.State.{State, threadAt}
-use Rattle.machine.specs.Sound.{Used}
+use Rattle.rules.specs.State.{State, threadAt}
+use Rattle.rules.specs.Sound.{Used}
 
 -- fields of thread t's record
 abbrev pub connectedAt : State → ℕ → Bool

@@ -1,133 +1,16 @@
--- What is known of the command that a thread of a sound state meets, by its effect, since its image was accepted: the position behind it,
--- or its target, is a command's start, and what a fork asks for is in range. Assumes nothing.
-use mathlib.Core.Bool.{Bool, true, false, cond, _&&_}
-use mathlib.Core.List.{List}
-use mathlib.Core.Path.{_≡_, refl, ap}
-use Prim.Native.Nat.{ℕ, _+_, _≤_, _<_}
-use native.Mathlib.Omega.{arith}
-use borrow.Author.Tests.{ltb-true, leb-true}
-use lib.Dec.{ltb, leb, eqb}
-use lib.ListN.{getD}
-use Rattle.command.specs.declared.Command.{Command}
-use Rattle.command.specs.declared.Command.the-variants.{Set, Add, Subtract, Load, Store, JumpIfZero, Jump, Lfork, Fork, Join, Suspend, Yield, Return}
-use Rattle.command.specs.Command.{decodedAt, widthOf}
-use Rattle.command.proofs.RoundTrip.{Stands, stands}
-use Rattle.image.specs.Layout.{countOf, slotsOf, argumentsOf, startOf, codeOf}
-use Rattle.image.specs.Code.{commandsOf, isStart, ends, targetGood}
-use Rattle.image.specs.Image.{inRange}
-use Rattle.image.proofs.Accepted.{accepted}
-use Rattle.image.proofs.Laws as image
+-- What is known of the command that a thread of a sound state meets, by its effect. Assumes nothing.
+use mathlib.Core.Path.{_≡_}
+use Prim.Native.Nat.{ℕ, _+_}
+use Rattle.command.specs.Command.{widthOf}
+use Rattle.image.specs.Layout.{slotsOf, codeOf}
+use Rattle.image.specs.Code.{commandsOf, isStart}
 use Rattle.stacklets.specs.Frames.{slotOf}
-use Rattle.window.specs.declared.Window.{Window}
-use Rattle.window.specs.declared.Cut.{Cut}
-use Rattle.window.specs.declared.Cut.the-variants.{Parts, OutOfRange}
-use Rattle.window.specs.Rights.{cutAt}
-use Rattle.window.proofs.Laws.{cut-means}
-use Rattle.thread.specs.declared.Thread.{Thread}
 use Rattle.thread.specs.declared.Effect.{Effect}
-use Rattle.thread.specs.declared.Effect.the-variants.{Faults, Sets, Loads, Stores, Goes, Continues, Lforks, Forks, Joins, Suspends, Yields, Returns}
-use Rattle.thread.specs.Effect.{anyPending, unlessPending, provided, forking, effectOf}
-use Rattle.thread.specs.View.{viewOf, mayCut, isCut}
 use Rattle.thread.specs.Thread.{isPending}
-use Rattle.thread.proofs.EffectFacts.{AllClear, all-clear}
-use Rattle.machine.specs.State.{Job, State, threadAt}
-use Rattle.machine.specs.Turn.{byteOf, offsetOf, effectAt}
-use Rattle.machine.specs.Sound.{GoodJob, Placed, Used}
-use Rattle.soundness.proofs.Entries.{and-true}
-
--- a cut that is allowed lies between the mark and hi
-pub cut-inside : (w : Window) (e : ℕ) → mayCut w e ≡ true → (w .mark ≤ e) × (e ≤ w .hi)
-cut-inside w e h = go (cutAt w e) refl h
-  where
-    go : (c : Cut) → cutAt w e ≡ c → isCut c ≡ true → (w .mark ≤ e) × (e ≤ w .hi)
-    go (Parts child rest) f g = let m = cut-means w e child rest f in (m .low, m .high)
-    go OutOfRange f g = absurd (let z : _≡_ {A = ℕ} 0 1 = cc in omega arith)
-
--- what a fork asks for
-pub record ForkMet (image : List ℕ) (slots : ℕ) (w : Window) (r d a e : ℕ) : Type 0 where
-  pub routine : r < countOf image
-  pub result : d < slots
-  pub arguments : a + argumentsOf image r ≤ slots
-  pub low : w .mark ≤ e
-  pub high : e ≤ w .hi
-
--- in a routine of so many slots, with commands at certain starts; `next` is the position behind the command that is met
-module _ (image : List ℕ) (slots : ℕ) (start : ℕ → Bool) (next : ℕ) (slot : ℕ → ℕ) (pending : ℕ → Bool) (w : Window) where
-  abbrev pub Facts : Effect → Type 0
-  Facts (Faults n) = Unit {0}
-  Facts (Sets d v) = (d < slots) × (start next ≡ true)
-  Facts (Loads d a) = (d < slots) × (start next ≡ true)
-  Facts (Stores a v) = start next ≡ true
-  Facts (Goes t) = start t ≡ true
-  Facts Continues = start next ≡ true
-  Facts (Lforks r d a e) = ForkMet image slots w r d a e × (start next ≡ true)
-  Facts (Forks r d a e) = ForkMet image slots w r d a e × (start next ≡ true)
-  Facts Joins = start next ≡ true
-  Facts Suspends = start next ≡ true
-  Facts Yields = start next ≡ true
-  Facts (Returns v) = Unit {0}
-
-  -- a record, so that the effect can be read off it
-  pub record Met (e : Effect) : Type 0 where
-    pub facts : Facts e
-
-  met-unless : (n : ℕ) (ks : List ℕ) (e : Effect) → (AllClear pending ks → Met e) → Met (unlessPending n pending ks e)
-  unfolding unlessPending
-  met-unless n ks e f = go (anyPending pending ks) (λ h. f (all-clear pending ks h))
-    where
-      go : (t : Bool) → (t ≡ false → Met e) → Met (cond t (Faults n) e)
-      go true f = record { facts = tt }
-      go false f = f refl
-
-  met-provided : (t : Bool) (n : ℕ) (e : Effect) → (t ≡ true → Met e) → Met (provided t n e)
-  unfolding provided
-  met-provided true n e f = f refl
-  met-provided false n e f = record { facts = tt }
-
-  met-choice : (t : Bool) (x y : Effect) → Met x → Met y → Met (cond t x y)
-  met-choice true x y f g = f
-  met-choice false x y f g = g
-
-  met-fork : (r d a k : ℕ) (e : Effect) → inRange image slots (Lfork r d a k) ≡ true → (ForkMet image slots w r d a (slot k) → Met e)
-      → Met (forking (argumentsOf image) (viewOf slot pending w) r d a k e)
-  unfolding forking inRange
-  met-fork r d a k e i f = met-unless _ _ _ (λ none. met-provided _ _ _ (λ allowed. f (asks (cut-inside w (slot k) allowed))))
-    where
-      range : (ltb r (countOf image) ≡ true) × ((ltb d slots && (ltb k slots && true)) && leb (a + argumentsOf image r) slots ≡ true)
-      range = and-true (ltb r (countOf image)) ((ltb d slots && (ltb k slots && true)) && leb (a + argumentsOf image r) slots) i
-
-      slots-range : (ltb d slots && (ltb k slots && true) ≡ true) × (leb (a + argumentsOf image r) slots ≡ true)
-      slots-range = and-true (ltb d slots && (ltb k slots && true)) (leb (a + argumentsOf image r) slots) (range .1)
-
-      asks : (w .mark ≤ slot k) × (slot k ≤ w .hi) → ForkMet image slots w r d a (slot k)
-      asks c = record {
-        routine = ltb-true r (countOf image) (range .0);
-        result = ltb-true d slots (and-true (ltb d slots) (ltb k slots && true) (slots-range .0) .0);
-        arguments = leb-true (a + argumentsOf image r) slots (slots-range .1);
-        low = c .0;
-        high = c .1;
-      }
-
-  first-slot : (d : ℕ) (rest : Bool) → (ltb d slots && rest) ≡ true → d < slots
-  first-slot d rest h = ltb-true _ _ (and-true _ _ h .0)
-
-  -- by the command
-  pub met : (c : Command) → inRange image slots c ≡ true → targetGood start c ≡ true → (ends c ≡ false → start next ≡ true)
-      → Met (effectOf (argumentsOf image) (viewOf slot pending w) c)
-  unfolding effectOf inRange
-  met (Set d v) i t n = met-unless _ _ _ (λ none. record { facts = (first-slot d true i, n refl) })
-  met (Add d x y) i t n = met-unless _ _ _ (λ none. record { facts = (first-slot d (ltb x slots && (ltb y slots && true)) i, n refl) })
-  met (Subtract d x y) i t n = met-unless _ _ _ (λ none. record { facts = (first-slot d (ltb x slots && (ltb y slots && true)) i, n refl) })
-  met (Load d a) i t n = met-unless _ _ _ (λ none. met-provided _ _ _ (λ allowed. record { facts = (first-slot d (ltb a slots && true) i, n refl) }))
-  met (Store x y) i t n = met-unless _ _ _ (λ none. met-provided _ _ _ (λ allowed. record { facts = n refl }))
-  met (JumpIfZero a p) i t n = met-unless _ _ _ (λ none. met-choice (eqb (slot a) 0) (Goes p) Continues (record { facts = t }) (record { facts = n refl }))
-  met (Jump p) i t n = record { facts = t }
-  met (Lfork r d a k) i t n = met-fork r d a k _ i (λ f. record { facts = (f, n refl) })
-  met (Fork r d a k) i t n = met-fork r d a k _ i (λ f. record { facts = (f, n refl) })
-  met Join i t n = record { facts = n refl }
-  met Suspend i t n = record { facts = n refl }
-  met Yield i t n = record { facts = n refl }
-  met (Return a) i t n = met-unless _ _ _ (λ none. record { facts = tt })
+use Rattle.thread.proofs.CommandMet.{Facts, met-here}
+use Rattle.rules.specs.State.{Job, State, threadAt}
+use Rattle.rules.specs.Turn.{byteOf, effectAt}
+use Rattle.rules.specs.Sound.{GoodJob, Placed, Used}
 
 -- what thread t of a sound state meets
 abbrev pub MetAt : Job → State → ℕ → Effect → Type 0
@@ -138,23 +21,6 @@ MetAt j s t e =
 
 pub met-at : (j : Job) (s : State) → GoodJob j → Placed j s → (t : ℕ) → Used s t → (e : Effect) → effectAt j s (threadAt s t) ≡ e → MetAt j s t e
 unfolding effectAt
-met-at j s g p t u e f = (rw f at (go (offsetOf j h) (ap (λ z. z + h .position) (g .starts (h .routine) (p .routine t u))))) .facts
-  where
-    h : Thread
-    h = threadAt s t
-
-    start : ℕ → Bool
-    start = isStart (commandsOf (codeOf (j .image) (h .routine)))
-
-    here : image.Placed (j .image) (h .routine) (h .position)
-    here = image.placed (j .image) (accepted (j .image) (g .image)) (h .routine) (p .routine t u) (h .position) (p .position t u)
-
-    found : Stands (j .image) (startOf (j .image) (h .routine) + h .position) (here .command) (here .width)
-    found = stands (j .image) (startOf (j .image) (h .routine) + h .position) (here .command) (here .width) (here .found)
-
-    go : (o : ℕ) → o ≡ startOf (j .image) (h .routine) + h .position
-        → Met (j .image) (slotsOf (j .image) (h .routine)) start (h .position + widthOf (getD (j .image) o 0))
-        (slotOf (s .words) (h .base)) (isPending (h .pending)) (h .window)
-        (effectOf (argumentsOf (j .image)) (viewOf (slotOf (s .words) (h .base)) (isPending (h .pending)) (h .window)) (decodedAt (j .image) o))
-    go o q = rw q (met _ _ _ _ _ _ _ _ (rw (found .is) at (here .range)) (rw (found .is) at (here .target))
-        (λ k. rw (found .width) at (here .next (rw (found .is) k))))
+met-at j s g p t u e f =
+    (rw f at (met-here j g (threadAt s t .routine) (threadAt s t .position) (p .routine t u) (p .position t u)
+    (slotOf (s .words) (threadAt s t .base)) (isPending (threadAt s t .pending)) (threadAt s t .window))) .facts

@@ -8,8 +8,8 @@ use lib.ListN.{set, length}
 use lib.Seq.{getD-set-same, getD-set-other}
 use Rattle.thread.specs.declared.Thread.{Thread}
 use Rattle.thread.specs.Thread.{none}
-use Rattle.machine.specs.State.{State, threadAt, onCore}
-use Rattle.machine.specs.Sound.{statusAt, Seats}
+use Rattle.rules.specs.State.{State, threadAt, onCore}
+use Rattle.rules.specs.Sound.{statusAt, Seats}
 use Rattle.soundness.proofs.Changes.{standing}
 
 -- a record has a status exactly where the one before had it

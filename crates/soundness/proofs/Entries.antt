@@ -8,14 +8,14 @@ use Rattle.schedule.specs.declared.Entry.{Entry}
 use Rattle.thread.specs.declared.Effect.the-variants.{Faults, Sets, Loads, Stores, Goes, Continues, Lforks, Forks, Joins, Suspends, Yields, Returns}
 use Rattle.thread.specs.declared.Status.the-variants.{Ready, Suspended, Waiting}
 use Rattle.thread.specs.Thread.{movedTo, joinedAt, withStatus, _is_}
-use Rattle.machine.specs.declared.ForkKind.the-variants.{Called, Queued, Stolen}
-use Rattle.machine.specs.State.{Job, State, going, faulted, threadAt}
-use Rattle.machine.specs.Update.{setThread, setReady, setSlot, setMemory, setOutcome, enqueueReady, refused}
-use Rattle.machine.specs.Turn.{turnAt, offsetOf, effectAt, wordAt, done, goesOn}
-use Rattle.machine.specs.Leave.{runs, leaves}
-use Rattle.machine.specs.Fork.{asked, born}
-use Rattle.machine.specs.Return.{returnOf}
-use Rattle.machine.specs.Rules.{entryOf}
+use Rattle.rules.specs.declared.ForkKind.the-variants.{Called, Queued, Stolen}
+use Rattle.rules.specs.State.{Job, State, going, faulted, threadAt}
+use Rattle.rules.specs.Update.{setThread, setReady, setSlot, setMemory, setOutcome, enqueueReady}
+use Rattle.rules.specs.Turn.{turnAt, offsetOf, effectAt, wordAt, done, goesOn}
+use Rattle.rules.specs.Leave.{runs, leaves}
+use Rattle.rules.specs.Fork.{asked, born}
+use Rattle.rules.specs.Return.{returnOf}
+use Rattle.rules.specs.Rules.{entryOf}
 pub use Rattle.soundness.proofs.EntryCases.{Waits, Stepped, Seeded, Chosen, above, onFree, Forked, Taken, Enabled, Seed, seed-true, not-over, and-true, or-true}
 use Rattle.soundness.proofs.EntryCases.{Cases}
 use Rattle.soundness.proofs.EntryCases as cases

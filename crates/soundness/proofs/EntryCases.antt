@@ -15,16 +15,16 @@ use Rattle.thread.specs.declared.Effect.the-variants.{Faults, Sets, Loads, Stor
 use Rattle.thread.specs.declared.Status.the-variants.{Ready, Suspended, Waiting, Lent}
 use Rattle.thread.specs.declared.Thread.{Thread}
 use Rattle.thread.specs.Thread.{movedTo, joinedAt, withStatus, none, _is_}
-use Rattle.machine.specs.declared.ForkKind.{ForkKind}
-use Rattle.machine.specs.declared.ForkKind.the-variants.{Called, Queued, Stolen}
-use Rattle.machine.specs.State.{Job, State, After, Outcome, going, finished, faulted, isOver, threadAt, onCore, isBusy}
-use Rattle.machine.specs.Update.{setThread, setReady, setSlot, setMemory, enqueueReady, accepted, refused}
-use Rattle.machine.specs.Turn.{Turn, turnAt, byteOf, effectAt, tooDear, waits, wordAt, done, goesOn, faults}
-use Rattle.machine.specs.Leave.{runs, leaves}
-use Rattle.machine.specs.Fork.{Asked, asked, goesAbove, placeOf, born, forkOn, forkWith, forkOf}
-use Rattle.machine.specs.Return.{returnOf}
-use Rattle.machine.specs.Rules.{carriedOf, turnOf, stepOf, takeInto, takeOf, isSeed, stolenOf, stealOf, enableOf, entryOf}
-use Rattle.machine.specs.Sound.{statusAt}
+use Rattle.rules.specs.declared.ForkKind.{ForkKind}
+use Rattle.rules.specs.declared.ForkKind.the-variants.{Called, Queued, Stolen}
+use Rattle.rules.specs.State.{Job, State, After, Outcome, going, finished, faulted, isOver, threadAt, onCore, isBusy}
+use Rattle.rules.specs.Update.{setThread, setReady, setSlot, setMemory, enqueueReady, accepted, refused}
+use Rattle.rules.specs.Turn.{Turn, turnAt, byteOf, effectAt, tooDear, waits, wordAt, done, goesOn, faults}
+use Rattle.rules.specs.Leave.{runs, leaves}
+use Rattle.rules.specs.Fork.{Asked, asked, goesAbove, placeOf, born, forkOn, forkWith, forkOf}
+use Rattle.rules.specs.Return.{returnOf}
+use Rattle.rules.specs.Rules.{carriedOf, turnOf, stepOf, takeInto, takeOf, isSeed, stolenOf, stealOf, enableOf, entryOf}
+use Rattle.rules.specs.Sound.{statusAt}
 pub use Rattle.soundness.specs.Numbers.{Stepped, Seed, Seeded}
 
 -- What is known where a change is met. Thread t on core c meets a join that waits

@@ -20,17 +20,17 @@ use Rattle.thread.specs.declared.Status.{Status}
 use Rattle.thread.specs.declared.Status.the-variants.{Running, Ready, Suspended, Waiting}
 use Rattle.thread.specs.declared.Effect.the-variants.{Lforks, Forks, Joins, Returns}
 use Rattle.thread.specs.Thread.{statusNumber, blankThread, newThread, withStatus, disconnected, movedTo, joinedAt, behindFork, withoutChild, isRoot, none, _is_}
-use Rattle.machine.specs.declared.ForkKind.{ForkKind}
-use Rattle.machine.specs.declared.ForkKind.the-variants.{Called, Queued, Stolen}
-use Rattle.machine.specs.State.{Job, State, going, finished, threadAt}
-use Rattle.machine.specs.Update.{setThread, setCore, setOutcome}
-use Rattle.machine.specs.Turn.{effectAt, turnAt, done, goesOn}
-use Rattle.machine.specs.Leave.{runs, leaves}
-use Rattle.machine.specs.Fork.{born, goesAbove, isConnected, childStatus, parentStatus}
-use Rattle.machine.specs.Return.{freed, wakes, statusAfter, returnToParent, returnOf}
-use Rattle.machine.specs.Rules.{entryOf}
-use Rattle.machine.specs.Lists.{Every}
-use Rattle.machine.specs.Sound.{Sound, Used, Unused, statusAt, sizeAt}
+use Rattle.rules.specs.declared.ForkKind.{ForkKind}
+use Rattle.rules.specs.declared.ForkKind.the-variants.{Called, Queued, Stolen}
+use Rattle.rules.specs.State.{Job, State, going, finished, threadAt}
+use Rattle.rules.specs.Update.{setThread, setCore, setOutcome}
+use Rattle.rules.specs.Turn.{effectAt, turnAt, done, goesOn}
+use Rattle.rules.specs.Leave.{runs, leaves}
+use Rattle.rules.specs.Fork.{born, goesAbove, isConnected, childStatus, parentStatus}
+use Rattle.rules.specs.Return.{freed, wakes, statusAfter, returnToParent, returnOf}
+use Rattle.rules.specs.Rules.{entryOf}
+use Rattle.rules.specs.Lists.{Every}
+use Rattle.rules.specs.Sound.{Sound, Used, Unused, statusAt, sizeAt}
 use Rattle.soundness.proofs.Entries.{Kept, Stepped, Forked, Chosen, above, onFree, and-true, entry-by}
 use Rattle.soundness.proofs.Changes.{used-below}
 use Rattle.soundness.proofs.CommandMet.{MetAt}

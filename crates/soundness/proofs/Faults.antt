@@ -2,7 +2,7 @@
 -- its address is not allowed, by 11 where none is and its cut is out of range, and by 12 where it is a return and a slot is pending.
 -- Assumes nothing.
 use mathlib.Core.Bool.{Bool, true, false, cond, true≢false}
-use mathlib.Core.List.{List, [], _∷_}
+use mathlib.Core.List.{List}
 use mathlib.Core.Path.{_≡_, refl, sym, ap}
 use Prim.Native.Nat.{ℕ, _<_}
 use native.Mathlib.Omega.{arith}
@@ -11,10 +11,10 @@ use Rattle.command.specs.declared.Command.{Command}
 use Rattle.command.specs.declared.Command.the-variants.{Set, Add, Subtract, Load, Store, JumpIfZero, Jump, Lfork, Fork, Join, Suspend, Yield, Return}
 use Rattle.thread.specs.declared.Effect.{Effect}
 use Rattle.thread.specs.declared.Effect.the-variants.{Faults, Sets, Loads, Stores, Goes, Continues, Lforks, Forks, Joins, Suspends, Yields, Returns}
-use Rattle.thread.specs.Effect.{Own, run, anyPending, unlessPending, provided, forking, effectOf}
+use Rattle.thread.specs.Effect.{Own, anyPending, unlessPending, provided, forking, effectOf}
 use Rattle.image.specs.Layout.{argumentsOf}
-use Rattle.machine.specs.State.{Job, State, threadAt}
-use Rattle.machine.specs.Turn.{effectAt}
+use Rattle.rules.specs.State.{Job, State, threadAt}
+use Rattle.rules.specs.Turn.{effectAt}
 pub use Rattle.soundness.specs.Faults.{slotsOf, readsPending, addressAllowed, cutAllowed, returnsPending, Condition9, Condition10, Condition11, Condition12, commandOf, ownOf, Next}
 use Rattle.soundness.proofs.Exactly.{Exactly}
 

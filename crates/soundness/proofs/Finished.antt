@@ -4,9 +4,9 @@ use mathlib.Core.Path.{_≡_}
 use Prim.Native.Nat.{ℕ, _<_}
 use native.Mathlib.Omega.{arith}
 use lib.ListN.{length}
-use Rattle.machine.specs.Lists.{Member}
-use Rattle.machine.specs.State.{Job, State, finished}
-use Rattle.machine.specs.Sound.{statusAt, Sound}
+use Rattle.rules.specs.Lists.{Member}
+use Rattle.rules.specs.State.{Job, State, finished}
+use Rattle.rules.specs.Sound.{statusAt, Sound}
 use Rattle.soundness.proofs.Queues.{every-map, at-most, at-least}
 
 module _ (j : Job) (s : State) (ok : Sound j s) (v : ℕ) (over : s .outcome ≡ finished v) where

@@ -11,8 +11,8 @@ use lib.ListN.{length}
 use borrow.Author.Tests.{eqb-true, eqb-false, eq-eqb, ne-eqb}
 use Rattle.thread.specs.declared.Thread.{Thread}
 use Rattle.thread.specs.Thread.{none}
-use Rattle.machine.specs.State.{State, finished, threadAt}
-use Rattle.machine.specs.Sound.{statusAt, Used, isChild, childrenAmong, Tree}
+use Rattle.rules.specs.State.{State, finished, threadAt}
+use Rattle.rules.specs.Sound.{statusAt, Used, isChild, childrenAmong, Tree}
 use Rattle.soundness.proofs.Changes.{standing, parentAt, childrenAt, used-low}
 
 -- the machine has not finished

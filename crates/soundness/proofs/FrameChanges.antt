@@ -15,9 +15,9 @@ use Rattle.window.specs.Rights.{childOf, restOf}
 use Rattle.thread.specs.declared.Thread.{Thread}
 use Rattle.thread.specs.declared.Status.{Status}
 use Rattle.thread.specs.Thread.{statusNumber, blankThread, newThread, _is_}
-use Rattle.machine.specs.State.{Job, State, threadAt}
-use Rattle.machine.specs.Return.{stackletsWithout}
-use Rattle.machine.specs.Sound.{Used, statusAt, sizeAt}
+use Rattle.rules.specs.State.{Job, State, threadAt}
+use Rattle.rules.specs.Return.{stackletsWithout}
+use Rattle.rules.specs.Sound.{Used, statusAt, sizeAt}
 use Rattle.soundness.proofs.ForkTree.{Childless}
 
 -- a record in the place of another: the same frame and place in the fork tree, in use just if that was

@@ -1,7 +1,7 @@
 -- Jobs that a machine may be started on: an accepted image's, with the standard weights; and one of them, so that Start's soundness is said
 -- of something. Assumes nothing.
 use mathlib.Core.List.{List, [], _∷_}
-use mathlib.Core.Path.{_≡_, refl, ap}
+use mathlib.Core.Path.{_≡_, refl}
 use Prim.Native.Nat.{ℕ, zero, suc, _<_}
 use native.Mathlib.Omega.{arith}
 use lib.ListN.{getD, length, replicate}
@@ -11,10 +11,10 @@ use Rattle.image.specs.declared.Verdict.the-variants.{Accepted}
 use Rattle.image.specs.Layout.{countOf, startOf}
 use Rattle.image.specs.Code.{commandsFrom, commandsOf, verdictFrom, lastEnds, isStart, targetsGood, routineVerdict}
 use Rattle.image.specs.Image.{imageVerdict, rowsGood, inRange, routinesVerdict}
-use Rattle.machine.specs.State.{Job, jobOf}
-use Rattle.machine.specs.Rules.{startState}
-use Rattle.machine.specs.Lists.{Every}
-use Rattle.machine.specs.Sound.{GoodJob, Sound}
+use Rattle.rules.specs.State.{jobOf}
+use Rattle.rules.specs.Start.{startState}
+use Rattle.rules.specs.Lists.{Every}
+use Rattle.rules.specs.Sound.{GoodJob, Sound}
 use Rattle.soundness.proofs.StartSound.{start-sound}
 
 pub good-job : (image starts parameters : List ℕ) (allowance : ℕ) → imageVerdict image ≡ Accepted → ((i : ℕ) → getD image i 0 < 256)

@@ -8,8 +8,8 @@ use native.Mathlib.Decide.{decLt}
 use native.Mathlib.Omega.{arith}
 use lib.ListN.{length}
 use Rattle.thread.specs.declared.Thread.{Thread}
-use Rattle.machine.specs.State.{Job, State, threadAt}
-use Rattle.machine.specs.Sound.{Seats, Links, Turns, Tree, Results, FreeThreads, Sound}
+use Rattle.rules.specs.State.{Job, State, threadAt}
+use Rattle.rules.specs.Sound.{Seats, Links, Turns, Tree, Results, FreeThreads, Sound}
 use Rattle.soundness.proofs.Changes.{standing}
 use Rattle.soundness.proofs.CoreSeats.{Same}
 use Rattle.soundness.proofs.LineNumbers.{Lined, lined-same, lined-turns, lined-free, free-lined}

@@ -8,9 +8,9 @@ use Prim.Native.Nat.{ℕ, zero, suc, _+_, _<_, _≤_}
 use native.Mathlib.Decide.{ℕ-discrete, decLt}
 use native.Mathlib.Omega.{arith}
 use Rattle.thread.specs.Thread.{none}
-use Rattle.machine.specs.State.{Job, State, going, isOver, threadAt, onCore}
-use Rattle.machine.specs.Rules.{stepOf, takeOf}
-use Rattle.machine.specs.Sound.{statusAt, Used, Sound}
+use Rattle.rules.specs.State.{Job, State, going, isOver, threadAt, onCore}
+use Rattle.rules.specs.Rules.{stepOf, takeOf}
+use Rattle.rules.specs.Sound.{statusAt, Used, Sound}
 use Rattle.soundness.proofs.Entries.{not-over}
 use Rattle.soundness.proofs.Changes.{status-most, connectedAt, parentAt, used-low}
 use Rattle.soundness.proofs.LentThreads.{not-both}

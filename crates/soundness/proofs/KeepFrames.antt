@@ -13,9 +13,9 @@ use Rattle.schedule.specs.declared.Entry.{Entry}
 use Rattle.stacklets.specs.Tops.{topAt, baseOn, pushedTops, poppedTops}
 use Rattle.stacklets.specs.Layout.{Apart, Under}
 use Rattle.stacklets.proofs.Places.{apart-sym, fits-means, base-stacklet, base-place, base-below, pushed-top, pushed-most, pushed-under, pushed-apart, popped-top, popped-other, popped-most}
-use Rattle.machine.specs.State.{Job, State, threadAt}
-use Rattle.machine.specs.Rules.{entryOf}
-use Rattle.machine.specs.Sound.{Sound, Frames, Used, sizeAt}
+use Rattle.rules.specs.State.{Job, State, threadAt}
+use Rattle.rules.specs.Rules.{entryOf}
+use Rattle.rules.specs.Sound.{Sound, Frames, Used, sizeAt}
 use Rattle.soundness.proofs.ForkTree.{Childless}
 use Rattle.soundness.proofs.FrameChanges.{Like, Steady, NewPlace, aboveParent, onNew, Birth, Ending, Change, steady, birth, ending, Family, newborn, elder, childOfBirth, family, elder-stays, survivor}
 use Rattle.soundness.proofs.EntryChanges.{entry-change}

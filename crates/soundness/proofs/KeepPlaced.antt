@@ -20,16 +20,16 @@ use Rattle.thread.specs.declared.Status.{Status}
 use Rattle.thread.specs.declared.Status.the-variants.{Running, Ready, Suspended, Waiting}
 use Rattle.thread.specs.declared.Effect.the-variants.{Sets, Loads, Stores, Goes, Continues, Lforks, Forks, Joins, Suspends, Yields}
 use Rattle.thread.specs.Thread.{statusNumber, blankThread, newThread, withStatus, disconnected, movedTo, joinedAt, behindFork, withoutChild, isRoot, none}
-use Rattle.machine.specs.declared.ForkKind.{ForkKind}
-use Rattle.machine.specs.declared.ForkKind.the-variants.{Called, Queued, Stolen}
-use Rattle.machine.specs.State.{Job, State, finished, threadAt}
-use Rattle.machine.specs.Update.{setThread, setCore, setOutcome}
-use Rattle.machine.specs.Turn.{byteOf, turnAt, goesOn}
-use Rattle.machine.specs.Leave.{runs, leaves}
-use Rattle.machine.specs.Fork.{born, isConnected, childStatus, parentStatus}
-use Rattle.machine.specs.Return.{freed, wakes, statusAfter, returnToParent, returnOf}
-use Rattle.machine.specs.Rules.{entryOf}
-use Rattle.machine.specs.Sound.{Sound, Placed, Used, statusAt}
+use Rattle.rules.specs.declared.ForkKind.{ForkKind}
+use Rattle.rules.specs.declared.ForkKind.the-variants.{Called, Queued, Stolen}
+use Rattle.rules.specs.State.{Job, State, finished, threadAt}
+use Rattle.rules.specs.Update.{setThread, setCore, setOutcome}
+use Rattle.rules.specs.Turn.{byteOf, turnAt, goesOn}
+use Rattle.rules.specs.Leave.{runs, leaves}
+use Rattle.rules.specs.Fork.{born, isConnected, childStatus, parentStatus}
+use Rattle.rules.specs.Return.{freed, wakes, statusAfter, returnToParent, returnOf}
+use Rattle.rules.specs.Rules.{entryOf}
+use Rattle.rules.specs.Sound.{Sound, Placed, Used, statusAt}
 use Rattle.soundness.proofs.Entries.{Kept, Stepped, entry-by}
 use Rattle.soundness.proofs.Changes.{used-below}
 use Rattle.soundness.proofs.CommandMet.{MetAt}

@@ -15,16 +15,16 @@ use Rattle.thread.specs.declared.Thread.{Thread}
 use Rattle.thread.specs.declared.Status.{Status}
 use Rattle.thread.specs.declared.Status.the-variants.{Ready, Suspended, Waiting}
 use Rattle.thread.specs.Thread.{disconnected, isRoot, none}
-use Rattle.machine.specs.declared.ForkKind.{ForkKind}
-use Rattle.machine.specs.declared.ForkKind.the-variants.{Called, Queued, Stolen}
-use Rattle.machine.specs.State.{Job, State, finished, threadAt}
-use Rattle.machine.specs.Update.{setThread, setCore, setOutcome, enqueueReady}
-use Rattle.machine.specs.Turn.{Turn, turnAt, goesOn}
-use Rattle.machine.specs.Leave.{runs, leaves}
-use Rattle.machine.specs.Fork.{Asked, asked, born}
-use Rattle.machine.specs.Return.{freed, returnToParent, returnOf}
-use Rattle.machine.specs.Rules.{entryOf}
-use Rattle.machine.specs.Sound.{Sound, Sized}
+use Rattle.rules.specs.declared.ForkKind.{ForkKind}
+use Rattle.rules.specs.declared.ForkKind.the-variants.{Called, Queued, Stolen}
+use Rattle.rules.specs.State.{Job, State, finished, threadAt}
+use Rattle.rules.specs.Update.{setThread, setCore, setOutcome, enqueueReady}
+use Rattle.rules.specs.Turn.{Turn, turnAt, goesOn}
+use Rattle.rules.specs.Leave.{runs, leaves}
+use Rattle.rules.specs.Fork.{Asked, asked, born}
+use Rattle.rules.specs.Return.{freed, returnToParent, returnOf}
+use Rattle.rules.specs.Rules.{entryOf}
+use Rattle.rules.specs.Sound.{Sound, Sized}
 use Rattle.soundness.proofs.Entries.{Kept, entry-by}
 
 -- a state whose tables are as long as those of another, and whose units stay within the allowance

@@ -17,11 +17,11 @@ use Rattle.queue.specs.Contents.{appended, capacity}
 use Rattle.schedule.specs.declared.Entry.{Entry}
 use Rattle.stacklets.specs.Tops.{topAt}
 use Rattle.stacklets.proofs.Places.{base-stacklet, pushed-other, popped-top, popped-other}
-use Rattle.machine.specs.Lists.{Every, Member, Distinct}
-use Rattle.machine.specs.State.{Job, State, finished, threadAt}
-use Rattle.machine.specs.Return.{stackletsWithout}
-use Rattle.machine.specs.Rules.{entryOf}
-use Rattle.machine.specs.Sound.{Sound, FreeStacklets, Used, Unused, sizeAt}
+use Rattle.rules.specs.Lists.{Every, Member, Distinct}
+use Rattle.rules.specs.State.{Job, State, finished, threadAt}
+use Rattle.rules.specs.Return.{stackletsWithout}
+use Rattle.rules.specs.Rules.{entryOf}
+use Rattle.rules.specs.Sound.{Sound, FreeStacklets, Used, Unused, sizeAt}
 use Rattle.soundness.proofs.Queues.{every-map, every-member, member-every, every-last, member-left, member-last, distinct-last, appended-new, at-most, at-least}
 use Rattle.soundness.proofs.FrameChanges.{Steady, NewPlace, aboveParent, onNew, Birth, Ending, Change, steady, birth, ending, Family, newborn, elder, childOfBirth, family, elder-stays, survivor}
 use Rattle.soundness.proofs.EntryChanges.{entry-change}

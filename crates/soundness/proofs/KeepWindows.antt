@@ -7,9 +7,9 @@ use native.Mathlib.Omega.{arith}
 use Rattle.schedule.specs.declared.Entry.{Entry}
 use Rattle.window.specs.declared.Window.{Window}
 use Rattle.window.specs.Rights.{Fits}
-use Rattle.machine.specs.State.{Job, State, threadAt}
-use Rattle.machine.specs.Rules.{entryOf}
-use Rattle.machine.specs.Sound.{Sound, Windows, Used}
+use Rattle.rules.specs.State.{Job, State, threadAt}
+use Rattle.rules.specs.Rules.{entryOf}
+use Rattle.rules.specs.Sound.{Sound, Windows, Used}
 use Rattle.soundness.proofs.Changes.{used-low}
 use Rattle.soundness.proofs.ForkTree.{Childless}
 use Rattle.soundness.proofs.FrameChanges.{Steady, Birth, Ending, Change, steady, birth, ending, Family, newborn, elder, childOfBirth, family, not-newborn, survivor}

@@ -13,12 +13,12 @@ use Rattle.window.specs.declared.Window.{Window}
 use Rattle.window.specs.Rights.{childOf, restOf}
 use Rattle.thread.specs.declared.Thread.{Thread}
 use Rattle.thread.specs.Thread.{newThread, behindFork, isPending, statusNumber, none}
-use Rattle.machine.specs.declared.ForkKind.{ForkKind}
-use Rattle.machine.specs.declared.ForkKind.the-variants.{Called, Queued, Stolen}
-use Rattle.machine.specs.State.{Job, State, threadAt, onCore}
-use Rattle.machine.specs.Turn.{turnAt}
-use Rattle.machine.specs.Fork.{asked, childStatus, parentStatus, isConnected, born}
-use Rattle.machine.specs.Sound.{statusAt, Used, Seats, Links}
+use Rattle.rules.specs.declared.ForkKind.{ForkKind}
+use Rattle.rules.specs.declared.ForkKind.the-variants.{Called, Queued, Stolen}
+use Rattle.rules.specs.State.{Job, State, threadAt, onCore}
+use Rattle.rules.specs.Turn.{turnAt}
+use Rattle.rules.specs.Fork.{asked, childStatus, parentStatus, isConnected, born}
+use Rattle.rules.specs.Sound.{statusAt, Used, Seats, Links}
 use Rattle.soundness.proofs.Changes.{standing, connectedAt, pendingAt, two-changed, used-low, used-below}
 use Rattle.soundness.proofs.CoreSeats.{Same, same-refl, neither, Seat, came, went, sits, seats-move, seats-same}
 use Rattle.soundness.proofs.LentThreads.{Bound, bound-refl, untied, not-both, links-same, Made, fresh, lends, remains, links-made}

@@ -13,10 +13,10 @@ use Rattle.queue.specs.Contents.{appended, capacity}
 use Rattle.thread.specs.declared.Status.{Status}
 use Rattle.thread.specs.declared.Status.the-variants.{Running}
 use Rattle.thread.specs.Thread.{blankThread, withStatus, disconnected, statusNumber, none}
-use Rattle.machine.specs.State.{State, threadAt, onCore}
-use Rattle.machine.specs.Update.{setThread, setCore, enqueueReady}
-use Rattle.machine.specs.Leave.{runs, leaves}
-use Rattle.machine.specs.Sound.{statusAt}
+use Rattle.rules.specs.State.{State, threadAt, onCore}
+use Rattle.rules.specs.Update.{setThread, setCore, enqueueReady}
+use Rattle.rules.specs.Leave.{runs, leaves}
+use Rattle.rules.specs.Sound.{statusAt}
 use Rattle.soundness.proofs.Changes.{standing, connectedAt, parentAt, childrenAt, one-changed, two-changed, used-below}
 use Rattle.soundness.proofs.CoreSeats.{Same, same-refl, neither, Seat, came, went, sits, seats-move}
 use Rattle.soundness.proofs.LentThreads.{Bound, bound-refl, not-both, links-same, Cut, off, again, stays, links-cut}

@@ -6,8 +6,8 @@ use Prim.Native.Nat.{ℕ, _<_}
 use native.Mathlib.Omega.{arith}
 use lib.ListN.{length, set, length-set}
 use Rattle.thread.specs.declared.Thread.{Thread}
-use Rattle.machine.specs.State.{State, threadAt}
-use Rattle.machine.specs.Sound.{statusAt}
+use Rattle.rules.specs.State.{State, threadAt}
+use Rattle.rules.specs.Sound.{statusAt}
 use Rattle.soundness.proofs.Changes.{standing, none-changed, one-changed}
 use Rattle.soundness.proofs.CoreSeats.{Same, same-refl, seats-same}
 use Rattle.soundness.proofs.LentThreads.{Bound, bound-refl, links-same}

@@ -10,8 +10,8 @@ use lib.ListN.{length, set, length-set}
 use Rattle.queue.specs.Contents.{appended, capacity}
 use Rattle.thread.specs.declared.Status.the-variants.{Running, Ready}
 use Rattle.thread.specs.Thread.{withStatus, none}
-use Rattle.machine.specs.State.{State, threadAt, onCore}
-use Rattle.machine.specs.Sound.{statusAt}
+use Rattle.rules.specs.State.{State, threadAt, onCore}
+use Rattle.rules.specs.Sound.{statusAt}
 use Rattle.soundness.proofs.Changes.{standing, connectedAt, one-changed, used-low}
 use Rattle.soundness.proofs.CoreSeats.{Same, same-refl, neither, Seat, came, sits, seats-move, seats-same}
 use Rattle.soundness.proofs.LentThreads.{Bound, bound-refl, untied, not-both, links-same}

@@ -14,11 +14,11 @@ use Rattle.thread.specs.declared.Status.{Status}
 use Rattle.thread.specs.declared.Status.the-variants.{Running, Ready, Waiting}
 use Rattle.thread.specs.declared.Thread.{Thread}
 use Rattle.thread.specs.Thread.{blankThread, withoutChild, statusNumber, none, _is_}
-use Rattle.machine.specs.State.{Job, State, finished, threadAt, onCore}
-use Rattle.machine.specs.Update.{setThread, setCore, setReady, setSlot}
-use Rattle.machine.specs.Turn.{turnAt}
-use Rattle.machine.specs.Return.{freed, wakes, statusAfter, readyAfter, returnToParent, returnOf}
-use Rattle.machine.specs.Sound.{statusAt, Used, Seats, Links}
+use Rattle.rules.specs.State.{Job, State, finished, threadAt, onCore}
+use Rattle.rules.specs.Update.{setThread, setCore, setReady, setSlot}
+use Rattle.rules.specs.Turn.{turnAt}
+use Rattle.rules.specs.Return.{freed, wakes, statusAfter, readyAfter, returnToParent, returnOf}
+use Rattle.rules.specs.Sound.{statusAt, Used, Seats, Links}
 use Rattle.soundness.proofs.Entries.{and-true}
 use Rattle.soundness.proofs.Changes.{standing, connectedAt, parentAt, childrenAt, one-changed, two-changed, used-low, used-below}
 use Rattle.soundness.proofs.CoreSeats.{Same, same-refl, neither, Seat, came, went, sits, seats-move}

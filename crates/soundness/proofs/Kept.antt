@@ -5,9 +5,11 @@ use mathlib.Core.Path.{_≡_}
 use Prim.Native.Nat.{ℕ, _≤_}
 use lib.ListN.{length}
 use Rattle.schedule.specs.declared.Entry.{Entry}
-use Rattle.machine.specs.State.{Job, State}
-use Rattle.machine.specs.Rules.{entryOf, startState}
-use Rattle.machine.specs.Sound.{GoodJob, Sound}
+use Rattle.rules.specs.State.{Job, State}
+use Rattle.rules.specs.Rules.{entryOf}
+use Rattle.rules.specs.Start.{startState}
+use Rattle.rules.specs.Runs.{runFrom}
+use Rattle.rules.specs.Sound.{GoodJob, Sound}
 use Rattle.soundness.proofs.Parts.{seats-kept, links-kept, turns-kept, tree-kept, results-kept, freeThreads-kept}
 use Rattle.soundness.proofs.KeepSized.{keep-sized}
 use Rattle.soundness.proofs.KeepPlaced.{keep-placed}
@@ -33,17 +35,14 @@ entry-sound j s ok e = record {
   freeStacklets = keep-free-stacklets j s ok e;
 }
 
--- "In a run each entry meets what the last left"
-abbrev pub stateAfter : Job → State → List Entry → State
-stateAfter j s [] = s
-stateAfter j s (e ∷ es) = stateAfter j (entryOf j s e .state) es
-
-pub entries-sound : (j : Job) (s : State) → Sound j s → (es : List Entry) → Sound j (stateAfter j s es)
+-- any list of entries
+pub entries-sound : (j : Job) (s : State) → Sound j s → (es : List Entry) → Sound j (runFrom j s es)
+unfolding runFrom
 entries-sound j s ok [] = ok
 entries-sound j s ok (e ∷ es) = entries-sound j (entryOf j s e .state) (entry-sound j s ok e) es
 
 -- "the first Start's state"
 pub run-sound : (j : Job) (count : ℕ) (arguments memory : List ℕ) → GoodJob j → 1 ≤ count → count ≤ 4 → length memory ≡ 992
-    → (es : List Entry) → Sound j (stateAfter j (startState j count arguments memory) es)
+    → (es : List Entry) → Sound j (runFrom j (startState j count arguments memory) es)
 run-sound j count arguments memory g some most words es =
     entries-sound j (startState j count arguments memory) (start-sound j count arguments memory g some most words) es

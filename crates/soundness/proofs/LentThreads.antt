@@ -6,8 +6,8 @@ use mathlib.Core.Path.{_≡_, refl, sym, _∙_, ap}
 use Prim.Native.Nat.{ℕ}
 use native.Mathlib.Omega.{arith}
 use Rattle.thread.specs.declared.Thread.{Thread}
-use Rattle.machine.specs.State.{State, threadAt}
-use Rattle.machine.specs.Sound.{statusAt, Links}
+use Rattle.rules.specs.State.{State, threadAt}
+use Rattle.rules.specs.Sound.{statusAt, Links}
 use Rattle.soundness.proofs.Changes.{standing, connectedAt, parentAt}
 use Rattle.soundness.proofs.CoreSeats.{Same, same-refl}
 

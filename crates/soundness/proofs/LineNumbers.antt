@@ -9,9 +9,9 @@ use native.Mathlib.Decide.{ℕ-discrete}
 use native.Mathlib.Omega.{arith}
 use lib.ListN.{length}
 use Rattle.queue.specs.Contents.{appended, capacity}
-use Rattle.machine.specs.Lists.{Every, Member, Distinct}
-use Rattle.machine.specs.State.{State, threadAt}
-use Rattle.machine.specs.Sound.{statusAt, Turns, FreeThreads}
+use Rattle.rules.specs.Lists.{Every, Member, Distinct}
+use Rattle.rules.specs.State.{State, threadAt}
+use Rattle.rules.specs.Sound.{statusAt, Turns, FreeThreads}
 use Rattle.soundness.proofs.Queues.{every-map, every-member, member-every, every-last, member-left, member-last, distinct-last, appended-new}
 use Rattle.soundness.proofs.Changes.{used-low}
 use Rattle.soundness.proofs.CoreSeats.{Same}

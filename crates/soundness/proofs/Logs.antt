@@ -4,7 +4,7 @@ use mathlib.Core.Bool.{Bool, true, false, cond, _&&_, not}
 use mathlib.Core.List.{List, [], _∷_}
 use mathlib.Core.Logic.{_⊎_, inl, inr, ⊎-elim}
 use mathlib.Core.Path.{_≡_, refl}
-use Prim.Native.Nat.{ℕ, _+_, _-_, _/_, _<_, _≤_}
+use Prim.Native.Nat.{ℕ, _-_, _/_, _<_, _≤_}
 use native.Mathlib.Omega.{arith}
 use lib.Dec.{ltb, leb}
 use borrow.Author.Tests.{eq-eqb, ne-eqb, ltb-true, ltb-false, lt-ltb, leb-true, leb-false}
@@ -13,15 +13,15 @@ use Rattle.thread.specs.declared.Effect.the-variants.{Faults, Sets, Loads, Stor
 use Rattle.thread.specs.declared.Status.the-variants.{Ready, Suspended, Waiting}
 use Rattle.thread.specs.declared.Thread.{Thread}
 use Rattle.thread.specs.Thread.{none, withStatus, _is_}
-use Rattle.machine.specs.declared.ForkKind.{ForkKind}
-use Rattle.machine.specs.declared.ForkKind.the-variants.{Called, Queued, Stolen}
-use Rattle.machine.specs.State.{Job, State, going, isOver, threadAt, onCore, isBusy}
-use Rattle.machine.specs.Update.{accepted, refused, setThread, enqueueReady}
-use Rattle.machine.specs.Turn.{Turn, turnAt, byteOf, effectAt, tooDear, waits}
-use Rattle.machine.specs.Leave.{leaves}
-use Rattle.machine.specs.Fork.{Asked, asked, goesAbove, placeOf, forkOn, forkWith, forkOf}
-use Rattle.machine.specs.Rules.{carriedOf, turnOf, stepOf, takeInto, takeOf, isSeed, stolenOf, stealOf, enableOf}
-use Rattle.machine.specs.Sound.{statusAt, Sound}
+use Rattle.rules.specs.declared.ForkKind.{ForkKind}
+use Rattle.rules.specs.declared.ForkKind.the-variants.{Called, Queued, Stolen}
+use Rattle.rules.specs.State.{Job, State, going, isOver, threadAt, onCore, isBusy}
+use Rattle.rules.specs.Update.{accepted, refused, setThread, enqueueReady}
+use Rattle.rules.specs.Turn.{Turn, turnAt, byteOf, effectAt, tooDear, waits}
+use Rattle.rules.specs.Leave.{leaves}
+use Rattle.rules.specs.Fork.{Asked, asked, goesAbove, placeOf, forkOn, forkWith, forkOf}
+use Rattle.rules.specs.Rules.{carriedOf, turnOf, stepOf, takeInto, takeOf, isSeed, stolenOf, stealOf, enableOf}
+use Rattle.rules.specs.Sound.{statusAt, Sound}
 use Rattle.soundness.proofs.Entries.{Stepped, Seed, Seeded, seed-true, not-over}
 use Rattle.soundness.proofs.LentThreads.{not-both}
 pub use Rattle.soundness.specs.Numbers.{Dear, StepForks, isLfork, isFork, DearSeed, SeedForks}

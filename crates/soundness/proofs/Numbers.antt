@@ -1,7 +1,6 @@
 -- In a sound state each number is met exactly under its condition. Assumes nothing but that the state is sound.
-use Prim.Native.Nat.{ℕ}
-use Rattle.machine.specs.State.{Job, State}
-use Rattle.machine.specs.Sound.{Sound}
+use Rattle.rules.specs.State.{Job, State}
+use Rattle.rules.specs.Sound.{Sound}
 use Rattle.soundness.specs.Numbers.{Numbers}
 use Rattle.soundness.proofs.Refusals.{step-19, step-14, step-15, step-22, step-12, step-9, step-10, step-11, step-20, step-21, step-numbers}
 use Rattle.soundness.proofs.QueueRefusals.{take-19, take-14, take-15, take-16, take-numbers, enable-19, enable-17, enable-numbers}

@@ -12,10 +12,10 @@ use Rattle.schedule.specs.declared.Entry.{Entry}
 use Rattle.thread.specs.declared.Effect.the-variants.{Joins, Returns}
 use Rattle.thread.specs.declared.Status.the-variants.{Ready, Suspended, Waiting}
 use Rattle.thread.specs.Thread.{joinedAt, movedTo}
-use Rattle.machine.specs.State.{Job, State, going, threadAt, onCore}
-use Rattle.machine.specs.Turn.{turnAt, byteOf, effectAt, goesOn}
-use Rattle.machine.specs.Rules.{entryOf}
-use Rattle.machine.specs.Sound.{statusAt, Seats, Links, Turns, Tree, Results, FreeThreads, Sound}
+use Rattle.rules.specs.State.{Job, State, going, threadAt, onCore}
+use Rattle.rules.specs.Turn.{turnAt, byteOf, effectAt, goesOn}
+use Rattle.rules.specs.Rules.{entryOf}
+use Rattle.rules.specs.Sound.{statusAt, Seats, Links, Turns, Tree, Results, FreeThreads, Sound}
 use Rattle.soundness.proofs.Entries.{Stepped, Kept, entry-by}
 use Rattle.soundness.proofs.Changes.{childrenAt}
 use Rattle.soundness.proofs.ForkTree.{Unfinished, Childless, none-counted}

@@ -9,9 +9,9 @@ use lib.Dec.{ltb}
 use borrow.Author.Tests.{lt-ltb, le-ltb, lt-leb, le-leb, ltb-true, eqb-true}
 use Rattle.thread.specs.declared.Status.the-variants.{Suspended}
 use Rattle.thread.specs.Thread.{none, _is_}
-use Rattle.machine.specs.State.{State, going, isOver, threadAt, onCore}
-use Rattle.machine.specs.Rules.{takeInto, takeOf, enableOf}
-use Rattle.machine.specs.Sound.{statusAt}
+use Rattle.rules.specs.State.{State, going, isOver, threadAt, onCore}
+use Rattle.rules.specs.Rules.{takeInto, takeOf, enableOf}
+use Rattle.rules.specs.Sound.{statusAt}
 use Rattle.soundness.proofs.Entries.{and-true}
 use Rattle.soundness.proofs.Exactly.{Exactly}
 use Rattle.soundness.proofs.Logs.{TakeLog, takeOver, takeNoCore, takeBusy, takeEmpty, takeAccepted, take-log, EnableLog, enableOver, enableAwake, enableAccepted, enable-log}

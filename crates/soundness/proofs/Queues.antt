@@ -12,7 +12,7 @@ use lib.ListN.{length}
 use borrow.Author.Tests.{eqb-true, eqb-false}
 use Rattle.queue.specs.Contents.{appended, capacity}
 use Rattle.queue.proofs.Laws.{appended-room}
-use Rattle.machine.specs.Lists.{Every, Member, Distinct}
+use Rattle.rules.specs.Lists.{Every, Member, Distinct}
 
 -- EVERY
 pub every-map : {P Q : ℕ → Type 0} → ((x : ℕ) → P x → Q x) → (xs : List ℕ) → Every P xs → Every Q xs

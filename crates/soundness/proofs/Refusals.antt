@@ -10,12 +10,12 @@ use native.Mathlib.Omega.{arith}
 use borrow.Author.Tests.{lt-ltb, le-ltb, lt-leb, le-leb}
 use Rattle.thread.specs.declared.Effect.the-variants.{Faults}
 use Rattle.thread.specs.Thread.{none, _is_}
-use Rattle.machine.specs.declared.ForkKind.{ForkKind}
-use Rattle.machine.specs.State.{Job, State, going, isOver, threadAt, onCore}
-use Rattle.machine.specs.Turn.{Turn, turnAt, effectAt}
-use Rattle.machine.specs.Fork.{Asked, asked, goesAbove, placeOf, forkOn, forkWith, forkOf}
-use Rattle.machine.specs.Rules.{carriedOf, turnOf, stepOf}
-use Rattle.machine.specs.Sound.{Sound}
+use Rattle.rules.specs.declared.ForkKind.{ForkKind}
+use Rattle.rules.specs.State.{Job, State, going, isOver, threadAt, onCore}
+use Rattle.rules.specs.Turn.{Turn, turnAt, effectAt}
+use Rattle.rules.specs.Fork.{Asked, asked, goesAbove, placeOf, forkOn, forkWith, forkOf}
+use Rattle.rules.specs.Rules.{carriedOf, turnOf, stepOf}
+use Rattle.rules.specs.Sound.{Sound}
 use Rattle.soundness.specs.Numbers.{FewThreads, FewStacklets}
 use Rattle.soundness.proofs.Entries.{Stepped}
 use Rattle.soundness.proofs.Exactly.{Exactly, exactly-and}

@@ -9,8 +9,8 @@ use native.Mathlib.Omega.{arith}
 use lib.ListN.{length}
 use Rattle.thread.specs.declared.Thread.{Thread}
 use Rattle.thread.specs.Thread.{isPending}
-use Rattle.machine.specs.State.{State, threadAt}
-use Rattle.machine.specs.Sound.{statusAt, Used, Tree, Results}
+use Rattle.rules.specs.State.{State, threadAt}
+use Rattle.rules.specs.Sound.{statusAt, Used, Tree, Results}
 use Rattle.soundness.proofs.Changes.{parentAt, pendingAt, resultAt, used-low}
 use Rattle.soundness.proofs.LentThreads.{not-both}
 use Rattle.soundness.proofs.ForkTree.{Stays, Childless}

@@ -16,9 +16,9 @@ use Rattle.stacklets.proofs.Places.{fits-yes, pushed-length, pushed-top, pushed
 use Rattle.stacklets.proofs.Words.{length-pushed}
 use Rattle.thread.specs.Thread.{blankThread, rootThread, none}
 use Rattle.window.proofs.Laws.{root-fits}
-use Rattle.machine.specs.State.{Job, State, threadAt, onCore}
-use Rattle.machine.specs.Rules.{startState}
-use Rattle.machine.specs.Sound.{GoodJob, Sized, Placed, Seats, Links, Turns, Tree, childrenAmong, Results, Windows, FreeThreads, Frames, FreeStacklets, Sound, Used, Unused, statusAt}
+use Rattle.rules.specs.State.{Job, State, threadAt, onCore}
+use Rattle.rules.specs.Start.{startState}
+use Rattle.rules.specs.Sound.{GoodJob, Sized, Placed, Seats, Links, Turns, Tree, childrenAmong, Results, Windows, FreeThreads, Frames, FreeStacklets, Sound, Used, Unused, statusAt}
 use Rattle.soundness.proofs.AscendingNumbers.{ascending-every, ascending-distinct, ascending-stands}
 
 -- a table of equal records reads the same everywhere

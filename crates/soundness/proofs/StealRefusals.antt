@@ -10,12 +10,12 @@ use borrow.Author.Tests.{lt-ltb, le-ltb, lt-leb, le-leb}
 use Rattle.thread.specs.declared.Effect.the-variants.{Faults}
 use Rattle.thread.specs.declared.Thread.{Thread}
 use Rattle.thread.specs.Thread.{none, _is_}
-use Rattle.machine.specs.declared.ForkKind.the-variants.{Stolen}
-use Rattle.machine.specs.State.{Job, State, going, isOver, threadAt, onCore}
-use Rattle.machine.specs.Turn.{turnAt, effectAt}
-use Rattle.machine.specs.Fork.{Asked, asked, goesAbove, forkOf}
-use Rattle.machine.specs.Rules.{isSeed, stolenOf, stealOf}
-use Rattle.machine.specs.Sound.{Sound}
+use Rattle.rules.specs.declared.ForkKind.the-variants.{Stolen}
+use Rattle.rules.specs.State.{Job, State, going, isOver, threadAt, onCore}
+use Rattle.rules.specs.Turn.{turnAt, effectAt}
+use Rattle.rules.specs.Fork.{Asked, asked, goesAbove, forkOf}
+use Rattle.rules.specs.Rules.{isSeed, stolenOf, stealOf}
+use Rattle.rules.specs.Sound.{Sound}
 use Rattle.soundness.proofs.Entries.{Seed, Seeded, seed-true}
 use Rattle.soundness.proofs.Exactly.{Exactly, exactly-and}
 use Rattle.soundness.proofs.Faults.{Condition9, Condition10, Condition11, Condition12, Next, next-9, next-10, next-11, next-12}

@@ -9,10 +9,10 @@ use borrow.Author.Tests.{leb-false}
 use Rattle.thread.specs.declared.Effect.{Effect}
 use Rattle.thread.specs.declared.Effect.the-variants.{Lforks, Forks}
 use Rattle.thread.specs.Thread.{isRoot, none, _is_}
-use Rattle.machine.specs.State.{Job, State, threadAt}
-use Rattle.machine.specs.Turn.{effectAt}
-use Rattle.machine.specs.Lists.{Every}
-use Rattle.machine.specs.Sound.{Sound, Used, statusAt}
+use Rattle.rules.specs.State.{Job, State, threadAt}
+use Rattle.rules.specs.Turn.{effectAt}
+use Rattle.rules.specs.Lists.{Every}
+use Rattle.rules.specs.Sound.{Sound, Used, statusAt}
 use Rattle.soundness.proofs.Entries.{Stepped, Seeded, Waits, Taken}
 use Rattle.soundness.proofs.CommandMet.{MetAt, met-at}
 use Rattle.soundness.proofs.Parts.{runs}

@@ -1,11 +1,10 @@
 -- "Per entry, changing nothing": an entry that is refused, by 14 to 22, leaves the state as it was. Assumes nothing.
-use mathlib.Core.Logic.{⊎-elim}
 use mathlib.Core.Path.{_≡_, refl}
-use Prim.Native.Nat.{ℕ, _≤_}
+use Prim.Native.Nat.{_≤_}
 use native.Mathlib.Omega.{arith}
 use Rattle.schedule.specs.declared.Entry.{Entry}
-use Rattle.machine.specs.State.{Job, State, After}
-use Rattle.machine.specs.Rules.{entryOf}
+use Rattle.rules.specs.State.{Job, State, After}
+use Rattle.rules.specs.Rules.{entryOf}
 use Rattle.soundness.proofs.EntryCases.{Cases, entry-by}
 use Rattle.soundness.proofs.Tested.{fault-tested}
 

@@ -11,8 +11,8 @@ use Rattle.stacklets.specs.Frames.{slotOf}
 use Rattle.thread.specs.Effect.{Own, run, anyPending}
 use Rattle.thread.specs.Thread.{isPending}
 use Rattle.thread.specs.View.{viewOf}
-use Rattle.machine.specs.State.{Job, State, threadAt}
-use Rattle.machine.specs.Turn.{offsetOf}
+use Rattle.rules.specs.State.{Job, State, threadAt}
+use Rattle.rules.specs.Turn.{offsetOf}
 
 module _ (arguments : ℕ → ℕ) (own : Own) where
   -- the slots that a command reads or writes ("a fork writes its d"); a return has a test of its own

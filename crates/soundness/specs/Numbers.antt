@@ -8,13 +8,13 @@ use mathlib.Core.Path.{_≡_}
 use Prim.Native.Nat.{ℕ, _+_, _-_, _<_, _≤_}
 use Rattle.thread.specs.declared.Effect.the-variants.{Lforks, Forks}
 use Rattle.thread.specs.Thread.{none}
-use Rattle.machine.specs.declared.ForkKind.{ForkKind}
-use Rattle.machine.specs.declared.ForkKind.the-variants.{Called, Queued}
-use Rattle.machine.specs.State.{Job, State, going, isOver, threadAt, onCore}
-use Rattle.machine.specs.Turn.{turnAt, byteOf, effectAt, waits}
-use Rattle.machine.specs.Fork.{goesAbove}
-use Rattle.machine.specs.Rules.{stepOf, takeOf, stealOf, enableOf}
-use Rattle.machine.specs.Sound.{statusAt}
+use Rattle.rules.specs.declared.ForkKind.{ForkKind}
+use Rattle.rules.specs.declared.ForkKind.the-variants.{Called, Queued}
+use Rattle.rules.specs.State.{Job, State, going, isOver, threadAt, onCore}
+use Rattle.rules.specs.Turn.{turnAt, byteOf, effectAt, waits}
+use Rattle.rules.specs.Fork.{goesAbove}
+use Rattle.rules.specs.Rules.{stepOf, takeOf, stealOf, enableOf}
+use Rattle.rules.specs.Sound.{statusAt}
 use Rattle.soundness.specs.Faults.{Condition9, Condition10, Condition11, Condition12, Next}
 
 -- each where the other

@@ -11,3 +11,5 @@ pub mod Example
 pub mod Witness
 pub mod CodePending
 pub mod Widths
+pub mod Operands
+pub mod CommandMet

@@ -4,7 +4,7 @@ use crate::pending::any_pending;
 use crate::pending::is_pending;
 use crate::pending::some_pending;
 use command::Command;
-use command::byte_at;
+use image::routines::arguments_of;
 use stacklets::slot;
 use std::num::wrapping_add_u32;
 use std::num::wrapping_sub_u32;
@@ -21,13 +21,6 @@ ghost use Rattle.thread.specs.declared.Effect.the-variants.{Sets, Loads,
 ghost use Rattle.thread.specs.Effect.{run, anyPending, unlessPending, provided, sum, difference, forking, effectOf, ownEffectOf};
 ghost use Rattle.thread.specs.View.{mayCut, viewOf};
 ghost use Rattle.thread.specs.Thread.{isPending};
-
-// The number of a routine's arguments.
-fn arguments_of(image: &[u8], routine: u8) -> u8
-    ensures { λ r. ⌜ r ≡ argumentsOf (now (image .entry)) routine ⌝ }
-{
-    byte_at(image, 4 * (routine as usize) + 2)
-}
 
 // Is a cut at e in the window's range?
 fn may_cut(window: Window, e: u32) -> bool

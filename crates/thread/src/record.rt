@@ -4,10 +4,9 @@ use crate::Thread;
 use crate::pending::with_pending;
 use window::Window;
 ghost use mathlib.Core.Path.{_≡_};
-ghost use mathlib.Core.Bool.{Bool};
 ghost use mathlib.Core.Logic.{_⊎_};
 ghost use Prim.Native.Nat.{_-_, _≤_, _<_};
-ghost use Rattle.thread.specs.Thread.{statusNumber, _is_, none, isRoot, blankThread, rootThread, newThread, withStatus, disconnected, movedTo, joinedAt, behindFork, withoutChild};
+ghost use Rattle.thread.specs.Thread.{statusNumber, _is_, isRoot, blankThread, rootThread, newThread, withStatus, disconnected, movedTo, joinedAt, behindFork, withoutChild};
 
 // A number for each status.
 pub fn status_number(status: Status) -> u8

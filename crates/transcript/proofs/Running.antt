@@ -16,8 +16,8 @@ use Rattle.schedule.specs.declared.Counted.{Counted}
 use Rattle.schedule.specs.declared.Counted.the-variants.{Entries, Malformed}
 use Rattle.schedule.proofs.Following.{allBytes, Accepted, accepted}
 use Rattle.thread.specs.Job.{Job}
-use Rattle.machine.specs.State.{State, Outcome, going, finished, faulted}
-use Rattle.machine.specs.Rules.{entryOf}
+use Rattle.rules.specs.State.{State, Outcome, going, finished, faulted}
+use Rattle.rules.specs.Rules.{entryOf}
 use Rattle.run.specs.declared.Ran.{Ran}
 use Rattle.run.specs.declared.RunAnswer.{RunAnswer}
 use Rattle.run.specs.declared.RunAnswer.the-variants.{Refused, Finished, Faulted, Open}

@@ -1,14 +1,13 @@
 -- Laws of windows: the two parts of a cut do not meet and are together what was held, a join gives back the whole, and every window made
 -- from the root's lies within the memory words. Assumes nothing.
 use mathlib.Core.Bool.{Bool, true, false, cond, _&&_, _||_, and-false, or-false}
-use mathlib.Core.Path.{_≡_, refl, sym}
+use mathlib.Core.Path.{_≡_, sym}
 use Prim.Native.Nat.{ℕ, _≤_, _<_}
 use native.Mathlib.Decide.{decLe, decLt}
 use native.Mathlib.Omega.{arith}
 use lib.Dec.{ltb, leb}
-use borrow.Author.Tests.{ltb-true, leb-true, lt-ltb, le-ltb, le-leb, lt-leb}
+use borrow.Author.Tests.{lt-ltb, le-ltb, le-leb, lt-leb}
 use Rattle.window.specs.declared.Window.{Window}
-use Rattle.window.specs.declared.Cut.{Cut}
 use Rattle.window.specs.declared.Cut.the-variants.{Parts, OutOfRange}
 use Rattle.window.specs.Rights.{rootWindow, mayLoad, mayStore, cutAt, childOf, restOf, rejoined, Fits}
 

@@ -2,7 +2,7 @@
 -- whole gives; in the inner loop, of the machine with what is held apart from it. The measures are what is left of the schedule's length; a
 -- step that is not carried out in place is met again, by the rule. Assumes nothing.
 use mathlib.Core.List.{List}
-use mathlib.Core.Path.{_≡_, refl, sym, _∙_, ap}
+use mathlib.Core.Path.{_≡_, refl, sym, _∙_}
 use Prim.Native.Nat.{ℕ, _+_, _-_, _*_, _≤_, _<_}
 use native.Mathlib.Omega.{arith}
 use borrow.Author.Needs.{needs}
@@ -10,7 +10,8 @@ use lib.ListN.{length, length-set}
 use Rattle.schedule.proofs.Standing.{found}
 use Rattle.schedule.proofs.Following.{read-malformed}
 use Rattle.machine.specs.declared.OwnStep.the-variants.{Moved, Joined, Calls, Ends, Other}
-use Rattle.machine.specs.State.{State, jobOf, meaning, after}
+use Rattle.rules.specs.State.{State, jobOf}
+use Rattle.machine.specs.Meaning.{meaning, after}
 use Rattle.play.proofs.Playing.{Left, begins, has-room, goes, ends}
 use Rattle.machine.proofs.HeldWay.{again, again-few}
 use Rattle.play.proofs.Holding.{Held, held-goes, held-room, held-within, holds, holds-on, may-step}

@@ -11,19 +11,19 @@ same-status-requires c κs = search needs
 returns : tie.Need-returns
 returns c = rw (sym (c .before .same-status .ensures) ∙ not-true _ (c .if1 .taken))
 
-place-of-requires : tie.Need-place-of-requires
-place-of-requires c κs = search needs
+place-in-image-requires : tie.Need-place-in-image-requires
+place-in-image-requires c κs = search needs
 
 byte-at-requires : tie.Need-byte-at-requires
 byte-at-requires c κs = search needs
 
 returns-2 : tie.Need-returns-2
-returns-2 c = rw (sym (c .before .before .before .before .same-status .ensures) ∙ not-false _ (c .before .before .before .if1 .left), ← c .before .before .place-of .ensures, eq-eqb _ _ (sym (c .before .byte-at .ensures) ∙ c .if2 .taken))
+returns-2 c = rw (sym (c .before .before .before .before .same-status .ensures) ∙ not-false _ (c .before .before .before .if1 .left), ← c .before .before .place-in-image .ensures .0, eq-eqb _ _ (sym (c .before .byte-at .ensures) ∙ c .if2 .taken))
 
 returns-3 : tie.Need-returns-3
-returns-3 c = rw (sym (c .before .before .before .before .same-status .ensures) ∙ not-false _ (c .before .before .before .if1 .left), ← c .before .before .place-of .ensures, ← c .before .byte-at .ensures, ne-eqb _ _ (c .if2 .left))
+returns-3 c = rw (sym (c .before .before .before .before .same-status .ensures) ∙ not-false _ (c .before .before .before .if1 .left), ← c .before .before .place-in-image .ensures .0, ← c .before .byte-at .ensures, ne-eqb _ _ (c .if2 .left))
 
 pub is-seed-spec : {M : Type 1} → statement M
 is-seed-spec =
     tie.close
-    (tie.spec same-status-requires returns place-of-requires byte-at-requires returns-2 returns-3)
+    (tie.spec same-status-requires returns place-in-image-requires byte-at-requires returns-2 returns-3)

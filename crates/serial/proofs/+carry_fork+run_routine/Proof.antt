@@ -6,7 +6,7 @@ use borrow.Author.Needs.{needs}
 use Rattle.thread.specs.Job.{jobOf}
 use Rattle.serial.specs.Serial.{startedOn}
 use Rattle.serial.specs.Steps.{openAt}
-use Rattle.serial.proofs.Loop.{Far, far-starts, start-few, fork-deep, fork-end, fork-ready, fork-runs, cost-met, effect-met, some-cost, unpaid, paid-units, reach, goes-again, join-fits, joins-again, stops-run, returns-run, call-ready, call-slot, call-cut, call-fits, call-stops, call-units, call-again}
+use Rattle.serial.proofs.Loop.{Far, far-starts, fork-deep, fork-end, fork-ready, fork-runs, cost-met, effect-met, some-cost, unpaid, paid-units, reach, goes-again, join-fits, joins-again, stops-run, returns-run, call-ready, call-slot, call-cut, call-fits, call-stops, call-units, call-again}
 use Prim.Native.Nat.{ℕ, suc, _<_, _+_, _-_}
 use borrow.Fn.Kinds.{In}
 use borrow.Fn.PlainCycle.{Measures, is, falls, and}
@@ -19,11 +19,11 @@ use Rattle.serial.proofs.+carry_fork+run_routine.Lts-run_routine as run
 use Rattle.command.proofs.command_of.Reads as command-of-reads
 use Rattle.command.proofs.five_at.Reads as five-at-reads
 use Rattle.command.proofs.weights.Reads as weights-reads
+use Rattle.image.proofs.routines.arguments_of.Reads as arguments-of-reads
 use Rattle.serial.proofs.act.carry_out.Reads as carry-out-reads
 use Rattle.serial.proofs.act.code_start.Reads as code-start-reads
 use Rattle.serial.proofs.act.cost_of.Reads as cost-of-reads
 use Rattle.serial.proofs.act.wide.Reads as wide-reads
-use Rattle.serial.proofs.frame.arguments_of.Reads as arguments-of-reads
 use Rattle.serial.proofs.frame.child_window.Reads as child-window-reads
 use Rattle.serial.proofs.frame.lay.Reads as lay-reads
 use Rattle.serial.proofs.frame.put.Reads as put-reads
@@ -295,7 +295,7 @@ run-routine-code-start-requires : (t : ℕ) → run-routine-lts.Need-code-start-
   rest-window-reads.Asked,
   rest-window-reads.Learnt,
 ) (run-routine-at t) run-routine.Post run-routine-Inv-loop run-routine-μ-loop
-run-routine-code-start-requires t c κs = start-few _ _ _ _ (c .before .before .before .before .before .args .arguments .now) _ _ (c .before .before .before .before .before .pre .1 .0)
+run-routine-code-start-requires t c κs = search needs
 
 run-routine-lay-requires : (t : ℕ) → run-routine-lts.Need-lay-requires (
   weights-reads.Asked,

@@ -1,9 +1,9 @@
 -- `lay_down` meets its contract. The invariant: the words of the frame from i on are laid. Assumes nothing.
-use mathlib.Core.Path.{_≡_, refl, ap, _∙_}
+use mathlib.Core.Path.{ap, _∙_}
 use Prim.Native.Nat.{_-_, _≤_}
 use native.Mathlib.Omega.{arith}
 use lib.ListN.{length}
-use Rattle.stacklets.specs.Frames.{argumentsAt, framed}
+use Rattle.stacklets.specs.Frames.{argumentsAt}
 use Rattle.stacklets.proofs.Words.{length-framed}
 use Rattle.stacklets.proofs.Laying.{Above, down-starts, down-more, down-reads, down-ends}
 use borrow.Author.Needs.{needs}

@@ -21,14 +21,8 @@ returns-2 c =
       sym (c .before .two-slots .ensures) ∙ not-true _ (c .if2 .taken),
     )
 
-mul-byte-at : tie.Need-mul-byte-at
-mul-byte-at c = search needs
-
-add-byte-at : tie.Need-add-byte-at
-add-byte-at c = search needs
-
-byte-at-requires-2 : tie.Need-byte-at-requires-2
-byte-at-requires-2 c κs = search needs
+arguments-of-requires : tie.Need-arguments-of-requires
+arguments-of-requires c κs = search needs
 
 cast-result : tie.Need-cast-result
 cast-result c = search needs
@@ -41,7 +35,7 @@ returns-3 c =
     simp (
       rw (c .before .before .before .before .byte-at .ensures) at (lt-ltb _ _ (c .before .before .before .if1 .left)),
       sym (c .before .before .two-slots .ensures) ∙ not-false _ (c .before .if2 .left),
-      c .byte-at2 .ensures,
+      c .arguments-of .ensures,
     )
 
 pub fork-in-range-spec : {M : Type 1} → statement M
@@ -52,9 +46,7 @@ fork-in-range-spec =
     returns
     two-slots-requires
     returns-2
-    mul-byte-at
-    add-byte-at
-    byte-at-requires-2
+    arguments-of-requires
     cast-result
     add-result
     returns-3)

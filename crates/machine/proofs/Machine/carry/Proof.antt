@@ -1,7 +1,7 @@
 -- `machine::Machine::carry` meets its contract. Assumes nothing.
-use Rattle.machine.specs.State.{jobOf}
+use Rattle.rules.specs.State.{jobOf}
 use Rattle.machine.proofs.Carrying.{sets-as, loads-as, stores-as, goes-as, continues-as, joins-as, bounded-as}
-use Rattle.machine.specs.Rules.{carriedOf}
+use Rattle.rules.specs.Rules.{carriedOf}
 use native.Mathlib.Omega.{arith}
 use mathlib.Core.Path.{sym, _∙_, ap}
 use borrow.Author.Needs.{needs}

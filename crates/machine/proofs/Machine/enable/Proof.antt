@@ -1,6 +1,6 @@
 -- `machine::Machine::enable` meets its contract. Assumes nothing.
-use Rattle.machine.specs.Rules.{enableOf}
-use Rattle.machine.specs.State.{meaning, after}
+use Rattle.rules.specs.Rules.{enableOf}
+use Rattle.machine.specs.Meaning.{meaning, after}
 use Rattle.machine.proofs.Tests.{over-true, over-false}
 use mathlib.Core.Path.{sym, _∙_}
 use borrow.Author.Tests.{lt-ltb, le-ltb, not-true, not-false}

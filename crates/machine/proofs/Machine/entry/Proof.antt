@@ -1,5 +1,5 @@
 -- `machine::Machine::entry` meets its contract. Assumes nothing.
-use Rattle.machine.specs.Rules.{entryOf}
+use Rattle.rules.specs.Rules.{entryOf}
 use mathlib.Core.Path.{sym, _∙_, ap}
 use borrow.Author.Needs.{needs}
 use Rattle.machine.proofs.Machine.entry.Statement.{statement}

@@ -1,5 +1,5 @@
 -- `machine::Machine::fail` meets its contract. Assumes nothing.
-use Rattle.machine.specs.State.{meaning, after}
+use Rattle.machine.specs.Meaning.{meaning, after}
 use mathlib.Core.Path.{refl}
 use Rattle.machine.proofs.Machine.fail.Statement.{statement}
 use Rattle.machine.proofs.Machine.fail.Tie as tie

@@ -1,6 +1,6 @@
 -- `machine::Machine::fork` meets its contract. Assumes nothing.
 use Rattle.machine.proofs.Birth.{no-number, no-stacklet, fork-on, born-as}
-use Rattle.machine.specs.State.{after, meaning}
+use Rattle.machine.specs.Meaning.{after, meaning}
 use Rattle.queue.specs.Contents.{contents}
 use Rattle.machine.proofs.Places.{head-below}
 use native.Mathlib.Omega.{arith}

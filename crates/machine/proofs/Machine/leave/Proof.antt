@@ -1,6 +1,6 @@
 -- `machine::Machine::leave` meets its contract. Assumes nothing.
-use Rattle.machine.specs.Leave.{leaves}
-use Rattle.machine.specs.State.{meaning, after}
+use Rattle.rules.specs.Leave.{leaves}
+use Rattle.machine.specs.Meaning.{meaning, after}
 use native.Mathlib.Omega.{arith}
 use borrow.Author.Needs.{needs}
 use Rattle.machine.proofs.Machine.leave.Statement.{statement}

@@ -1,6 +1,6 @@
 -- `machine::Machine::no_seed` meets its contract. Assumes nothing.
 use mathlib.Core.Path.{refl}
-use Rattle.machine.specs.State.{meaning, after}
+use Rattle.machine.specs.Meaning.{meaning, after}
 use Rattle.machine.proofs.Machine.no_seed.Statement.{statement}
 use Rattle.machine.proofs.Machine.no_seed.Tie as tie
 

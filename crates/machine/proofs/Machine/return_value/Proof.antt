@@ -1,8 +1,8 @@
 -- `machine::Machine::return_value` meets its contract. Assumes nothing.
 use Rattle.machine.proofs.Ending.{returned-as}
 use borrow.Author.Tests.{leb-false}
-use Rattle.machine.specs.Return.{returnOf, returnToParent}
-use Rattle.machine.specs.State.{after, meaning}
+use Rattle.rules.specs.Return.{returnOf, returnToParent}
+use Rattle.machine.specs.Meaning.{after, meaning}
 use native.Mathlib.Omega.{arith}
 use mathlib.Core.Path.{sym, _∙_}
 use borrow.Author.Needs.{needs}

@@ -1,8 +1,8 @@
 -- `machine::Machine::take` meets its contract. Assumes nothing.
 use Rattle.machine.proofs.Able.{ready-below, count-most}
 use Rattle.queue.specs.Contents.{contents}
-use Rattle.machine.specs.Rules.{takeOf, takeInto}
-use Rattle.machine.specs.State.{meaning, after}
+use Rattle.rules.specs.Rules.{takeOf, takeInto}
+use Rattle.machine.specs.Meaning.{meaning, after}
 use Rattle.queue.proofs.Laws.{nothing-empty, number-first}
 use Rattle.machine.proofs.Places.{head-below}
 use Rattle.machine.proofs.Tests.{over-true, over-false}

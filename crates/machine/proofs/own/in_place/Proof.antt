@@ -1,5 +1,4 @@
 -- `machine::own::in_place` meets its contract. Assumes nothing.
-use mathlib.Core.Path.{refl}
 use borrow.Author.Needs.{needs}
 use Rattle.machine.proofs.own.in_place.Statement.{statement}
 use Rattle.machine.proofs.own.in_place.Tie as tie

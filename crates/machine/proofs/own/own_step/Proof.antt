@@ -23,7 +23,7 @@ left-of-requires : tie.Need-left-of-requires
 left-of-requires c κs = search needs
 
 returns : tie.Need-returns
-returns c = own-dear _ _ _ _ _ _ _ _ _ _ _ _ (c .before .before .before .before .place-in-image .ensures) (c .before .before .before .five-at .ensures) (c .before .before .weight .ensures) (c .before .left-of .ensures) (c .if1 .taken)
+returns c = own-dear _ _ _ _ _ _ _ _ _ _ _ _ (c .before .before .before .before .place-in-image .ensures .0) (c .before .before .before .five-at .ensures) (c .before .before .weight .ensures) (c .before .left-of .ensures) (c .if1 .taken)
 
 command-of-requires : tie.Need-command-of-requires
 command-of-requires c κs = search needs
@@ -44,7 +44,7 @@ same-length-2 : tie.Need-same-length-2
 same-length-2 c = search needs
 
 returns-2 : tie.Need-returns-2
-returns-2 c = own-carries _ _ _ _ _ _ _ _ _ _ _ _ (c .before .before .before .before .before .before .before .before .before .before .before .before .before .before .before .place-in-image .ensures) (c .before .before .before .before .before .before .before .before .before .before .before .before .before .before .five-at .ensures) (c .before .before .before .before .before .before .before .before .before .before .before .before .before .weight .ensures) (c .before .before .before .before .before .before .before .before .before .before .before .before .left-of .ensures) (c .before .before .before .before .before .before .before .before .before .before .before .if1 .left) _ _ (c .before .before .before .before .before .before .before .before .before .command-of .ensures) (c .before .before .before .before .before .before .before .own-effect .ensures) _ _ _ (c .before .before .before .before .carry-own .ensures)
+returns-2 c = own-carries _ _ _ _ _ _ _ _ _ _ _ _ (c .before .before .before .before .before .before .before .before .before .before .before .before .before .before .before .place-in-image .ensures .0) (c .before .before .before .before .before .before .before .before .before .before .before .before .before .before .five-at .ensures) (c .before .before .before .before .before .before .before .before .before .before .before .before .before .weight .ensures) (c .before .before .before .before .before .before .before .before .before .before .before .before .left-of .ensures) (c .before .before .before .before .before .before .before .before .before .before .before .if1 .left) _ _ (c .before .before .before .before .before .before .before .before .before .command-of .ensures) (c .before .before .before .before .before .before .before .own-effect .ensures) _ _ _ (c .before .before .before .before .carry-own .ensures)
 
 pub own-step-spec : {M : Type 1} → statement M
 own-step-spec =

@@ -1,5 +1,5 @@
 -- `machine::parts::does_wake` meets its contract. Assumes nothing.
-use Rattle.machine.specs.Return.{wakes}
+use Rattle.rules.specs.Return.{wakes}
 use mathlib.Core.Path.{sym, _∙_}
 use borrow.Author.Tests.{not-true, not-false}
 use borrow.Author.Needs.{needs}

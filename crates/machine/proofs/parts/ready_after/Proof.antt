@@ -1,5 +1,5 @@
 -- `machine::parts::ready_after` meets its contract. Assumes nothing.
-use Rattle.machine.specs.Return.{readyAfter}
+use Rattle.rules.specs.Return.{readyAfter}
 use mathlib.Core.Path.{sym, _∙_}
 use borrow.Author.Needs.{needs}
 use Rattle.machine.proofs.parts.ready_after.Statement.{statement}

@@ -1,5 +1,5 @@
 -- `machine::parts::stacklets_without` meets its contract. Assumes nothing.
-use Rattle.machine.specs.Return.{stackletsWithout}
+use Rattle.rules.specs.Return.{stackletsWithout}
 use borrow.Author.Tests.{eq-eqb, ne-eqb}
 use borrow.Author.Needs.{needs}
 use Rattle.machine.proofs.parts.stacklets_without.Statement.{statement}

@@ -1,5 +1,5 @@
 -- `machine::parts::status_after` meets its contract. Assumes nothing.
-use Rattle.machine.specs.Return.{statusAfter}
+use Rattle.rules.specs.Return.{statusAfter}
 use mathlib.Core.Path.{sym, _∙_}
 use borrow.Author.Needs.{needs}
 use Rattle.machine.proofs.parts.status_after.Statement.{statement}

@@ -20,15 +20,15 @@ returns-3 : tie.Need-returns-3
 unfolding refusalOf
 returns-3 c = λ a. rw (ne-eqb _ _ (c .before .before .if1 .left), le-ltb _ _ (c .before .if2 .left), ← c .before .before .before .before .before .before .before .before .before .pre, ne-eqb _ _ (c .if3 .taken))
 
-byte-at-requires : tie.Need-byte-at-requires
-byte-at-requires c κs = search needs
+arguments-of-requires : tie.Need-arguments-of-requires
+arguments-of-requires c κs = search needs
 
 cast-wanted : tie.Need-cast-wanted
 cast-wanted c = search needs
 
 returns-4 : tie.Need-returns-4
 unfolding refusalOf
-returns-4 c = λ a. rw (ne-eqb _ _ (c .before .before .before .before .if1 .left), le-ltb _ _ (c .before .before .before .if2 .left), ← c .before .before .before .before .before .before .before .before .before .before .before .pre, eq-eqb _ _ (c .before .before .if3 .left), rw (c .before .byte-at .ensures) at (ne-eqb _ _ (c .if4 .taken)))
+returns-4 c = λ a. rw (ne-eqb _ _ (c .before .before .before .before .if1 .left), le-ltb _ _ (c .before .before .before .if2 .left), ← c .before .before .before .before .before .before .before .before .before .before .before .pre, eq-eqb _ _ (c .before .before .if3 .left), rw (c .before .arguments-of .ensures) at (ne-eqb _ _ (c .if4 .taken)))
 
 count-requires : tie.Need-count-requires
 count-requires c κs = search needs
@@ -41,23 +41,23 @@ enum-known-counted c = search needs
 
 returns-5 : tie.Need-returns-5
 unfolding refusalOf
-returns-5 c = λ a. rw (ne-eqb _ _ (c .before .before .before .before .before .before .before .before .before .if1 .left), le-ltb _ _ (c .before .before .before .before .before .before .before .before .if2 .left), ← c .before .before .before .before .before .before .before .before .before .before .before .before .before .before .before .before .pre, eq-eqb _ _ (c .before .before .before .before .before .before .before .if3 .left), rw (c .before .before .before .before .before .before .byte-at .ensures) at (eq-eqb _ _ (c .before .before .before .before .before .if4 .left)), counted _ _ (rw (c .before .before .counted .given .1) at (c .before .before .before .before .count .ensures)) .means, ne-eqb _ _ (c .if5 .taken))
+returns-5 c = λ a. rw (ne-eqb _ _ (c .before .before .before .before .before .before .before .before .before .if1 .left), le-ltb _ _ (c .before .before .before .before .before .before .before .before .if2 .left), ← c .before .before .before .before .before .before .before .before .before .before .before .before .before .before .before .before .pre, eq-eqb _ _ (c .before .before .before .before .before .before .before .if3 .left), rw (c .before .before .before .before .before .before .arguments-of .ensures) at (eq-eqb _ _ (c .before .before .before .before .before .if4 .left)), counted _ _ (rw (c .before .before .counted .given .1) at (c .before .before .before .before .count .ensures)) .means, ne-eqb _ _ (c .if5 .taken))
 
 returns-6 : tie.Need-returns-6
 unfolding refusalOf
-returns-6 c = λ a. rw (ne-eqb _ _ (c .before .before .before .before .before .before .before .before .before .before .if1 .left), le-ltb _ _ (c .before .before .before .before .before .before .before .before .before .if2 .left), ← c .before .before .before .before .before .before .before .before .before .before .before .before .before .before .before .before .before .pre, eq-eqb _ _ (c .before .before .before .before .before .before .before .before .if3 .left), rw (c .before .before .before .before .before .before .before .byte-at .ensures) at (eq-eqb _ _ (c .before .before .before .before .before .before .if4 .left)), counted _ _ (rw (c .before .before .before .counted .given .1) at (c .before .before .before .before .before .count .ensures)) .means, eq-eqb _ _ (c .before .if5 .left), ne-eqb _ _ (c .if6 .taken))
+returns-6 c = λ a. rw (ne-eqb _ _ (c .before .before .before .before .before .before .before .before .before .before .if1 .left), le-ltb _ _ (c .before .before .before .before .before .before .before .before .before .if2 .left), ← c .before .before .before .before .before .before .before .before .before .before .before .before .before .before .before .before .before .pre, eq-eqb _ _ (c .before .before .before .before .before .before .before .before .if3 .left), rw (c .before .before .before .before .before .before .before .arguments-of .ensures) at (eq-eqb _ _ (c .before .before .before .before .before .before .if4 .left)), counted _ _ (rw (c .before .before .before .counted .given .1) at (c .before .before .before .before .before .count .ensures)) .means, eq-eqb _ _ (c .before .if5 .left), ne-eqb _ _ (c .if6 .taken))
 
 returns-7 : tie.Need-returns-7
 unfolding refusalOf
-returns-7 c = λ a. rw (ne-eqb _ _ (c .before .before .before .before .before .before .before .before .before .before .before .if1 .left), le-ltb _ _ (c .before .before .before .before .before .before .before .before .before .before .if2 .left), ← c .before .before .before .before .before .before .before .before .before .before .before .before .before .before .before .before .before .before .pre, eq-eqb _ _ (c .before .before .before .before .before .before .before .before .before .if3 .left), rw (c .before .before .before .before .before .before .before .before .byte-at .ensures) at (eq-eqb _ _ (c .before .before .before .before .before .before .before .if4 .left)), counted _ _ (rw (c .before .before .before .before .counted .given .1) at (c .before .before .before .before .before .before .count .ensures)) .means, eq-eqb _ _ (c .before .before .if5 .left), eq-eqb _ _ (c .before .if6 .left), counted _ _ (rw (c .before .before .before .before .counted .given .1) at (c .before .before .before .before .before .before .count .ensures)) .many, lt-ltb _ _ (c .if7 .taken))
+returns-7 c = λ a. rw (ne-eqb _ _ (c .before .before .before .before .before .before .before .before .before .before .before .if1 .left), le-ltb _ _ (c .before .before .before .before .before .before .before .before .before .before .if2 .left), ← c .before .before .before .before .before .before .before .before .before .before .before .before .before .before .before .before .before .before .pre, eq-eqb _ _ (c .before .before .before .before .before .before .before .before .before .if3 .left), rw (c .before .before .before .before .before .before .before .before .arguments-of .ensures) at (eq-eqb _ _ (c .before .before .before .before .before .before .before .if4 .left)), counted _ _ (rw (c .before .before .before .before .counted .given .1) at (c .before .before .before .before .before .before .count .ensures)) .means, eq-eqb _ _ (c .before .before .if5 .left), eq-eqb _ _ (c .before .if6 .left), counted _ _ (rw (c .before .before .before .before .counted .given .1) at (c .before .before .before .before .before .before .count .ensures)) .many, lt-ltb _ _ (c .if7 .taken))
 
 returns-8 : tie.Need-returns-8
 unfolding refusalOf
-returns-8 c = λ a. rw (ne-eqb _ _ (c .before .before .before .before .before .before .before .if1 .left), le-ltb _ _ (c .before .before .before .before .before .before .if2 .left), ← c .before .before .before .before .before .before .before .before .before .before .before .before .before .before .pre, eq-eqb _ _ (c .before .before .before .before .before .if3 .left), rw (c .before .before .before .before .byte-at .ensures) at (eq-eqb _ _ (c .before .before .before .if4 .left)), sym (c .before .before .count .ensures .number) ∙ ap numberOfCount (c .enum-told .given .1))
+returns-8 c = λ a. rw (ne-eqb _ _ (c .before .before .before .before .before .before .before .if1 .left), le-ltb _ _ (c .before .before .before .before .before .before .if2 .left), ← c .before .before .before .before .before .before .before .before .before .before .before .before .before .before .pre, eq-eqb _ _ (c .before .before .before .before .before .if3 .left), rw (c .before .before .before .before .arguments-of .ensures) at (eq-eqb _ _ (c .before .before .before .if4 .left)), sym (c .before .before .count .ensures .number) ∙ ap numberOfCount (c .enum-told .given .1))
 
 returns-9 : tie.Need-returns-9
 unfolding refusalOf
-returns-9 c = λ a. rw (ne-eqb _ _ (c .before .before .before .before .before .before .before .before .before .before .before .if1 .left), le-ltb _ _ (c .before .before .before .before .before .before .before .before .before .before .if2 .left), ← c .before .before .before .before .before .before .before .before .before .before .before .before .before .before .before .before .before .before .pre, eq-eqb _ _ (c .before .before .before .before .before .before .before .before .before .if3 .left), rw (c .before .before .before .before .before .before .before .before .byte-at .ensures) at (eq-eqb _ _ (c .before .before .before .before .before .before .before .if4 .left)), counted _ _ (rw (c .before .before .before .before .counted .given .1) at (c .before .before .before .before .before .before .count .ensures)) .means, eq-eqb _ _ (c .before .before .if5 .left), eq-eqb _ _ (c .before .if6 .left), counted _ _ (rw (c .before .before .before .before .counted .given .1) at (c .before .before .before .before .before .before .count .ensures)) .many, le-ltb _ _ (c .if7 .left))
+returns-9 c = λ a. rw (ne-eqb _ _ (c .before .before .before .before .before .before .before .before .before .before .before .if1 .left), le-ltb _ _ (c .before .before .before .before .before .before .before .before .before .before .if2 .left), ← c .before .before .before .before .before .before .before .before .before .before .before .before .before .before .before .before .before .before .pre, eq-eqb _ _ (c .before .before .before .before .before .before .before .before .before .if3 .left), rw (c .before .before .before .before .before .before .before .before .arguments-of .ensures) at (eq-eqb _ _ (c .before .before .before .before .before .before .before .if4 .left)), counted _ _ (rw (c .before .before .before .before .counted .given .1) at (c .before .before .before .before .before .before .count .ensures)) .means, eq-eqb _ _ (c .before .before .if5 .left), eq-eqb _ _ (c .before .if6 .left), counted _ _ (rw (c .before .before .before .before .counted .given .1) at (c .before .before .before .before .before .before .count .ensures)) .many, le-ltb _ _ (c .if7 .left))
 
 pub refusal-spec : {M : Type 1} → statement M
 refusal-spec =
@@ -66,7 +66,7 @@ refusal-spec =
     returns
     returns-2
     returns-3
-    byte-at-requires
+    arguments-of-requires
     cast-wanted
     returns-4
     count-requires

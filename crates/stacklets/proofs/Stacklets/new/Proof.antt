@@ -1,7 +1,6 @@
 -- `Stacklets::new` meets its contract. Assumes nothing.
 use mathlib.Core.Path.{refl}
 use Rattle.stacklets.specs.Tops.{topsOf}
-use borrow.Author.Needs.{needs}
 use Rattle.stacklets.proofs.Stacklets.new.Statement.{statement}
 use Rattle.stacklets.proofs.Stacklets.new.Tie as tie
 

@@ -1,0 +1,143 @@
+-- A sound state, which the step inside the machine may rely on ("The step inside the machine may rely on a sound state"). Each part is
+-- about the threads in use, the queues and the stacklets; quantifiers go over 32 threads, 4 cores and 16 stacklets.
+use mathlib.Core.Bool.{true, cond}
+use mathlib.Core.Logic.{_⊎_}
+use mathlib.Core.Path.{_≡_}
+use Prim.Native.Nat.{ℕ, zero, suc, _+_, _/_, _%_, _≤_, _<_}
+use lib.Dec.{eqb}
+use lib.ListN.{length}
+use Rattle.image.specs.Layout.{countOf, slotsOf, codeOf}
+use Rattle.image.specs.Code.{commandsOf, isStart}
+use Rattle.stacklets.specs.Layout.{Apart, Under}
+use Rattle.stacklets.specs.Tops.{topAt}
+pub use Rattle.thread.specs.Job.{GoodJob}
+use Rattle.thread.specs.Thread.{statusNumber, isPending, none}
+use Rattle.window.specs.Rights.{Fits}
+use Rattle.rules.specs.State.{Job, State, finished, threadAt, onCore}
+use Rattle.rules.specs.Turn.{byteOf}
+use Rattle.rules.specs.Lists.{Every, Member, Distinct}
+
+-- thread t's status as a number: 0 free, 1 running, 2 ready, 3 suspended, 4 waiting, 5 lent
+abbrev pub statusAt : State → ℕ → ℕ
+statusAt s t = statusNumber (threadAt s t .status)
+
+-- thread t is in use
+abbrev pub Used : State → ℕ → Type 0
+Used s t = 0 < statusAt s t
+
+-- the number of words in thread t's frame
+abbrev pub sizeAt : Job → State → ℕ → ℕ
+sizeAt j s t = slotsOf (j .image) (threadAt s t .routine)
+
+-- the tables have their sizes; "1 to 4 cores; 32 thread numbers; 16 stacklets of 64 words"; "units at most the allowance"
+pub record Sized (j : Job) (s : State) : Type 0 where
+  pub threads : length (s .threads) ≡ 32
+  pub cores : length (s .cores) ≡ 4
+  pub tops : length (s .tops) ≡ 16
+  pub words : length (s .words) ≡ 1024
+  pub memory : length (s .memory) ≡ 992
+  pub some : 1 ≤ s .count
+  pub most : s .count ≤ 4
+  pub units : s .units ≤ j .allowance
+
+-- "each position a command's start"; "every field in range"; a waiting thread's next command is a join
+pub record Placed (j : Job) (s : State) : Type 0 where
+  pub routine : (t : ℕ) → Used s t → threadAt s t .routine < countOf (j .image)
+  pub position : (t : ℕ) → Used s t → isStart (commandsOf (codeOf (j .image) (threadAt s t .routine))) (threadAt s t .position) ≡ true
+  pub pending : (t : ℕ) → Used s t → threadAt s t .pending < 65536
+  pub result : (t : ℕ) → Used s t → threadAt s t .result < 16
+  pub join : (t : ℕ) → statusAt s t ≡ 4 → byteOf j (threadAt s t) ≡ 10
+
+-- "running threads and cores match"
+pub record Seats (s : State) : Type 0 where
+  pub runs : (c : ℕ) → c < s .count → onCore s c < none → statusAt s (onCore s c) ≡ 1
+  pub seated : (t : ℕ) → statusAt s t ≡ 1 → (c : ℕ) × (c < s .count) × (onCore s c ≡ t)
+  pub one : (c d : ℕ) → c < s .count → d < s .count → onCore s c < none → onCore s c ≡ onCore s d → c ≡ d
+
+-- "lent threads and connected children, these running or lent, match"
+pub record Links (s : State) : Type 0 where
+  pub lent : (p : ℕ) → statusAt s p ≡ 5 → (u : ℕ) × (threadAt s u .connected ≡ true) × (threadAt s u .parent ≡ p)
+  pub linked : (u : ℕ) → threadAt s u .connected ≡ true
+      → ((statusAt s u ≡ 1) ⊎ (statusAt s u ≡ 5)) × (statusAt s (threadAt s u .parent) ≡ 5)
+  pub only : (u v : ℕ) → threadAt s u .connected ≡ true → threadAt s v .connected ≡ true → threadAt s u .parent ≡ threadAt s v .parent → u ≡ v
+
+-- "a ready thread stands once in the line .. and nothing else does"
+pub record Turns (s : State) : Type 0 where
+  pub ready : Every (λ t. statusAt s t ≡ 2) (s .ready)
+  pub once : Distinct (s .ready)
+  pub stands : (t : ℕ) → statusAt s t ≡ 2 → Member t (s .ready)
+
+-- the used children of thread t among the first n threads
+abbrev pub isChild : State → ℕ → ℕ → ℕ
+isChild s t u = cond (eqb (statusAt s u) 0) 0 (cond (eqb (threadAt s u .parent) t) 1 0)
+
+unfoldable pub childrenAmong : State → ℕ → ℕ → ℕ
+childrenAmong s t zero = 0
+childrenAmong s t (suc n) = isChild s t n + childrenAmong s t n
+
+-- "child counts agree with the fork tree, whose root is thread 0 .. (once finished, and only then, no thread is in use)";
+-- "a waiting thread has a child that has not ended". Ranks rise from parent to child, so there is no cycle
+pub record Tree (s : State) : Type 0 where
+  pub waits : (t : ℕ) → statusAt s t ≡ 4 → 0 < threadAt s t .children
+  pub counted : (t : ℕ) → Used s t → threadAt s t .children ≡ childrenAmong s t 32
+  pub rank : ℕ → ℕ
+  pub deep : ℕ
+  pub low : (t : ℕ) → rank t < deep
+  pub tree : (t : ℕ) → Used s t
+      → ((t ≡ 0) × (threadAt s t .parent ≡ none)) ⊎ ((t ≡ 0 → ⊥) × Used s (threadAt s t .parent) × (rank (threadAt s t .parent) < rank t))
+  pub root : ((v : ℕ) → s .outcome ≡ finished v → ⊥) → Used s 0
+  pub over : (v : ℕ) → s .outcome ≡ finished v → (t : ℕ) → statusAt s t ≡ 0
+
+-- "unended children's result slots are pending and distinct"
+pub record Results (s : State) : Type 0 where
+  pub pending : (u : ℕ) → Used s u → (u ≡ 0 → ⊥) → isPending (threadAt s (threadAt s u .parent) .pending) (threadAt s u .result) ≡ true
+  pub distinct : (u v : ℕ) → Used s u → Used s v → threadAt s u .parent ≡ threadAt s v .parent → threadAt s u .result ≡ threadAt s v .result → u ≡ v
+
+-- windows are good; the root's is 32 to 1,024; children's "lie apart in what the parent cut off"
+pub record Windows (s : State) : Type 0 where
+  pub fits : (t : ℕ) → Used s t → Fits (threadAt s t .window)
+  pub root : Used s 0 → (threadAt s 0 .window .lo ≡ 32) × (threadAt s 0 .window .hi ≡ 1024)
+  pub inside : (u : ℕ) → Used s u → (u ≡ 0 → ⊥)
+      → (threadAt s (threadAt s u .parent) .window .lo ≤ threadAt s u .window .lo) × (threadAt s u .window .hi ≤ threadAt s (threadAt s u .parent) .window .mark)
+  pub apart : (u v : ℕ) → Used s u → Used s v → (u ≡ v → ⊥) → threadAt s u .parent ≡ threadAt s v .parent
+      → (threadAt s u .window .hi ≤ threadAt s v .window .lo) ⊎ (threadAt s v .window .hi ≤ threadAt s u .window .lo)
+
+-- "each thread number .. is either in use or once in its free line"
+pub record FreeThreads (s : State) : Type 0 where
+  pub free : Every (λ n. (n < 32) × (statusAt s n ≡ 0)) (s .freeThreads)
+  pub once : Distinct (s .freeThreads)
+  pub stands : (t : ℕ) → t < 32 → statusAt s t ≡ 0 → Member t (s .freeThreads)
+
+-- "frames on a stacklet do not overlap and each above the lowest belongs to a child of the thread below it"
+pub record Frames (j : Job) (s : State) : Type 0 where
+  pub bounded : (t : ℕ) → Used s t → threadAt s t .base < 1024
+  pub most : (x : ℕ) → topAt (s .tops) x ≤ 64
+  pub under : (t : ℕ) → Used s t → Under (s .tops) (threadAt s t .base) (sizeAt j s t)
+  pub apart : (t u : ℕ) → Used s t → Used s u → (t ≡ u → ⊥) → Apart (threadAt s t .base) (sizeAt j s t) (threadAt s u .base) (sizeAt j s u)
+  pub stacked : (t : ℕ) → Used s t → (threadAt s t .base % 64 ≡ 0)
+      ⊎ (Used s (threadAt s t .parent) × (threadAt s (threadAt s t .parent) .base + sizeAt j s (threadAt s t .parent) ≡ threadAt s t .base))
+
+-- no thread's frame is on stacklet x
+abbrev pub Unused : State → ℕ → Type 0
+Unused s x = (t : ℕ) → Used s t → threadAt s t .base / 64 ≡ x → ⊥
+
+-- "each stacklet is either in use or once in its free line"
+pub record FreeStacklets (s : State) : Type 0 where
+  pub free : Every (λ x. (x < 16) × (topAt (s .tops) x ≡ 0) × Unused s x) (s .freeStacklets)
+  pub once : Distinct (s .freeStacklets)
+  pub stands : (x : ℕ) → x < 16 → Unused s x → Member x (s .freeStacklets)
+
+-- all of it
+pub record Sound (j : Job) (s : State) : Type 0 where
+  pub job : GoodJob j
+  pub sized : Sized j s
+  pub placed : Placed j s
+  pub seats : Seats s
+  pub links : Links s
+  pub turns : Turns s
+  pub tree : Tree s
+  pub results : Results s
+  pub windows : Windows s
+  pub freeThreads : FreeThreads s
+  pub frames : Frames j s
+  pub freeStacklets : FreeStacklets s
