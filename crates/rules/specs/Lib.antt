@@ -13,3 +13,5 @@ pub mod Runs
 -- and every entry keeps it is proved (crate `soundness`), so that a mistake in it would be found and not believed.
 pub mod Lists
 pub mod Sound
+-- Small runs, worked out by hand: a second witness of the rules.
+pub mod Rows

@@ -1,0 +1,31 @@
+-- The worked rows hold, computed by the rules. Assumes nothing.
+use mathlib.Core.List.{List, [], _∷_}
+use mathlib.Core.Path.{_≡_, refl}
+use Rattle.command.specs.Command.{decoded}
+use Rattle.image.specs.Layout.{startOf, rowsOf, startsUpTo}
+use Rattle.queue.specs.Contents.{appended}
+use Rattle.stacklets.specs.Tops.{fitsOn, pushedTops}
+use Rattle.stacklets.specs.Frames.{argumentsAt, framed, pushedWords}
+use Rattle.thread.specs.Effect.{run, anyPending, unlessPending, provided, forking, effectOf}
+use Rattle.thread.specs.Thread.{isPending, withPending}
+use Rattle.window.specs.Rights.{mayStore, mayLoad, cutAt}
+use Rattle.rules.specs.Start.{startState}
+use Rattle.rules.specs.Turn.{effectAt}
+use Rattle.rules.specs.Leave.{leaves}
+use Rattle.rules.specs.Fork.{goesAbove, placeOf, born, forkOn, forkWith, forkOf}
+use Rattle.rules.specs.Return.{stackletsWithout, wakes, statusAfter, readyAfter, returnToParent, returnOf}
+use Rattle.rules.specs.Rules.{carriedOf, turnOf, stepOf, takeInto, takeOf, isSeed, stolenOf, stealOf, enableOf, entryOf}
+use Rattle.rules.specs.Runs.{runFrom, logsFrom}
+use Rattle.rules.specs.Rows.{Row, jobIn, startIn, rows}
+
+abbrev pub Holds : List Row → Type 0
+Holds [] = Unit {0}
+Holds (r ∷ rs) =
+    (logsFrom (jobIn r) (startIn r) (r .entries) ≡ r .log)
+    × (runFrom (jobIn r) (startIn r) (r .entries) .outcome ≡ r .outcome)
+    × (runFrom (jobIn r) (startIn r) (r .entries) .units ≡ r .units)
+    × Holds rs
+
+pub rows-hold : Holds rows
+unfolding decoded startOf rowsOf startsUpTo appended fitsOn pushedTops argumentsAt framed pushedWords run anyPending unlessPending provided forking effectOf isPending withPending mayStore mayLoad cutAt startState effectAt leaves goesAbove placeOf born forkOn forkWith forkOf stackletsWithout wakes statusAfter readyAfter returnToParent returnOf carriedOf turnOf stepOf takeInto takeOf isSeed stolenOf stealOf enableOf entryOf runFrom logsFrom
+rows-hold = (refl, refl, refl, (refl, refl, refl, (refl, refl, refl, tt)))
