@@ -2,8 +2,8 @@
 use mathlib.Core.List.{List, [], _∷_}
 use Prim.Native.Nat.{ℕ, zero, suc}
 use lib.ListN.{getD, set, replicate}
-use Rattle.run.specs.declared.RunAnswer.{RunAnswer}
-use Rattle.run.specs.declared.RunAnswer.the-variants.{Refused, Finished, Faulted, Open}
+use Rattle.demands.specs.declared.RunAnswer.{RunAnswer}
+use Rattle.demands.specs.declared.RunAnswer.the-variants.{Refused, Finished, Faulted, Open}
 use Rattle.thread.specs.declared.Thread.{Thread}
 use Rattle.thread.specs.Thread.{blankThread, statusNumber}
 

@@ -2,7 +2,7 @@
 use mathlib.Core.List.{List}
 use mathlib.Core.Path.{_≡_}
 use Prim.Native.Nat.{ℕ}
-use Rattle.run.specs.Run.{Input}
+use Rattle.demands.specs.Input.{Input}
 use Rattle.scheduler.specs.declared.Scheduled.{Scheduled}
 use Rattle.scheduler.specs.Promise.{Promise}
 use Rattle.abi.specs.Words.{answerWords, statusesUpTo}

@@ -9,8 +9,9 @@ pub mod Fork
 pub mod Return
 pub mod Rules
 pub mod Runs
--- Belief ends here, but for the words that the demands take from these two (`Member`, `Distinct`, `statusAt`). A sound state is what the code may rely on: that Start's is one
--- and every entry keeps it is proved (crate `soundness`), so that a mistake in it would be found and not believed.
+-- Belief ends here, but for three words that the promises take from what follows: `Every` and `Member` of a list, and a thread's status as a
+-- number (`statusAt`). A sound state is what the code may rely on; that Start's is one and that every entry keeps it is proved (crate
+-- `soundness`), so a mistake in it would be found, and is not believed.
 pub mod Lists
 pub mod Sound
 -- Small runs, worked out by hand: a second witness of the rules.

@@ -6,7 +6,7 @@ use lib.ListN.{replicate}
 use Rattle.image.specs.Cases.{whole}
 use Rattle.image.specs.Layout.{programOf, startsIn}
 use Rattle.schedule.specs.declared.Entry.{Entry}
-use Rattle.schedule.specs.declared.Entry.the-variants.{Step, Take, Steal, Enable}
+use Rattle.schedule.specs.declared.Entry.the-variants.{Step, Take, Steal}
 use Rattle.rules.specs.State.{Job, jobOf, State, Outcome, finished, faulted}
 use Rattle.rules.specs.Start.{startState}
 

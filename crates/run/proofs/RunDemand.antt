@@ -6,15 +6,60 @@ use lib.ListN.{length, getD, drop}
 use Rattle.schedule.specs.declared.Entry.{Entry}
 use Rattle.schedule.specs.Meaning.{entries, scheduleOf}
 use Rattle.machine.specs.Meaning.{meaning}
-use Rattle.run.proofs.Demands.{demand-1, demand-2-logged, demand-3}
-use Rattle.run.proofs.Passing.{takes}
+use Rattle.demands.proofs.Demands.{demand-2-logged, demand-3, run-next, sound-after, logs-many}
+use Rattle.demands.proofs.Passing.{takes}
 use Rattle.run.specs.declared.Ran.{Ran}
-use Rattle.run.specs.Run.{Input, jobIn, startIn, logsFrom, refusalOf, RunsAs}
-use Rattle.run.specs.Demands.{Demand2, Demand3}
+use Rattle.demands.specs.Input.{Input, jobIn, startIn, refusalOf}
+use Rattle.rules.specs.Runs.{logsFrom}
+use Rattle.run.specs.Run.{RunsAs}
+use Rattle.demands.specs.Demands.{Demand2, Demand3}
 use Rattle.run.specs.Promise.{Promise}
+use Rattle.rules.specs.State.{Outcome, going, finished, faulted}
+use Rattle.rules.specs.Runs.{runFrom, logged}
+use Rattle.demands.specs.declared.RunAnswer.the-variants.{Refused}
+use Rattle.demands.specs.Input.{answerOf, entryCount}
+use Rattle.demands.specs.Demands.{Demand1}
+use Rattle.demands.proofs.Passing.{has-room}
+use Rattle.soundness.proofs.Unchanged.{unchanged}
+use native.Mathlib.Omega.{arith}
+use Prim.Native.Nat.{_+_, _≤_}
+use mathlib.Core.Path.{ap}
+use lib.ListN.{length-append, length-drop}
+
+-- log bytes over the front of a log
+whole : (bytes log : List ℕ) → length bytes ≤ length log → length (logged log bytes) ≡ length log
+whole bytes log h = length-append bytes (drop (length bytes) log) ∙ ap (λ n. length bytes + n) (length-drop (length bytes) log) ∙ omega (arith, h)
+
+-- an answer by entries is no refusal
+no-refusal : (o : Outcome) (u n : ℕ) → ¬ (answerOf o u ≡ Refused n)
+no-refusal going u n e = let z : _≡_ {A = ℕ} 0 1 = cc in omega arith
+no-refusal (finished v) u n e = let z : _≡_ {A = ℕ} 0 1 = cc in omega arith
+no-refusal (faulted m t o) u n e = let z : _≡_ {A = ℕ} 0 1 = cc in omega arith
 
 module _ (i : Input) (schedule log : List ℕ) (bytes : (k : ℕ) → getD (i .image) k 0 < 256) (r : Ran) (memoryAfter logAfter : List ℕ)
     (runs : RunsAs i schedule log r memoryAfter logAfter) where
+  -- a run by entries: the memory and the log have the lengths that they had
+  within : refusalOf i schedule log ≡ 0
+      → (¬ ((n : ℕ) × (r .answer ≡ Refused n))) × (length memoryAfter ≡ length (i .memory)) × (length logAfter ≡ length log)
+  within passes =
+      let (es, means, p) = runs .played passes in
+      let k = takes i schedule log passes bytes in
+      let room = has-room i schedule log passes in
+      let same : entries es ≡ entries (room .all) = sym means ∙ room .means in
+      let many : length es ≡ length (room .all) = ap entryCount same in (
+        λ (n, q). no-refusal (runFrom (jobIn i) (startIn i) es .outcome) (runFrom (jobIn i) (startIn i) es .units) n (sym (p .answer) ∙ q),
+        ap length (p .memory) ∙ sound-after i k es .sized .memory ∙ sym (k .memory),
+        ap length (p .log) ∙ whole (logsFrom (jobIn i) (startIn i) es) log (omega (arith, logs-many (jobIn i) (startIn i) es, many, room .room)),
+      )
+
+  demand-1 : Demand1 i schedule log (r .answer) memoryAfter logAfter
+  demand-1 = record {
+    bad = λ some. let q = runs .refused some in (q .answer, q .memory, q .log);
+    good = within;
+    untouched = λ before e (low, high).
+        run-next (jobIn i) (startIn i) before e ∙ unchanged (jobIn i) (runFrom (jobIn i) (startIn i) before) e low high;
+  }
+
   at-end : refusalOf i schedule log ≡ 0 → Demand3 i (meaning (r .machine) (r .words) memoryAfter)
   at-end passes =
       let p = runs .played passes in
@@ -34,7 +79,7 @@ module _ (i : Input) (schedule log : List ℕ) (bytes : (k : ℕ) → getD (i .i
   pub promised : Promise i schedule log r memoryAfter logAfter
   promised = record {
     runs = runs;
-    demand1 = demand-1 i schedule log bytes r memoryAfter logAfter runs;
+    demand1 = demand-1;
     demand2 = at-each;
     demand3 = at-end;
   }

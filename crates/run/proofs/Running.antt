@@ -11,12 +11,15 @@ use Rattle.image.specs.Image.{imageVerdict, imageAnswer, numberIn, programFor}
 use Rattle.thread.specs.Job.{jobOf}
 use Rattle.rules.specs.State.{State}
 use Rattle.machine.specs.Meaning.{meaning, outcomeOf}
-use Rattle.run.proofs.Passing.{takes, playable}
+use Rattle.demands.proofs.Passing.{takes}
 use Rattle.run.specs.declared.Ran.{Ran}
 use Rattle.run.specs.declared.begin.Begun.{Begun}
-use Rattle.run.specs.declared.RunAnswer.the-variants.{Refused}
-use Rattle.run.specs.Run.{Input, jobIn, startIn, refusalOf, answerOf, RunsAs, Begins}
+use Rattle.demands.specs.declared.RunAnswer.the-variants.{Refused}
+use Rattle.demands.specs.Input.{Input, jobIn, startIn, refusalOf, answerOf}
+use Rattle.run.specs.Run.{RunsAs, Begins}
 use Rattle.play.specs.Entries.{Playable, Played}
+use Rattle.soundness.proofs.StartSound.{start-sound}
+use Rattle.demands.proofs.Passing.{good, has-room}
 
 -- the image's number and its codes' starts, as the reader gives them
 pub number-of : (image : List ℕ) (checked : Checked) (n : ℕ) → checked ≡ imageAnswer image → n ≡ numberIn (checked .verdict) → n ≡ numberIn (imageVerdict image)
@@ -29,6 +32,16 @@ unfolding imageAnswer
 starts-of image checked starts e h a = h ∙ ap (λ (x : Checked). startsIn (x .program)) e ∙ ap (λ (v : Verdict). startsIn (programFor v image)) a
 
 module _ (i : Input) (schedule log : List ℕ) where
+  playable : refusalOf i schedule log ≡ 0 → ((k : ℕ) → getD (i .image) k 0 < 256) → Playable (jobIn i) (startIn i) schedule log
+  playable passes bytes =
+      let t = takes i schedule log passes bytes in
+      record {
+        all = has-room i schedule log passes .all;
+        means = has-room i schedule log passes .means;
+        room = has-room i schedule log passes .room;
+        sound = start-sound (jobIn i) (i .cores) (i .arguments) (i .memory) (good i t) (t .some) (t .most) (t .memory);
+      }
+
   pub begins : ((k : ℕ) → getD (i .image) k 0 < 256) → (b : Begun) (words : List ℕ) (checked : Checked) → checked ≡ imageAnswer (i .image)
       → b .number ≡ refusalOf i schedule log → meaning (b .machine) words (i .memory) ≡ startIn i → b .starts ≡ startsIn (checked .program)
       → Begins i schedule log b words
@@ -57,7 +70,7 @@ module _ (i : Input) (schedule log : List ℕ) where
 
       pub ready : ((k : ℕ) → getD (i .image) k 0 < 256)
           → Playable (jobOf (i .image) (b .starts) (i .parameters) (i .allowance)) (meaning (b .machine) words (i .memory)) schedule log
-      ready bytes = rw (begun .starts passes, begun .machine) (playable i schedule log passes bytes)
+      ready bytes = rw (begun .starts passes, begun .machine) (playable passes bytes)
 
       pub plays : (r : Ran) (memoryAfter logAfter : List ℕ)
           → Played (jobOf (i .image) (b .starts) (i .parameters) (i .allowance)) (meaning (b .machine) words (i .memory)) schedule log

@@ -1,5 +1,3 @@
--- In reading order: what a run does, the demands, and what `run` promises.
+-- In reading order: what a run gives, and what `run` promises: that, and the demands of it.
 pub mod Run
-pub mod Demands
 pub mod Promise
-pub mod Cases

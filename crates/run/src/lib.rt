@@ -6,18 +6,10 @@ pub mod tell;
 
 use crate::begin::begin;
 use crate::tell::answer;
+pub use demands::RunAnswer;
 use machine::Machine;
 use play::play;
 ghost use Rattle.run.specs.Promise.{Promise};
-
-// What a run answers.
-pub enum RunAnswer {
-    // a whole-run test is met; nothing was written
-    Refused(u8),
-    Finished { result: u32, units: u32 },
-    Faulted { number: u8, thread: u8, offset: u16 },
-    Open { units: u32 },
-}
 
 // The answer, with the machine as the run left it and the words of its stacklets.
 pub struct Ran {

@@ -5,7 +5,7 @@ use schedule::count;
 ghost use mathlib.Core.Path.{_≡_};
 ghost use Prim.Native.Nat.{ℕ};
 ghost use Rattle.image.specs.Image.{imageVerdict, numberIn};
-ghost use Rattle.run.specs.Run.{refusalOf};
+ghost use Rattle.demands.specs.Input.{refusalOf};
 
 // The number of the first test that is met, or 0. The image's own number is given.
 pub fn refusal(

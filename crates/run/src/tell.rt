@@ -3,7 +3,7 @@ use crate::RunAnswer;
 use machine::Machine;
 ghost use mathlib.Core.Path.{_≡_};
 ghost use Rattle.machine.specs.Meaning.{outcomeOf};
-ghost use Rattle.run.specs.Run.{answerOf};
+ghost use Rattle.demands.specs.Input.{answerOf};
 
 // How the machine stands.
 pub fn answer(m: Machine) -> RunAnswer

@@ -15,11 +15,12 @@ use Rattle.schedule.proofs.Following.{allBytes, accepts-short}
 use Rattle.rules.specs.Lists.{Every}
 use Rattle.rules.specs.State.{Job, State, isOver}
 use Rattle.rules.specs.Rules.{entryOf}
-use Rattle.run.specs.Run.{Input, jobIn, startIn, runFrom, logsFrom}
-use Rattle.run.specs.Demands.{Demand3}
+use Rattle.demands.specs.Input.{Input, jobIn, startIn}
+use Rattle.rules.specs.Runs.{runFrom, logsFrom}
+use Rattle.demands.specs.Demands.{Demand3}
 use Rattle.soundness.proofs.EntryCases.{and-true}
-use Rattle.run.proofs.Demands.{demand-3}
-use Rattle.run.proofs.Passing.{takes}
+use Rattle.demands.proofs.Demands.{demand-3}
+use Rattle.demands.proofs.Passing.{takes}
 use Rattle.scheduler.proofs.Keeping.{short}
 use Rattle.scheduler.proofs.Trying.{bytes-snoc}
 use Rattle.search.specs.Search.{choiceOf, lowestSuspended}

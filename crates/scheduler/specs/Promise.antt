@@ -7,9 +7,10 @@ use lib.ListN.{length}
 use Rattle.schedule.specs.Meaning.{entries, scheduleOf}
 use Rattle.rules.specs.Lists.{Every}
 use Rattle.machine.specs.Meaning.{meaning}
-use Rattle.run.specs.declared.RunAnswer.the-variants.{Refused}
-use Rattle.run.specs.Run.{Input, jobIn, startIn, runFrom, logsFrom, refusalOf, answerOf, numberOfAnswer}
-use Rattle.run.specs.Demands.{Demand3}
+use Rattle.demands.specs.declared.RunAnswer.the-variants.{Refused}
+use Rattle.demands.specs.Input.{Input, jobIn, startIn, refusalOf, answerOf, numberOfAnswer}
+use Rattle.rules.specs.Runs.{runFrom, logsFrom}
+use Rattle.demands.specs.Demands.{Demand3}
 use Rattle.scheduler.specs.declared.Scheduled.{Scheduled}
 use Rattle.rounds.specs.Rounds.{Progress, isWritten, scheduledFrom, bytesOfAll, filled}
 

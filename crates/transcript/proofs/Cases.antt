@@ -18,7 +18,8 @@ use Rattle.rules.specs.Fork.{goesAbove, placeOf, born, forkOn, forkWith, forkOf
 use Rattle.rules.specs.Return.{stackletsWithout, wakes, statusAfter, readyAfter, returnToParent, returnOf}
 use Rattle.rules.specs.Rules.{carriedOf, turnOf, stepOf, takeInto, takeOf, isSeed, stolenOf, stealOf, enableOf, entryOf}
 use Rattle.rules.specs.Start.{startState}
-use Rattle.run.specs.Run.{refusalOf, runFrom, logsFrom}
+use Rattle.demands.specs.Input.{refusalOf}
+use Rattle.rules.specs.Runs.{runFrom, logsFrom}
 use Rattle.transcript.specs.Text.{digitsOf, decimalOf}
 use Rattle.transcript.specs.Reading.{wordsFrom}
 use Rattle.transcript.specs.Transcript.{entryLines, playedText, numberOfRun, runText, textOf}

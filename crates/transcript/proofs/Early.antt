@@ -12,7 +12,7 @@ use Rattle.image.specs.declared.Verdict.the-variants.{Accepted, Refused}
 use Rattle.image.specs.declared.Refusal.the-variants.{BadLength, BadCount, BadRow, UnknownByte, OperandsCutOff, OutOfRange, BadEnd, BadTarget}
 use Rattle.image.specs.Image.{imageVerdict, numberIn}
 use Rattle.schedule.specs.Meaning.{scheduleOf, numberOf}
-use Rattle.run.specs.Run.{Input, badCores, badArguments, badWords, entryCount, refusalOf}
+use Rattle.demands.specs.Input.{Input, badCores, badArguments, badWords, entryCount, refusalOf}
 use Rattle.transcript.specs.Reading.{inputOf, scheduleIn}
 use Rattle.transcript.specs.Transcript.{numberOfRun}
 

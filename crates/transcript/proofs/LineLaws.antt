@@ -7,8 +7,8 @@ use native.Mathlib.Numerals.{add-one}
 use native.Mathlib.Omega.{arith}
 use lib.ListN.{length, getD, take, length-append}
 use lib.Seq.{take-suc, length-take-le}
-use Rattle.run.specs.declared.RunAnswer.{RunAnswer}
-use Rattle.run.specs.declared.RunAnswer.the-variants.{Refused, Finished, Faulted, Open}
+use Rattle.demands.specs.declared.RunAnswer.{RunAnswer}
+use Rattle.demands.specs.declared.RunAnswer.the-variants.{Refused, Finished, Faulted, Open}
 use Rattle.transcript.proofs.Digits.{power, few-digits}
 use Rattle.transcript.proofs.Writing.{followed, silent, same-text}
 use Rattle.transcript.specs.Text.{ascii, decimalOf, spaced, entryLine, lastLine}

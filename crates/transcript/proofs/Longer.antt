@@ -9,7 +9,7 @@ use borrow.Author.Tests.{lt-ltb, le-ltb}
 use lib.ListN.{length, getD, take, drop, replicate, length-drop}
 use lib.Seq.{getD-take, take-all, take-nil, take-take, length-take-le}
 use Rattle.schedule.specs.Meaning.{malformed, scheduleOf}
-use Rattle.run.specs.Run.{Input, entryCount, refusalOf}
+use Rattle.demands.specs.Input.{Input, entryCount, refusalOf}
 use Rattle.transcript.specs.Reading.{pairAt, wordAt, wordsFrom, argumentCount, allowanceAt, lengthAt, imageAt, scheduleAt, inputOf, scheduleIn}
 use Rattle.transcript.specs.Transcript.{numberOfRun, runText, textOf}
 

@@ -7,7 +7,7 @@ use native.Mathlib.Omega.{arith}
 use borrow.Author.Tests.{lt-ltb, le-ltb}
 use lib.ListN.{length, getD, set, take, drop, length-drop}
 use lib.Seq.{sets, take-nil, take-length}
-use Rattle.run.specs.declared.RunAnswer.the-variants.{Refused}
+use Rattle.demands.specs.declared.RunAnswer.the-variants.{Refused}
 use Rattle.transcript.specs.Text.{lastLine}
 use Rattle.transcript.specs.Reading.{pairAt, wordAt, wordsFrom, coreCount, argumentCount, allowanceAt, lengthAt, imageAt, scheduleAt, startingWith, inputOf, scheduleIn}
 use Rattle.transcript.specs.Transcript.{runText, textOf}

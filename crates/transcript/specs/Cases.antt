@@ -2,7 +2,7 @@
 use mathlib.Core.List.{List, [], _∷_, _++_}
 use Prim.Native.Nat.{ℕ}
 use Rattle.image.specs.Cases.{oneRoutine, whole}
-use Rattle.run.specs.Cases.{wholeSchedule}
+use Rattle.demands.specs.Cases.{wholeSchedule}
 use Rattle.transcript.specs.Text.{ascii}
 
 -- a row of the table

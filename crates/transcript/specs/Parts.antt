@@ -5,9 +5,9 @@ use Prim.Native.Nat.{ℕ, _+_, _≤_}
 use lib.ListN.{length}
 use lib.Seq.{sets}
 use Rattle.schedule.specs.Meaning.{Schedule}
-use Rattle.run.specs.declared.RunAnswer.{RunAnswer}
-use Rattle.run.specs.declared.RunAnswer.the-variants.{Refused, Finished, Faulted, Open}
-use Rattle.run.specs.Run.{entryCount}
+use Rattle.demands.specs.declared.RunAnswer.{RunAnswer}
+use Rattle.demands.specs.declared.RunAnswer.the-variants.{Refused, Finished, Faulted, Open}
+use Rattle.demands.specs.Input.{entryCount}
 
 -- a text stored byte by byte from a position on, and the position after it; what is past the buffer's end is left out
 pub record Put (text before : List ℕ) (at next : ℕ) (after : List ℕ) : Type 0 where

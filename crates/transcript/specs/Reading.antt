@@ -5,7 +5,7 @@ use mathlib.Core.List.{List, [], _∷_}
 use Prim.Native.Nat.{ℕ, zero, suc, _+_, _*_}
 use lib.Dec.{ltb}
 use lib.ListN.{length, getD, take, drop, replicate}
-use Rattle.run.specs.Run.{Input}
+use Rattle.demands.specs.Input.{Input}
 
 -- "values of two or four bytes are little-endian"
 abbrev pub pairOf : ℕ → ℕ → ℕ

@@ -5,8 +5,8 @@ use Prim.Native.Char.{code}
 use Prim.Native.Nat.{ℕ, zero, suc, _+_, _/_, _%_}
 use Prim.Native.String.{String, [] as none, _∷_ as first}
 use lib.Dec.{ltb}
-use Rattle.run.specs.declared.RunAnswer.{RunAnswer}
-use Rattle.run.specs.declared.RunAnswer.the-variants.{Refused, Finished, Faulted, Open}
+use Rattle.demands.specs.declared.RunAnswer.{RunAnswer}
+use Rattle.demands.specs.declared.RunAnswer.the-variants.{Refused, Finished, Faulted, Open}
 
 abbrev pub ascii : String → List ℕ
 ascii none = []

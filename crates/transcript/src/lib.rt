@@ -15,7 +15,7 @@ use schedule::Counted;
 ghost use mathlib.Core.Path.{_≡_};
 ghost use lib.ListN.{length};
 ghost use Rattle.schedule.specs.Meaning.{scheduleOf};
-ghost use Rattle.run.specs.Run.{entryCount};
+ghost use Rattle.demands.specs.Input.{entryCount};
 ghost use Rattle.transcript.specs.Reading.{startingWith};
 ghost use Rattle.transcript.specs.Transcript.{runText};
 ghost use Rattle.transcript.specs.Writing.{Prints};

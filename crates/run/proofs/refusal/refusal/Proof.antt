@@ -3,7 +3,7 @@ use borrow.Author.Tests.{eq-eqb, ne-eqb, lt-ltb, le-ltb}
 use mathlib.Core.Path.{sym, _∙_, ap}
 use Rattle.schedule.specs.Meaning.{numberOfCount}
 use Rattle.schedule.proofs.Counting.{counted}
-use Rattle.run.specs.Run.{refusalOf}
+use Rattle.demands.specs.Input.{refusalOf}
 use borrow.Author.Needs.{needs}
 use Rattle.run.proofs.refusal.refusal.Statement.{statement}
 use Rattle.run.proofs.refusal.refusal.Tie as tie

@@ -21,9 +21,10 @@ use Rattle.rules.specs.Rules.{stepOf, takeOf, entryOf}
 use Rattle.rules.specs.Sound.{statusAt}
 use Rattle.soundness.specs.Numbers.{Numbers}
 use Rattle.serial.specs.Serial.{Ended, done, stopped, serialOf}
-use Rattle.run.specs.declared.Ran.{Ran}
-use Rattle.run.specs.declared.RunAnswer.the-variants.{Refused}
-use Rattle.run.specs.Run.{Input, jobIn, startIn, runFrom, refusalOf}
+use Rattle.demands.specs.declared.RunAnswer.{RunAnswer}
+use Rattle.demands.specs.declared.RunAnswer.the-variants.{Refused}
+use Rattle.demands.specs.Input.{Input, jobIn, startIn, refusalOf}
+use Rattle.rules.specs.Runs.{runFrom}
 
 -- "every image, core count, argument list, parameters, starting memory and allowance that a run takes"
 pub record Takes (i : Input) : Type 0 where
@@ -45,13 +46,13 @@ abbrev pub IsRefusal : ℕ → Type 0
 IsRefusal n = (14 ≤ n) × (n ≤ 22)
 
 -- Demand 1, of what a run gives and how it leaves its buffers
-pub record Demand1 (i : Input) (schedule log : List ℕ) (r : Ran) (memoryAfter logAfter : List ℕ) : Type 0 where
+pub record Demand1 (i : Input) (schedule log : List ℕ) (answer : RunAnswer) (memoryAfter logAfter : List ℕ) : Type 0 where
   -- "If an image, core count, schedule, argument list or lent buffer is bad, the run gives its number from document 01 and every buffer
   -- stays untouched"
-  pub bad : ¬ (refusalOf i schedule log ≡ 0) → (r .answer ≡ Refused (refusalOf i schedule log)) × (memoryAfter ≡ i .memory) × (logAfter ≡ log)
+  pub bad : ¬ (refusalOf i schedule log ≡ 0) → (answer ≡ Refused (refusalOf i schedule log)) × (memoryAfter ≡ i .memory) × (logAfter ≡ log)
   -- "Where they are good, the run ends, within its buffers"
   pub good : refusalOf i schedule log ≡ 0
-      → (¬ ((n : ℕ) × (r .answer ≡ Refused n))) × (length memoryAfter ≡ length (i .memory)) × (length logAfter ≡ length log)
+      → (¬ ((n : ℕ) × (answer ≡ Refused n))) × (length memoryAfter ≡ length (i .memory)) × (length logAfter ≡ length log)
   -- "and a refused entry changes only its own log byte": the state, and the memory in it, stays
   pub untouched : (before : List Entry) (e : Entry) → IsRefusal (entryOf (jobIn i) (stateAfter i before) e .log)
       → stateAfter i (before ++ (e ∷ [])) ≡ stateAfter i before

@@ -23,10 +23,11 @@ use Rattle.rules.specs.Fork.{goesAbove, placeOf, born, forkOn, forkWith, forkOf
 use Rattle.rules.specs.Return.{stackletsWithout, wakes, statusAfter, readyAfter, returnToParent, returnOf}
 use Rattle.rules.specs.Rules.{carriedOf, turnOf, stepOf, takeInto, takeOf, isSeed, stolenOf, stealOf, enableOf, entryOf}
 use Rattle.rules.specs.Start.{startState}
-use Rattle.run.specs.declared.RunAnswer.{RunAnswer}
-use Rattle.run.specs.declared.RunAnswer.the-variants.{Refused}
-use Rattle.run.specs.Run.{Input, jobIn, startIn, refusalOf, runFrom, logsFrom, answerOf}
-use Rattle.run.specs.Cases.{Case, starred}
+use Rattle.demands.specs.declared.RunAnswer.{RunAnswer}
+use Rattle.demands.specs.declared.RunAnswer.the-variants.{Refused}
+use Rattle.demands.specs.Input.{Input, jobIn, startIn, refusalOf, answerOf}
+use Rattle.rules.specs.Runs.{runFrom, logsFrom}
+use Rattle.demands.specs.Cases.{Case, starred}
 
 -- the entries of a schedule that is no entries' list are none
 abbrev entriesIn : Schedule → List Entry

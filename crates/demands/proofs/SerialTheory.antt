@@ -54,7 +54,7 @@ use Rattle.serial.proofs.Unrolled.{Between, between, between-done, unrolled}
 use Rattle.simulation.proofs.JobCode.{codeOf}
 use Rattle.simulation.proofs.EntriesRun.{serialRun}
 use Rattle.simulation.proofs.PendingSlots.{none-pending}
-use Rattle.run.proofs.RoutineState.{stateOf, first-listed, weight-here, effect-here, onward-is, set-is, join-is, child-is, parent-is}
+use Rattle.demands.proofs.RoutineState.{stateOf, first-listed, weight-here, effect-here, onward-is, set-is, join-is, child-is, parent-is}
 
 -- how a serial run ended, as the theory says it: memory words as a function of the address
 abbrev pub asOutcome : Ended → TheoryOutcome

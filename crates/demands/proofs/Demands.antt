@@ -1,18 +1,17 @@
--- The demands hold: 1 of what a run gives, 2 and 3 for every input that a run takes and every list of entries. Assumes nothing.
+-- Demands 2 and 3 hold for every input that a run takes and every list of entries. Assumes nothing.
 use borrow.Author.Tests.{eq-eqb}
 use mathlib.Core.Bool.{true}
 use mathlib.Core.List.{List, [], _∷_, _++_, append-nil}
 use mathlib.Core.Logic.{_⊎_}
 use mathlib.Core.Path.{_≡_, refl, sym, _∙_, ap, subst}
-use Prim.Native.Nat.{ℕ, suc, _+_, _<_, _≤_}
+use Prim.Native.Nat.{ℕ, suc, _+_, _<_}
 use native.Mathlib.Omega.{arith}
-use lib.ListN.{length, getD, drop, length-append, length-drop}
+use lib.ListN.{length, getD}
 use Rattle.command.proofs.RoundTrip.{reads-back, writes-again}
 use Rattle.schedule.specs.declared.Entry.{Entry}
-use Rattle.schedule.specs.Meaning.{entries}
 use Rattle.forkjoin.proofs.Arrays.{words-from, words-eq}
 use Rattle.forkjoin.proofs.SerialRun.{done as t-done}
-use Rattle.rules.specs.State.{Job, State, Outcome, going, finished, faulted, isOver}
+use Rattle.rules.specs.State.{Job, State, finished, faulted, isOver}
 use Rattle.rules.specs.Rules.{entryOf, stepOf, takeOf}
 use Rattle.rules.specs.Start.{startState}
 use Rattle.rules.specs.Sound.{Sound, statusAt}
@@ -26,14 +25,12 @@ use Rattle.soundness.proofs.Finished.{finished-free, finished-numbers}
 use Rattle.soundness.proofs.KeepStacklets.{finished-stacklets}
 use Rattle.soundness.proofs.Jam.{jam}
 use Rattle.soundness.proofs.Numbers.{numbers}
-use Rattle.soundness.proofs.Unchanged.{unchanged}
 use Rattle.simulation.proofs.EntriesRun.{entries-agree, entries-faultless}
-use Rattle.run.proofs.Passing.{good, takes, has-room}
-use Rattle.run.proofs.SerialTheory.{asOutcome, memoryOf, IsTheory, is-theory}
-use Rattle.run.specs.declared.Ran.{Ran}
-use Rattle.run.specs.declared.RunAnswer.the-variants.{Refused}
-use Rattle.run.specs.Run.{Input, jobIn, startIn, runFrom, logsFrom, logged, answerOf, refusalOf, entryCount, RunsAs}
-use Rattle.run.specs.Demands.{Takes, Demand1, Demand2, Demand3, AllFree, IsRefusal, IsTight, serialIn}
+use Rattle.demands.proofs.Passing.{good}
+use Rattle.demands.proofs.SerialTheory.{asOutcome, memoryOf, IsTheory, is-theory}
+use Rattle.demands.specs.Input.{Input, jobIn, startIn}
+use Rattle.rules.specs.Runs.{runFrom, logsFrom}
+use Rattle.demands.specs.Demands.{Takes, Demand2, Demand3, AllFree, IsRefusal, IsTight, serialIn}
 
 cores-kept : (j : Job) (s : State) → Sound j s → (es : List Entry) → runFrom j s es .count ≡ s .count
 unfolding runFrom
@@ -116,7 +113,7 @@ unfolding runFrom
 run-append j s [] after = refl
 run-append j s (e ∷ before) after = run-append j (entryOf j s e .state) before after
 
-run-next : (j : Job) (s : State) (before : List Entry) (e : Entry) → runFrom j s (before ++ (e ∷ [])) ≡ entryOf j (runFrom j s before) e .state
+pub run-next : (j : Job) (s : State) (before : List Entry) (e : Entry) → runFrom j s (before ++ (e ∷ [])) ≡ entryOf j (runFrom j s before) e .state
 unfolding runFrom
 run-next j s before e = run-append j s before (e ∷ [])
 
@@ -149,37 +146,3 @@ demand-2-logged i k es rest = record {
 
 pub demand-2 : (i : Input) → Takes i → (es : List Entry) → Demand2 i es (logsFrom (jobIn i) (startIn i) es)
 demand-2 i k es = subst (Demand2 i es) (append-nil (logsFrom (jobIn i) (startIn i) es)) (demand-2-logged i k es [])
-
--- log bytes over the front of a log
-whole : (bytes log : List ℕ) → length bytes ≤ length log → length (logged log bytes) ≡ length log
-whole bytes log h = length-append bytes (drop (length bytes) log) ∙ ap (λ n. length bytes + n) (length-drop (length bytes) log) ∙ omega (arith, h)
-
--- an answer by entries is no refusal
-no-refusal : (o : Outcome) (u n : ℕ) → ¬ (answerOf o u ≡ Refused n)
-no-refusal going u n e = let z : _≡_ {A = ℕ} 0 1 = cc in omega arith
-no-refusal (finished v) u n e = let z : _≡_ {A = ℕ} 0 1 = cc in omega arith
-no-refusal (faulted m t o) u n e = let z : _≡_ {A = ℕ} 0 1 = cc in omega arith
-
-module _ (i : Input) (schedule log : List ℕ) (bytes : (k : ℕ) → getD (i .image) k 0 < 256) (r : Ran) (memoryAfter logAfter : List ℕ)
-    (runs : RunsAs i schedule log r memoryAfter logAfter) where
-  -- a run by entries: the memory and the log have the lengths that they had
-  within : refusalOf i schedule log ≡ 0
-      → (¬ ((n : ℕ) × (r .answer ≡ Refused n))) × (length memoryAfter ≡ length (i .memory)) × (length logAfter ≡ length log)
-  within passes =
-      let (es, means, p) = runs .played passes in
-      let k = takes i schedule log passes bytes in
-      let room = has-room i schedule log passes in
-      let same : entries es ≡ entries (room .all) = sym means ∙ room .means in
-      let many : length es ≡ length (room .all) = ap entryCount same in (
-        λ (n, q). no-refusal (runFrom (jobIn i) (startIn i) es .outcome) (runFrom (jobIn i) (startIn i) es .units) n (sym (p .answer) ∙ q),
-        ap length (p .memory) ∙ sound-after i k es .sized .memory ∙ sym (k .memory),
-        ap length (p .log) ∙ whole (logsFrom (jobIn i) (startIn i) es) log (omega (arith, logs-many (jobIn i) (startIn i) es, many, room .room)),
-      )
-
-  pub demand-1 : Demand1 i schedule log r memoryAfter logAfter
-  demand-1 = record {
-    bad = λ some. let q = runs .refused some in (q .answer, q .memory, q .log);
-    good = within;
-    untouched = λ before e (low, high).
-        run-next (jobIn i) (startIn i) before e ∙ unchanged (jobIn i) (runFrom (jobIn i) (startIn i) before) e low high;
-  }

@@ -3,9 +3,9 @@ use mathlib.Core.List.{List, [], _∷_}
 use Prim.Native.Nat.{ℕ}
 use lib.ListN.{replicate}
 use Rattle.image.specs.Cases.{oneRoutine, whole}
-use Rattle.run.specs.declared.RunAnswer.{RunAnswer}
-use Rattle.run.specs.declared.RunAnswer.the-variants.{Refused, Finished, Open}
-use Rattle.run.specs.Run.{Input}
+use Rattle.demands.specs.declared.RunAnswer.{RunAnswer}
+use Rattle.demands.specs.declared.RunAnswer.the-variants.{Refused, Finished, Open}
+use Rattle.demands.specs.Input.{Input}
 
 -- a row of the table
 pub record Case : Type 0 where

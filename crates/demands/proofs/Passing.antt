@@ -19,10 +19,8 @@ use Rattle.image.proofs.Places.{starts-at}
 use Rattle.schedule.specs.declared.Entry.{Entry}
 use Rattle.schedule.specs.Meaning.{Schedule, entries, malformed, scheduleOf, numberOf}
 use Rattle.rules.specs.Sound.{GoodJob}
-use Rattle.soundness.proofs.StartSound.{start-sound}
-use Rattle.run.specs.Run.{Input, jobIn, startIn, badCores, badArguments, badWords, entryCount, refusalOf}
-use Rattle.play.specs.Entries.{Playable}
-use Rattle.run.specs.Demands.{Takes}
+use Rattle.demands.specs.Input.{Input, jobIn, badCores, badArguments, badWords, entryCount, refusalOf}
+use Rattle.demands.specs.Demands.{Takes}
 
 -- a test that is not met, and what follows it
 passed : (b : Bool) (n rest : ℕ) → 1 ≤ n → cond b n rest ≡ 0 → (b ≡ false) × (rest ≡ 0)
@@ -128,13 +126,3 @@ module _ (i : Input) (schedule log : List ℕ) (passes : refusalOf i schedule lo
 
   pub has-room : Room schedule log
   has-room = room-by schedule log (scheduleOf schedule) refl (same _ _ (schedule-right .0)) (words-right .1)
-
-  pub playable : ((k : ℕ) → getD (i .image) k 0 < 256) → Playable (jobIn i) (startIn i) schedule log
-  playable bytes =
-      let t = takes bytes in
-      record {
-        all = has-room .all;
-        means = has-room .means;
-        room = has-room .room;
-        sound = start-sound (jobIn i) (i .cores) (i .arguments) (i .memory) (good i t) (t .some) (t .most) (t .memory);
-      }

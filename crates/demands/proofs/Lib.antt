@@ -1,0 +1,7 @@
+-- In reading order: the serial run is the theory's; what it says that no whole-run test is met; the demands over every list of entries; and
+-- the starred cases.
+pub mod RoutineState
+pub mod SerialTheory
+pub mod Passing
+pub mod Demands
+pub mod Cases
