@@ -2,6 +2,7 @@
 use crate::lines::after;
 use crate::lines::count;
 use crate::lines::find;
+use crate::lines::from_part;
 use crate::print::bad_line;
 ghost use Prim.Native.Nat.{_≤_, _<_};
 ghost use mathlib.Core.Path.{_≡_};
@@ -18,9 +19,9 @@ pub fn digit(byte: u8, base: u8) -> u8
         }
     }
     if base == 16 {
-        if b'A' <= byte {
-            if byte <= b'F' {
-                return byte - b'A' + 10;
+        if b'a' <= byte {
+            if byte <= b'f' {
+                return byte - b'a' + 10;
             }
         }
     }
@@ -28,18 +29,7 @@ pub fn digit(byte: u8, base: u8) -> u8
     0
 }
 
-// A line from field k on; the keyword is field 0.
-fn fields(line: &[u8], k: usize) -> &[u8] {
-    let mut at: usize = 0;
-    let mut left = k;
-    while 0 < left {
-        at = after(line, at, b' ');
-        left = left - 1;
-    }
-    &line[at..]
-}
-
-// The number that a text begins with, up to a blank.
+// The decimal number that a text begins with, up to a blank.
 fn decimal(text: &[u8]) -> u64 {
     let end = find(text, 0, b' ');
     if end == 0 {
@@ -59,11 +49,11 @@ fn decimal(text: &[u8]) -> u64 {
     n
 }
 
-// Field k of a line, which is to be at most `most`.
+// Field k of a line, which is to be at most `most`; the keyword is field 0.
 pub fn number(line: &[u8], k: usize, most: u64) -> u64
     ensures { λ r. ⌜ r ≤ most ⌝ }
 {
-    let n = decimal(fields(line, k));
+    let n = decimal(from_part(line, k, b' '));
     if most < n {
         bad_line();
         return most;
@@ -84,7 +74,7 @@ pub fn numbers(line: &[u8], k: usize, values: &mut [u32]) -> usize
         if last - k < n {
             return n;
         }
-        values[n] = number(fields(line, k), n, 4294967295) as u32;
+        values[n] = number(from_part(line, k, b' '), n, 4294967295) as u32;
         n = n + 1;
     }
     n
@@ -150,5 +140,5 @@ fn append_words(text: &[u8], buffer: &mut [u8]) -> usize
 pub fn bytes(line: &[u8], k: usize, buffer: &mut [u8]) -> usize
     ensures { λ r. ⌜ Counts r (now (buffer .exit)) ⌝ }
 {
-    append_words(fields(line, k), buffer)
+    append_words(from_part(line, k, b' '), buffer)
 }

@@ -2,7 +2,7 @@
 //
 // - A line is a keyword and its fields, each after one blank. The keyword's first letter tells what is to be done.
 // - Numbers are decimal.
-// - Bytes are hexadecimal, two digits each, in words of any length: `0D00` is `0D 00`, and `3*0D00` is that three times.
+// - Bytes are hexadecimal, two digits each, in words of any length: `0d00` is `0d 00`, and `3*0d00` is that three times.
 // - A line that begins with `"` is printed without it, and the next line's answer goes on behind it.
 // - A line that is empty or begins with `#` is a comment.
 //
@@ -17,7 +17,6 @@ pub use fields::numbers;
 pub use lines::after;
 pub use lines::key;
 pub use lines::line;
-pub use print::end_line;
-pub use print::print_hex;
-pub use print::print_number;
+pub use print::print_bytes;
+pub use print::print_format;
 pub use print::print_text;

@@ -30,6 +30,17 @@ pub fn after(text: &[u8], at: usize, byte: u8) -> usize
     place
 }
 
+// A text from part k on, where a byte parts it; the first is part 0.
+pub fn from_part(text: &[u8], k: usize, byte: u8) -> &[u8] {
+    let mut at: usize = 0;
+    let mut left = k;
+    while 0 < left {
+        at = after(text, at, byte);
+        left = left - 1;
+    }
+    &text[at..]
+}
+
 // The line at a position, without its end.
 pub fn line(input: &[u8], at: usize) -> &[u8]
     ensures { λ r. ⌜ length (now r) ≤ length (now (input .entry)) - at ⌝ }

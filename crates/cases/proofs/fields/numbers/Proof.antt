@@ -31,8 +31,8 @@ same-length-2 c = search needs
 returns-2 : tie.Need-returns-2 Inv-loop μ-loop
 returns-2 c = (search needs, simp length-take (search needs))
 
-fields-requires : tie.Need-fields-requires Inv-loop μ-loop
-fields-requires c κs = search needs
+from-part-requires : tie.Need-from-part-requires Inv-loop μ-loop
+from-part-requires c κs = search needs
 
 number-requires : tie.Need-number-requires Inv-loop μ-loop
 number-requires c κs = search needs
@@ -73,7 +73,7 @@ numbers-spec =
     returns
     same-length-2
     returns-2
-    fields-requires
+    from-part-requires
     number-requires
     cast-values
     mul-values

@@ -1,9 +1,9 @@
--- `cases::print::print_hex` is safe and ends: each turn leaves one byte fewer. Assumes nothing.
+-- `cases_image::show::print_hex` is safe and ends: each turn leaves one byte fewer. Assumes nothing.
 use Prim.Native.Nat.{_-_}
 use lib.ListN.{length}
 use borrow.Author.Needs.{needs}
-use Rattle.cases.proofs.print.print_hex.Statement.{statement}
-use Rattle.cases.proofs.print.print_hex.Tie as tie
+use Rattle.cases_image.proofs.show.print_hex.Statement.{statement}
+use Rattle.cases_image.proofs.show.print_hex.Tie as tie
 
 abbrev Inv-loop : tie.InvT-loop
 Inv-loop bytes i₀ i = Unit {0}

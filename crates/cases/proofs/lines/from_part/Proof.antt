@@ -1,15 +1,15 @@
--- `cases::fields::fields` is safe and ends: each turn leaves one field fewer to skip. Assumes nothing.
+-- `cases::lines::from_part` is safe and ends: each turn leaves one part fewer to skip. Assumes nothing.
 use Prim.Native.Nat.{_≤_}
 use lib.ListN.{length}
 use borrow.Author.Needs.{needs}
-use Rattle.cases.proofs.fields.fields.Statement.{statement}
-use Rattle.cases.proofs.fields.fields.Tie as tie
+use Rattle.cases.proofs.lines.from_part.Statement.{statement}
+use Rattle.cases.proofs.lines.from_part.Tie as tie
 
 abbrev Inv-loop : tie.InvT-loop
-Inv-loop line k at₀ left₀ at left = at ≤ length line
+Inv-loop text k byte at₀ left₀ at left = at ≤ length text
 
 abbrev μ-loop : tie.MeasureT-loop
-μ-loop line k at₀ left₀ at left = left
+μ-loop text k byte at₀ left₀ at left = left
 
 loop-holds : tie.Need-loop-holds Inv-loop μ-loop
 loop-holds c = search needs
@@ -38,8 +38,8 @@ part-result-end c = search needs
 returns : tie.Need-returns Inv-loop μ-loop
 returns c = search needs
 
-pub fields-spec : {M : Type 1} → statement M
-fields-spec =
+pub from-part-spec : {M : Type 1} → statement M
+from-part-spec =
     tie.close
     (tie.spec
     Inv-loop
