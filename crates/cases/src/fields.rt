@@ -65,16 +65,18 @@ pub fn number(line: &[u8], k: usize, most: u64) -> u64
 pub fn numbers(line: &[u8], k: usize, values: &mut [u32]) -> usize
     ensures { λ r. ⌜ Counts r (now (values .exit)) ⌝ }
 {
-    let last = count(line, b' ');
+    let rest = from_part(line, k, b' ');
+    if rest.len() == 0 {
+        return 0;
+    }
+    let blanks = count(rest, b' ');
     let mut n: usize = 0;
-    while n < values.len() {
-        if last < k {
+    while n <= blanks {
+        if values.len() <= n {
+            bad_line();
             return n;
         }
-        if last - k < n {
-            return n;
-        }
-        values[n] = number(from_part(line, k, b' '), n, 4294967295) as u32;
+        values[n] = number(rest, n, 4294967295) as u32;
         n = n + 1;
     }
     n
