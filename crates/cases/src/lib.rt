@@ -15,6 +15,7 @@ pub use fields::bytes;
 pub use fields::number;
 pub use fields::numbers;
 pub use lines::after;
+pub use lines::from_part;
 pub use lines::key;
 pub use lines::line;
 pub use print::print_bytes;

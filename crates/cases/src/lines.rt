@@ -31,7 +31,9 @@ pub fn after(text: &[u8], at: usize, byte: u8) -> usize
 }
 
 // A text from part k on, where a byte parts it; the first is part 0.
-pub fn from_part(text: &[u8], k: usize, byte: u8) -> &[u8] {
+pub fn from_part(text: &[u8], k: usize, byte: u8) -> &[u8]
+    ensures { λ r. ⌜ length (now r) ≤ length (now (text .entry)) ⌝ }
+{
     let mut at: usize = 0;
     let mut left = k;
     while 0 < left {
