@@ -12,6 +12,7 @@ mod lines;
 mod print;
 
 pub use fields::bytes;
+pub use fields::digit;
 pub use fields::number;
 pub use fields::numbers;
 pub use lines::after;
