@@ -3,7 +3,9 @@ use crate::fields::digit;
 use crate::print::bad_line;
 use crate::print::print_text;
 ghost use Prim.Native.Nat.{_-_, _≤_};
-ghost use lib.ListN.{length};
+ghost use mathlib.Core.Logic.{_⊎_};
+ghost use mathlib.Core.Path.{_≡_};
+ghost use lib.ListN.{length, getD};
 
 // The first place of a byte from a position on; the text's length where there is none.
 pub fn find(text: &[u8], at: usize, byte: u8) -> usize
@@ -68,7 +70,9 @@ pub fn count(text: &[u8], byte: u8) -> usize {
 }
 
 // The first letter of a line's keyword, if it is among the keys; else 0. Behind each key stands the number of fields that its lines have, or `*`.
-pub fn key(line: &[u8], keys: &[u8]) -> u8 {
+pub fn key(line: &[u8], keys: &[u8]) -> u8
+    ensures { λ r. ⌜ (r ≡ 0) ⊎ (r ≡ getD (now (line .entry)) 0 0) ⌝ }
+{
     if line.len() == 0 {
         return 0;
     }
