@@ -4,14 +4,11 @@
 // whether a frame is the topmost.
 use stacklets::Stacklets;
 
-const NO: usize = 0;
-
-const YES: usize = 1;
-
 const NUMBER: usize = 2;
 
 const FOUR: usize = 3;
 
+// Formats 0 and 1 are for a test that is false or true.
 fn print(format: usize, a: u32, b: u32, c: u32, d: u32) {
     cases::print_format(
         b" no\n/ yes\n/ #\n/: # # # #",
@@ -21,14 +18,6 @@ fn print(format: usize, a: u32, b: u32, c: u32, d: u32) {
         c as u64,
         d as u64,
     );
-}
-
-fn print_whether(b: bool) {
-    if b {
-        print(YES, 0, 0, 0, 0);
-    } else {
-        print(NO, 0, 0, 0, 0);
-    }
 }
 
 fn print_five(words: &[u32; 1024], base: u16) {
@@ -75,7 +64,7 @@ fn print_case(key: u8, line: &[u8], s: Stacklets, words: &[u32; 1024]) {
     cases::print_text(line);
     match key {
         b't' => print(NUMBER, s.top(byte(line, 1)) as u32, 0, 0, 0),
-        b'f' => print_whether(s.fits(byte(line, 1), byte(line, 2))),
+        b'f' => print(s.fits(byte(line, 1), byte(line, 2)) as usize, 0, 0, 0, 0),
         b'w' => print_five(words, base(line, 1)),
         _ => {}
     }
@@ -93,7 +82,13 @@ pub fn case(line: &[u8], s: Stacklets, words: &mut [u32; 1024]) -> Stacklets {
             s
         }
         b'h' => {
-            print_whether(s.is_topmost(base(line, 1), byte(line, 2)));
+            print(
+                s.is_topmost(base(line, 1), byte(line, 2)) as usize,
+                0,
+                0,
+                0,
+                0,
+            );
             s
         }
         _ => {

@@ -3,10 +3,6 @@
 use window::Cut;
 use window::Window;
 
-const NO: usize = 0;
-
-const YES: usize = 1;
-
 const ENDS: usize = 2;
 
 const CHILD: usize = 3;
@@ -15,6 +11,7 @@ const REST: usize = 4;
 
 const OUT_OF_RANGE: usize = 5;
 
+// Formats 0 and 1 are for a test that is false or true.
 fn print(format: usize, lo: u16, mark: u16, hi: u16) {
     cases::print_format(
         b" no\n/ yes\n/window # # #\n/ child # # #/ rest # # #\n/ out of range\n",
@@ -28,14 +25,6 @@ fn print(format: usize, lo: u16, mark: u16, hi: u16) {
 
 fn print_ends(format: usize, w: Window) {
     print(format, w.lo, w.mark, w.hi);
-}
-
-fn print_whether(b: bool) {
-    if b {
-        print(YES, 0, 0, 0);
-    } else {
-        print(NO, 0, 0, 0);
-    }
 }
 
 fn print_cut(cut: Cut) {
@@ -60,8 +49,8 @@ fn end(line: &[u8], k: usize) -> u16 {
 fn print_case(key: u8, line: &[u8], w: Window) {
     match key {
         b'e' => print_ends(ENDS, w),
-        b'l' => print_whether(w.may_load(address(line))),
-        b's' => print_whether(w.may_store(address(line))),
+        b'l' => print(w.may_load(address(line)) as usize, 0, 0, 0),
+        b's' => print(w.may_store(address(line)) as usize, 0, 0, 0),
         b'c' => print_cut(w.cut(address(line))),
         _ => {}
     }
