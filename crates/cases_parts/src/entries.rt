@@ -1,163 +1,122 @@
-// Schedule entries: read, counted and written.
-use crate::show::byte;
-use crate::show::end_line;
-use crate::show::size;
-use crate::show::text;
+// Schedule entries: `entry read AT BYTES` prints the number of bytes, the position, the entry there and the position after it. `entry write
+// AT BYTES` writes the entry of these bytes into six bytes of 99 and prints the entry, the position, the number of bytes written, and the
+// six bytes. `count BYTES` prints the number of bytes and of entries.
 use schedule::Counted;
 use schedule::Entry;
 use schedule::EntryRead;
 use schedule::Written;
 
-fn entry(e: Entry) {
-    match e {
-        Entry::Step(c) => {
-            text(b" step");
-            byte(c);
-        }
-        Entry::Take(c) => {
-            text(b" take");
-            byte(c);
-        }
-        Entry::Steal(c, t) => {
-            text(b" steal");
-            byte(c);
-            byte(t);
-        }
-        Entry::Enable(t) => {
-            text(b" enable");
-            byte(t);
-        }
-    }
-}
+const STEP: usize = 0;
 
-fn read(bytes: &[u8], at: usize) {
-    text(b"read");
-    size(bytes.len());
-    size(at);
-    text(b":");
-    let found = schedule::read(bytes, at);
-    match found {
-        EntryRead::Found(e, next) => {
-            entry(e);
-            size(next);
-        }
-        EntryRead::End => text(b" end"),
-        EntryRead::Malformed => text(b" refused 13"),
-    }
-    end_line();
-}
+const TAKE: usize = 1;
 
-// The label gives the number of bytes and the position.
-pub fn reads() {
-    // step 7 2, take 8 2, steal 1 9 3, enable 31 2: the operands and the next position
-    read(b"\x01\x07", 0);
-    read(b"\x02\x08", 0);
-    read(b"\x03\x01\x09", 0);
-    read(b"\x04\x1f", 0);
-    // entries cut short: refused 13
-    read(b"\x01", 0);
-    read(b"\x02", 0);
-    read(b"\x03", 0);
-    read(b"\x03\x01", 0);
-    read(b"\x04", 0);
-    // unknown bytes: refused 13
-    read(b"\x00\x00\x00", 0);
-    read(b"\x05\x00\x00", 0);
-    read(b"\xff", 0);
-    // in the middle: steal 1 0 5, and enable 2 7 after it
-    read(b"\x01\x00\x03\x01\x00\x04\x02", 2);
-    read(b"\x01\x00\x03\x01\x00\x04\x02", 5);
-    // the last byte alone is cut: refused 13
-    read(b"\x01\x00\x03\x01\x00\x04\x02", 6);
-    // at the end and past it: end
-    read(b"\x01\x00\x03\x01\x00\x04\x02", 7);
-    read(b"\x01\x00\x03\x01\x00\x04\x02", 8);
-    read(b"\x01\x00\x03\x01\x00\x04\x02", 18446744073709551615);
-}
+const STEAL: usize = 2;
 
-fn count(bytes: &[u8]) {
-    text(b"count");
-    size(bytes.len());
-    text(b":");
-    let counted = schedule::count(bytes);
-    match counted {
-        Counted::Entries(n) => size(n),
-        Counted::Malformed => text(b" refused 13"),
-    }
-    end_line();
-}
+const ENABLE: usize = 3;
 
-pub fn counts() {
-    let short = [1u8; 1];
-    // no bytes, no entries: 0
-    count(&short[..0]);
-    // one byte: refused 13
-    count(&short);
-    // one of each: 4
-    count(b"\x01\x00\x02\x01\x03\x01\x00\x04\x1f");
-    // the last one cut: refused 13
-    count(b"\x01\x00\x02\x01\x03\x01\x00\x04");
-    count(b"\x01\x00\x02\x01\x03\x01");
-    // an unknown byte after good entries: refused 13
-    count(b"\x01\x00\x05\x00");
-    // the whole case's schedule: 12
-    count(
-        b"\x01\x00\x01\x00\x03\x01\x00\x02\x01\x01\x01\x01\x01\x01\x00\x01\x00\x01\x00\x01\x00\x01\x00\x04\x01",
+const NUMBER: usize = 4;
+
+const END: usize = 5;
+
+const REFUSED: usize = 6;
+
+const READ: usize = 7;
+
+const COUNT: usize = 8;
+
+const WRITE: usize = 9;
+
+const AT: usize = 10;
+
+const WRITTEN: usize = 11;
+
+const NO_ROOM: usize = 12;
+
+const END_LINE: usize = 13;
+
+fn print(format: usize, a: usize, b: usize) {
+    cases::print_format(
+        b" step #/ take #/ steal # #/ enable #/ #\n/ end\n/ refused 13\n/read # #:/count #:/write/ #:/ #,/ no room,/\n",
+        format,
+        a as u64,
+        b as u64,
+        0,
+        0,
     );
 }
 
-pub fn long_counts() {
-    // the entry 01 01 over and over: 16384 of them in 32,768 bytes, and 13 in 32,767, cut
-    let longest = [1u8; 32768];
-    count(&longest);
-    count(&longest[..32767]);
-    // over 32,768 bytes: refused 13
-    let longer = [1u8; 32770];
-    count(&longer);
-    count(&longer[..32769]);
-}
-
-fn six(b: [u8; 6]) {
-    byte(b[0]);
-    byte(b[1]);
-    byte(b[2]);
-    byte(b[3]);
-    byte(b[4]);
-    byte(b[5]);
-}
-
-// An entry written into six bytes of 99: the position, the answer and the bytes afterwards.
-fn write(e: Entry, at: usize) {
-    text(b"write");
-    entry(e);
-    size(at);
-    text(b":");
-    let mut buffer = [99u8; 6];
-    let written = schedule::write(e, &mut buffer, at);
-    match written {
-        Written::Bytes(n) => size(n),
-        Written::NoRoom => text(b" no room"),
+fn print_entry(e: Entry) {
+    match e {
+        Entry::Step(c) => print(STEP, c as usize, 0),
+        Entry::Take(c) => print(TAKE, c as usize, 0),
+        Entry::Steal(c, t) => print(STEAL, c as usize, t as usize),
+        Entry::Enable(t) => print(ENABLE, t as usize, 0),
     }
-    text(b",");
-    six(buffer);
-    end_line();
 }
 
-pub fn writes() {
-    // 2, 1 7 99 99 99 99
-    write(Entry::Step(7), 0);
-    // 2, 99 2 8 99 99 99
-    write(Entry::Take(8), 1);
-    // just fits: 2, 99 99 99 99 4 31
-    write(Entry::Enable(31), 4);
-    // just does not: no room, all 99
-    write(Entry::Enable(31), 5);
-    // just fits: 3, 99 99 99 3 1 9
-    write(Entry::Steal(1, 9), 3);
-    // just does not: no room, all 99
-    write(Entry::Steal(1, 9), 4);
-    // at the end, past it, and at the largest position: no room, all 99
-    write(Entry::Step(7), 6);
-    write(Entry::Step(7), 7);
-    write(Entry::Steal(1, 9), 18446744073709551615);
+fn print_read(bytes: &[u8], at: usize) {
+    print(READ, bytes.len(), at);
+    match schedule::read(bytes, at) {
+        EntryRead::Found(e, next) => {
+            print_entry(e);
+            print(NUMBER, next, 0);
+        }
+        EntryRead::End => print(END, 0, 0),
+        EntryRead::Malformed => print(REFUSED, 0, 0),
+    }
+}
+
+fn print_count(bytes: &[u8]) {
+    print(COUNT, bytes.len(), 0);
+    match schedule::count(bytes) {
+        Counted::Entries(n) => print(NUMBER, n, 0),
+        Counted::Malformed => print(REFUSED, 0, 0),
+    }
+}
+
+fn print_written(written: Written) {
+    match written {
+        Written::Bytes(n) => print(WRITTEN, n, 0),
+        Written::NoRoom => print(NO_ROOM, 0, 0),
+    }
+}
+
+fn write(e: Entry, at: usize) {
+    print(WRITE, 0, 0);
+    print_entry(e);
+    print(AT, at, 0);
+    let mut six = [99u8; 6];
+    print_written(schedule::write(e, &mut six, at));
+    cases::print_bytes(&six);
+    print(END_LINE, 0, 0);
+}
+
+fn print_write(bytes: &[u8], at: usize) {
+    match schedule::read(bytes, 0) {
+        EntryRead::Found(e, _) => write(e, at),
+        EntryRead::End => print(END, 0, 0),
+        EntryRead::Malformed => print(REFUSED, 0, 0),
+    }
+}
+
+fn bytes_case(key: u8, bytes: &[u8], at: usize) {
+    match key {
+        b'r' => print_read(bytes, at),
+        b'w' => print_write(bytes, at),
+        _ => {}
+    }
+}
+
+pub fn case(line: &[u8]) {
+    let key = cases::key(line, b"r*w*");
+    let at = cases::number(line, 1, 18446744073709551615) as usize;
+    let mut buffer = io::buffer();
+    let n = cases::bytes(line, 2, &mut buffer);
+    bytes_case(key, &buffer[..n], at);
+}
+
+pub fn count(line: &[u8]) {
+    let mut buffer = io::large_buffer();
+    let n = cases::bytes(line, 1, &mut buffer);
+    print_count(&buffer[..n]);
 }

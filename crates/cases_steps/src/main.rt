@@ -1,20 +1,34 @@
-// Runs by schedule, each printed as its log, the first memory words and its answer. The expected lines were worked out by a second
-// implementation, written from document 01 alone; document 01's own cases are among them, with the lines that it gives.
-mod entries;
-mod faults;
-mod memory;
-mod refusals;
-mod show;
-mod starred;
-mod tables;
-mod threads;
+// Runs by schedule. The expected lines were worked out by a second implementation, written from document 01 alone; document 01's own cases are
+// among them, with the lines that it gives.
+//
+// The cases are the lines of standard input, in the form that the crate `cases` tells:
+//
+// - `image BYTES` is the image of the runs after it, and `schedule BYTES` their schedule.
+// - `run CORES ALLOWANCE ARGUMENTS` is a run on zero parameter and memory words. It prints the log, the words at 32 to 35, and the answer.
+mod runs;
+
+fn all(input: &[u8]) {
+    let mut image: usize = 0;
+    let mut schedule: usize = 0;
+    let mut at: usize = 0;
+    while at < input.len() {
+        let line = cases::line(input, at);
+        match cases::key(line, b"i*s*r*") {
+            b'i' => image = at,
+            b's' => schedule = at,
+            b'r' => runs::run(
+                line,
+                cases::line(input, image),
+                cases::line(input, schedule),
+            ),
+            _ => {}
+        }
+        at = cases::after(input, at, b'\n');
+    }
+}
 
 fn main() {
-    starred::starred();
-    refusals::refusals();
-    entries::entries();
-    threads::threads();
-    tables::tables();
-    faults::faults();
-    memory::memory();
+    let mut input = io::large_buffer();
+    let n = io::read_full(0, &mut input);
+    all(&input[..n]);
 }

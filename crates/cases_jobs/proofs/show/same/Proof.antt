@@ -1,6 +1,6 @@
--- `cases_jobs::show::same` is safe and ends. Assumes nothing.
-use borrow.Author.Needs.{needs}
+-- `cases_jobs::show::same` is safe and ends: each turn leaves one word fewer. Assumes nothing.
 use Prim.Native.Nat.{_-_}
+use borrow.Author.Needs.{needs}
 use Rattle.cases_jobs.proofs.show.same.Statement.{statement}
 use Rattle.cases_jobs.proofs.show.same.Tie as tie
 
