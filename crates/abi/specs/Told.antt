@@ -2,8 +2,8 @@
 use mathlib.Core.List.{List}
 use mathlib.Core.Path.{_≡_}
 use Prim.Native.Nat.{ℕ}
-use Rattle.run.specs.declared.Ran.{Ran}
 use Rattle.demands.specs.Input.{Input}
+use Rattle.run.specs.declared.Ran.{Ran}
 use Rattle.run.specs.Promise.{Promise}
 use Rattle.abi.specs.Words.{answerWords, statusesUpTo}
 

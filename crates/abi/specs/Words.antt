@@ -2,10 +2,10 @@
 use mathlib.Core.List.{List, [], _∷_}
 use Prim.Native.Nat.{ℕ, zero, suc}
 use lib.ListN.{getD, set, replicate}
-use Rattle.demands.specs.declared.RunAnswer.{RunAnswer}
-use Rattle.demands.specs.declared.RunAnswer.the-variants.{Refused, Finished, Faulted, Open}
 use Rattle.thread.specs.declared.Thread.{Thread}
 use Rattle.thread.specs.Thread.{blankThread, statusNumber}
+use Rattle.demands.specs.declared.RunAnswer.{RunAnswer}
+use Rattle.demands.specs.declared.RunAnswer.the-variants.{Refused, Finished, Faulted, Open}
 
 -- 0 and the number of a refused run; 1, result and units; 2, number, thread and offset; 3 and the units
 abbrev pub answerWords : RunAnswer → List ℕ

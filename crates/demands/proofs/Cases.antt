@@ -9,24 +9,24 @@ use Rattle.command.specs.Command.{commandAt, decoded}
 use Rattle.image.specs.Layout.{startOf, rowsOf, startsUpTo}
 use Rattle.image.specs.Code.{commandsFrom, commandsOf, verdictFrom, lastEnds, isStart, targetsGood, routineVerdict}
 use Rattle.image.specs.Image.{rowsGood, inRange, routinesVerdict, imageVerdict}
-use Rattle.queue.specs.Contents.{appended}
 use Rattle.schedule.specs.declared.Entry.{Entry}
 use Rattle.schedule.specs.Meaning.{Schedule, entries, malformed, scheduleOf, entriesOf}
+use Rattle.queue.specs.Contents.{appended}
+use Rattle.window.specs.Rights.{mayStore, mayLoad, cutAt}
 use Rattle.stacklets.specs.Tops.{fitsOn, pushedTops}
 use Rattle.stacklets.specs.Frames.{argumentsAt, framed, pushedWords}
 use Rattle.thread.specs.Effect.{run, anyPending, unlessPending, provided, forking, effectOf}
 use Rattle.thread.specs.Thread.{isPending, withPending}
-use Rattle.window.specs.Rights.{mayStore, mayLoad, cutAt}
 use Rattle.rules.specs.Turn.{effectAt}
 use Rattle.rules.specs.Leave.{leaves}
 use Rattle.rules.specs.Fork.{goesAbove, placeOf, born, forkOn, forkWith, forkOf}
 use Rattle.rules.specs.Return.{stackletsWithout, wakes, statusAfter, readyAfter, returnToParent, returnOf}
 use Rattle.rules.specs.Rules.{carriedOf, turnOf, stepOf, takeInto, takeOf, isSeed, stolenOf, stealOf, enableOf, entryOf}
 use Rattle.rules.specs.Start.{startState}
+use Rattle.rules.specs.Runs.{runFrom, logsFrom}
 use Rattle.demands.specs.declared.RunAnswer.{RunAnswer}
 use Rattle.demands.specs.declared.RunAnswer.the-variants.{Refused}
 use Rattle.demands.specs.Input.{Input, jobIn, startIn, refusalOf, answerOf}
-use Rattle.rules.specs.Runs.{runFrom, logsFrom}
 use Rattle.demands.specs.Cases.{Case, starred}
 
 -- the entries of a schedule that is no entries' list are none

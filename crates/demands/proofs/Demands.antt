@@ -11,13 +11,14 @@ use Rattle.command.proofs.RoundTrip.{reads-back, writes-again}
 use Rattle.schedule.specs.declared.Entry.{Entry}
 use Rattle.forkjoin.proofs.Arrays.{words-from, words-eq}
 use Rattle.forkjoin.proofs.SerialRun.{done as t-done}
+use Rattle.thread.specs.declared.Status.the-variants.{Free}
+use Rattle.census.proofs.Totals.{all-in}
 use Rattle.rules.specs.State.{Job, State, finished, faulted, isOver}
 use Rattle.rules.specs.Rules.{entryOf, stepOf, takeOf}
 use Rattle.rules.specs.Start.{startState}
 use Rattle.rules.specs.Sound.{Sound, statusAt}
+use Rattle.rules.specs.Runs.{runFrom, logsFrom}
 use Rattle.serial.specs.Serial.{Ended, done, stopped, serialOf, serialFrom}
-use Rattle.thread.specs.declared.Status.the-variants.{Free}
-use Rattle.census.proofs.Totals.{all-in}
 use Rattle.soundness.proofs.Kept.{run-sound, entry-sound}
 use Rattle.soundness.proofs.KeepSized.{keep-count}
 use Rattle.soundness.proofs.StartSound.{start-sound}
@@ -29,7 +30,6 @@ use Rattle.simulation.proofs.EntriesRun.{entries-agree, entries-faultless}
 use Rattle.demands.proofs.Passing.{good}
 use Rattle.demands.proofs.SerialTheory.{asOutcome, memoryOf, IsTheory, is-theory}
 use Rattle.demands.specs.Input.{Input, jobIn, startIn}
-use Rattle.rules.specs.Runs.{runFrom, logsFrom}
 use Rattle.demands.specs.Demands.{Takes, Demand2, Demand3, AllFree, IsRefusal, IsTight, serialIn}
 
 cores-kept : (j : Job) (s : State) → Sound j s → (es : List Entry) → runFrom j s es .count ≡ s .count

@@ -8,12 +8,12 @@ use Prim.Native.Nat.{ℕ, _≤_, _<_}
 use native.Mathlib.Omega.{arith}
 use lib.Dec.{ltb, eqb}
 use lib.ListN.{length, getD}
+use Rattle.command.proofs.Tables.{weight-least}
 use Rattle.image.specs.declared.Verdict.{Verdict}
 use Rattle.image.specs.declared.Verdict.the-variants.{Accepted, Refused}
 use Rattle.image.specs.declared.Refusal.{Refusal}
 use Rattle.image.specs.declared.Refusal.the-variants.{BadLength, BadCount, BadRow, UnknownByte, OperandsCutOff, OutOfRange, BadEnd, BadTarget}
 use Rattle.image.specs.Image.{imageVerdict, numberIn, numberOf as refusalNumber}
-use Rattle.command.proofs.Tables.{weight-least}
 use Rattle.image.proofs.Accepted.{accepted}
 use Rattle.image.proofs.Places.{starts-at}
 use Rattle.schedule.specs.declared.Entry.{Entry}

@@ -12,13 +12,13 @@ use lib.ListN.{getD, length, take, drop, length-take, List·getD-eq-default}
 use lib.Seq.{getD-take, getD-drop}
 use Rattle.command.specs.Command.{decodedAt, widthOf}
 use Rattle.command.specs.Weight.{weightOf}
-use Rattle.forkjoin.proofs.Update.{update}
-use Rattle.forkjoin.proofs.Arrays.{listed, listed-set}
 use Rattle.image.specs.Layout.{argumentsOf, startOf}
-use Rattle.stacklets.specs.Frames.{slotOf}
 use Rattle.window.specs.declared.Window.{Window}
 use Rattle.window.specs.Rights.{childOf, restOf, rejoined}
 use Rattle.window.proofs.Instance.{windows}
+use Rattle.stacklets.specs.Frames.{slotOf}
+use Rattle.forkjoin.proofs.Update.{update}
+use Rattle.forkjoin.proofs.Arrays.{listed, listed-set}
 use Rattle.thread.specs.Effect.{effectOf}
 use Rattle.thread.specs.View.{viewOf}
 use Rattle.thread.specs.Thread.{isPending}

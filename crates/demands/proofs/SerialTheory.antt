@@ -11,9 +11,6 @@ use native.Mathlib.Omega.{arith}
 use borrow.Author.Tests.{lt-ltb, le-ltb, le-leb, lt-leb, ltb-true, ltb-false}
 use lib.Dec.{ltb}
 use lib.ListN.{getD, set, length, length-set}
-use Rattle.forkjoin.proofs.Update.{update}
-use Rattle.forkjoin.proofs.Arrays.{words-from, words-set}
-use Rattle.forkjoin.proofs.SerialRun.{Outcome as TheoryOutcome, done as t-done, stopped as t-stopped, and-then}
 use Rattle.image.specs.Layout.{argumentsOf}
 use Rattle.image.proofs.Accepted.{accepted}
 use Rattle.image.proofs.Laws.{slots-most, arguments-most}
@@ -21,31 +18,15 @@ use Rattle.window.specs.declared.Window.{Window}
 use Rattle.window.specs.Rights.{rootWindow, childOf, restOf, cutAt}
 use Rattle.window.proofs.Laws.{cut-made, root-fits}
 use Rattle.window.proofs.Instance.{windows, partsOf}
+use Rattle.forkjoin.proofs.Update.{update}
+use Rattle.forkjoin.proofs.Arrays.{words-from, words-set}
+use Rattle.forkjoin.proofs.SerialRun.{Outcome as TheoryOutcome, done as t-done, stopped as t-stopped, and-then}
 use Rattle.thread.specs.declared.Effect.{Effect}
 use Rattle.thread.specs.declared.Effect.the-variants.{Faults, Sets, Loads, Stores, Goes, Continues, Lforks, Forks, Joins, Suspends, Yields, Returns}
 use Rattle.thread.specs.Job.{Job, GoodJob}
 use Rattle.thread.proofs.ThreadState.{ThreadState, effect, onward}
 use Rattle.thread.proofs.MarkedWindows.{window-tests}
-use Rattle.thread.proofs.SerialSteps.{
-  serial,
-  serial-short,
-  serial-faults,
-  serial-sets,
-  serial-loads-parameter,
-  serial-loads,
-  serial-stores,
-  serial-goes,
-  serial-continues,
-  serial-suspends,
-  serial-yields,
-  serial-joins,
-  serial-returns,
-  serial-lforks,
-  serial-forks,
-  serial-lforks-deep,
-  serial-forks-deep,
-  then-child,
-}
+use Rattle.thread.proofs.SerialSteps.{serial, serial-short, serial-faults, serial-sets, serial-loads-parameter, serial-loads, serial-stores, serial-goes, serial-continues, serial-suspends, serial-yields, serial-joins, serial-returns, serial-lforks, serial-forks, serial-lforks-deep, serial-forks-deep, then-child}
 use Rattle.serial.specs.declared.Routine.{Routine}
 use Rattle.serial.specs.Serial.{Ended, done, stopped, andThen, movedTo, withSlot, goesOn, joined, forked, startedOn, argumentsFrom, wordAt, weightAt, effectAt, forkCalled, carried, runFrom, serialFrom}
 use Rattle.serial.specs.Steps.{GoodRoutine}

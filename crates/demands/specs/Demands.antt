@@ -19,12 +19,12 @@ use Rattle.rules.specs.Lists.{Member}
 use Rattle.rules.specs.State.{State, finished, faulted, isOver}
 use Rattle.rules.specs.Rules.{stepOf, takeOf, entryOf}
 use Rattle.rules.specs.Sound.{statusAt}
-use Rattle.soundness.specs.Numbers.{Numbers}
+use Rattle.rules.specs.Runs.{runFrom}
 use Rattle.serial.specs.Serial.{Ended, done, stopped, serialOf}
+use Rattle.soundness.specs.Numbers.{Numbers}
 use Rattle.demands.specs.declared.RunAnswer.{RunAnswer}
 use Rattle.demands.specs.declared.RunAnswer.the-variants.{Refused}
 use Rattle.demands.specs.Input.{Input, jobIn, startIn, refusalOf}
-use Rattle.rules.specs.Runs.{runFrom}
 
 -- "every image, core count, argument list, parameters, starting memory and allowance that a run takes"
 pub record Takes (i : Input) : Type 0 where

@@ -10,14 +10,14 @@ use native.Mathlib.Omega.{arith}
 use lib.Dec.{eqb}
 use lib.ListN.{getD, set, length, List·getD-eq-default}
 use lib.Seq.{getD-set-same}
-use Rattle.thread.specs.declared.Thread.{Thread}
 use Rattle.queue.specs.Contents.{contents}
+use Rattle.thread.specs.declared.Thread.{Thread}
 use Rattle.thread.specs.Thread.{statusNumber, blankThread, movedTo}
-use Rattle.machine.specs.declared.Machine.{Machine}
 use Rattle.rules.specs.State.{Job, State, threadAt}
-use Rattle.machine.specs.Meaning.{meaning}
 use Rattle.rules.specs.Lists.{Every}
 use Rattle.rules.specs.Sound.{Sound, Used, statusAt, isChild, childrenAmong}
+use Rattle.machine.specs.declared.Machine.{Machine}
+use Rattle.machine.specs.Meaning.{meaning}
 use Rattle.machine.specs.Parts.{Orderly, HeadBelow}
 
 lt-or-le : (x c : ℕ) → (x < c) ⊎ (c ≤ x)

@@ -11,20 +11,20 @@ use Rattle.queue.specs.declared.Front.{Front}
 use Rattle.queue.specs.declared.Front.the-variants.{Number, Nothing}
 use Rattle.queue.specs.Contents.{contents, firstOf, restOf}
 use Rattle.queue.proofs.Laws.{nothing-empty, number-first}
+use Rattle.window.specs.Rights.{childOf, restOf as rest-of}
 use Rattle.stacklets.specs.declared.Stacklets.{Stacklets}
 use Rattle.stacklets.specs.Tops.{topsOf, isTopmost, fitsOn, baseOn, pushedTops}
 use Rattle.stacklets.specs.Frames.{pushedWords, argumentsAt}
-use Rattle.window.specs.Rights.{childOf, restOf as rest-of}
 use Rattle.thread.specs.declared.Thread.{Thread}
 use Rattle.thread.specs.Thread.{newThread, behindFork}
-use Rattle.machine.specs.declared.Machine.{Machine}
-use Rattle.machine.specs.declared.Met.{Met}
 use Rattle.rules.specs.declared.ForkKind.{ForkKind}
 use Rattle.rules.specs.declared.ForkKind.the-variants.{Called, Queued, Stolen}
 use Rattle.rules.specs.State.{jobOf}
-use Rattle.machine.specs.Meaning.{meaning, after}
 use Rattle.rules.specs.Update.{refused}
 use Rattle.rules.specs.Fork.{placeOf, goesAbove, asked, born, forkOn, forkWith, forkOf, childStatus, parentStatus, isConnected}
+use Rattle.machine.specs.declared.Machine.{Machine}
+use Rattle.machine.specs.declared.Met.{Met}
+use Rattle.machine.specs.Meaning.{meaning, after}
 use Rattle.machine.specs.Parts.{turnBy, placeBy, coreOf, readyOf}
 
 module _ (m : Machine) (o : Met) (ws ms im ss ps : List ℕ) (al r d a e : ℕ) where

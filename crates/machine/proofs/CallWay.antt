@@ -12,16 +12,16 @@ use Rattle.stacklets.specs.Tops.{topsOf, stackletsOf}
 use Rattle.thread.specs.declared.Thread.{Thread}
 use Rattle.thread.specs.declared.Status.the-variants.{Running}
 use Rattle.thread.specs.Thread.{blankThread}
+use Rattle.rules.specs.declared.ForkKind.the-variants.{Called as ByCall}
+use Rattle.rules.specs.State.{jobOf}
+use Rattle.rules.specs.Update.{accepted}
+use Rattle.rules.specs.Fork.{asked, forkOf}
+use Rattle.rules.specs.Return.{returnOf, wakes, statusAfter, readyAfter, stackletsWithout}
 use Rattle.machine.specs.declared.Machine.{Machine}
 use Rattle.machine.specs.declared.Met.{Met}
 use Rattle.machine.specs.declared.Call.{Call}
 use Rattle.machine.specs.declared.Finish.{Finish}
-use Rattle.rules.specs.declared.ForkKind.the-variants.{Called as ByCall}
-use Rattle.rules.specs.State.{jobOf}
 use Rattle.machine.specs.Meaning.{meaning, after}
-use Rattle.rules.specs.Update.{accepted}
-use Rattle.rules.specs.Fork.{asked, forkOf}
-use Rattle.rules.specs.Return.{returnOf, wakes, statusAfter, readyAfter, stackletsWithout}
 use Rattle.machine.specs.Parts.{turnBy}
 use Rattle.machine.specs.Call.{Called, Finished}
 use Rattle.machine.proofs.Birth.{fork-on, born-as}

@@ -10,11 +10,11 @@ use Rattle.thread.specs.declared.Thread.{Thread}
 use Rattle.thread.specs.declared.Effect.{Effect}
 use Rattle.thread.specs.declared.Effect.the-variants.{Sets, Loads, Stores, Goes, Continues, Joins}
 use Rattle.thread.specs.Thread.{movedTo, joinedAt}
+use Rattle.rules.specs.State.{Job}
+use Rattle.rules.specs.Rules.{carriedOf}
 use Rattle.machine.specs.declared.Machine.{Machine}
 use Rattle.machine.specs.declared.Met.{Met}
-use Rattle.rules.specs.State.{Job}
 use Rattle.machine.specs.Meaning.{meaning, after}
-use Rattle.rules.specs.Rules.{carriedOf}
 use Rattle.machine.specs.Parts.{turnBy, Bounded}
 
 -- the machine with another record for the thread of a turn, charged for its command

@@ -12,11 +12,11 @@ use Rattle.stacklets.specs.Frames.{withSlot}
 use Rattle.thread.specs.declared.Thread.{Thread}
 use Rattle.thread.specs.declared.Status.{Status}
 use Rattle.thread.specs.Thread.{blankThread, withoutChild, isRoot, none}
+use Rattle.rules.specs.Update.{accepted}
+use Rattle.rules.specs.Return.{stackletsWithout, statusAfter, readyAfter, returnToParent, returnOf}
 use Rattle.machine.specs.declared.Machine.{Machine}
 use Rattle.machine.specs.declared.Met.{Met}
 use Rattle.machine.specs.Meaning.{meaning, after}
-use Rattle.rules.specs.Update.{accepted}
-use Rattle.rules.specs.Return.{stackletsWithout, statusAfter, readyAfter, returnToParent, returnOf}
 use Rattle.machine.specs.Parts.{turnBy}
 
 -- the record of the parent

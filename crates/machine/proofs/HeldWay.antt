@@ -12,13 +12,13 @@ use lib.Seq.{set-getD, set-set, getD-set-same}
 use Rattle.schedule.specs.declared.Entry.the-variants.{Step}
 use Rattle.thread.specs.declared.Thread.{Thread}
 use Rattle.thread.specs.Thread.{blankThread, movedTo, joinedAt, none}
+use Rattle.rules.specs.State.{jobOf, After}
+use Rattle.rules.specs.Rules.{entryOf}
+use Rattle.rules.specs.Sound.{Sound}
 use Rattle.machine.specs.declared.Machine.{Machine}
 use Rattle.machine.specs.declared.OwnStep.{OwnStep}
 use Rattle.machine.specs.declared.OwnStep.the-variants.{Moved, Joined, Calls, Ends, Other}
-use Rattle.rules.specs.State.{jobOf, After}
 use Rattle.machine.specs.Meaning.{meaning, after}
-use Rattle.rules.specs.Rules.{entryOf}
-use Rattle.rules.specs.Sound.{Sound}
 use Rattle.machine.specs.Own.{steppingOf, Owned, ownOf}
 use Rattle.machine.proofs.Way.{record-of}
 use Rattle.machine.proofs.OwnWay.{onward, Means, own-entry}

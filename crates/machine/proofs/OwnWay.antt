@@ -17,6 +17,10 @@ use Rattle.command.proofs.Bools.{both}
 use Rattle.image.specs.Layout.{argumentsOf}
 use Rattle.schedule.specs.declared.Entry.{Entry}
 use Rattle.schedule.specs.declared.Entry.the-variants.{Step, Take, Steal, Enable}
+use Rattle.queue.specs.declared.Queue.{Queue}
+use Rattle.window.specs.declared.Window.{Window}
+use Rattle.stacklets.specs.Tops.{topsOf}
+use Rattle.stacklets.specs.Frames.{slotOf}
 use Rattle.thread.specs.declared.Effect.{Effect}
 use Rattle.thread.specs.declared.Effect.the-variants.{Faults, Sets, Loads, Stores, Goes, Continues, Lforks, Forks, Joins, Suspends, Yields, Returns}
 use Rattle.thread.specs.declared.Thread.{Thread}
@@ -24,21 +28,17 @@ use Rattle.thread.specs.Effect.{Own as View, run, anyPending, unlessPending, pr
 use Rattle.thread.specs.View.{viewOf, mayCut}
 use Rattle.thread.specs.Thread.{isPending, movedTo, joinedAt, blankThread, none}
 use Rattle.thread.proofs.Widths.{Widened, decoded-wide}
-use Rattle.queue.specs.declared.Queue.{Queue}
-use Rattle.stacklets.specs.Tops.{topsOf}
-use Rattle.stacklets.specs.Frames.{slotOf}
-use Rattle.window.specs.declared.Window.{Window}
+use Rattle.rules.specs.State.{Job, jobOf, After}
+use Rattle.rules.specs.Turn.{turnAt, offsetOf, byteOf, effectAt, waits}
+use Rattle.rules.specs.Rules.{carriedOf, turnOf, stepOf, entryOf}
+use Rattle.rules.specs.Sound.{Sound, Used}
 use Rattle.machine.specs.declared.Machine.{Machine}
 use Rattle.machine.specs.declared.Met.{Met}
 use Rattle.machine.specs.declared.Call.{Call}
 use Rattle.machine.specs.declared.Finish.{Finish}
 use Rattle.machine.specs.declared.OwnStep.{OwnStep}
 use Rattle.machine.specs.declared.OwnStep.the-variants.{Moved, Joined, Calls, Ends, Other}
-use Rattle.rules.specs.State.{Job, jobOf, After}
 use Rattle.machine.specs.Meaning.{meaning, after}
-use Rattle.rules.specs.Turn.{turnAt, offsetOf, byteOf, effectAt, waits}
-use Rattle.rules.specs.Rules.{carriedOf, turnOf, stepOf, entryOf}
-use Rattle.rules.specs.Sound.{Sound, Used}
 use Rattle.machine.specs.Own.{steppingOf, coreStepped, Own, Owned, leaving, ownBy, ownEffect, ownOf}
 use Rattle.machine.specs.Parts.{Bounded}
 use Rattle.machine.specs.Call.{Called, Finished}

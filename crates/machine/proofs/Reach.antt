@@ -10,12 +10,12 @@ use lib.ListN.{getD}
 use Rattle.command.specs.declared.Command.{Command}
 use Rattle.command.specs.Command.{decodedAt, widthOf}
 use Rattle.command.specs.Weight.{weightOf, standardWeights}
-use Rattle.image.specs.Layout.{argumentsOf}
 use Rattle.command.proofs.Bools.{both}
-use Rattle.stacklets.specs.Frames.{slotOf}
+use Rattle.image.specs.Layout.{argumentsOf}
 use Rattle.window.specs.declared.Window.{Window}
 use Rattle.window.specs.Rights.{Fits}
 use Rattle.window.proofs.Laws.{store-means}
+use Rattle.stacklets.specs.Frames.{slotOf}
 use Rattle.thread.specs.declared.Effect.{Effect}
 use Rattle.thread.specs.declared.Effect.the-variants.{Faults, Sets, Loads, Stores, Goes, Continues, Lforks, Forks, Joins, Suspends, Yields, Returns}
 use Rattle.thread.specs.View.{viewOf, mayCut}
@@ -24,12 +24,12 @@ use Rattle.thread.specs.Thread.{isPending, statusNumber, _is_}
 use Rattle.thread.proofs.Routines.{InRange}
 use Rattle.thread.proofs.CommandMet.{cut-inside, place-small, next-small, some-bytes, operands-few}
 use Rattle.thread.proofs.EffectFacts.{Guarded, guarded}
-use Rattle.machine.specs.declared.Machine.{Machine}
-use Rattle.machine.specs.declared.Met.{Met}
 use Rattle.rules.specs.State.{Job, jobOf, State, threadAt}
-use Rattle.machine.specs.Meaning.{meaning}
 use Rattle.rules.specs.Turn.{offsetOf, byteOf}
 use Rattle.rules.specs.Sound.{Sound, Used}
+use Rattle.machine.specs.declared.Machine.{Machine}
+use Rattle.machine.specs.declared.Met.{Met}
+use Rattle.machine.specs.Meaning.{meaning}
 use Rattle.machine.specs.Parts.{metAt, Bounded, Leaving, Carrying}
 use Rattle.machine.proofs.Way.{record-of, effect-of}
 use Rattle.machine.proofs.Able.{used-below, free-first, linked-below, children-few, parent-bears}

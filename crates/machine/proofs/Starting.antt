@@ -12,8 +12,8 @@ use Rattle.stacklets.specs.Frames.{pushedWords}
 use Rattle.thread.specs.declared.Thread.{Thread}
 use Rattle.thread.specs.Thread.{blankThread, rootThread}
 use Rattle.rules.specs.State.{jobOf}
-use Rattle.machine.specs.Meaning.{meaning}
 use Rattle.rules.specs.Start.{startState}
+use Rattle.machine.specs.Meaning.{meaning}
 
 module _ (im arguments ss ps ms ws ws' ws'' : List ℕ) (al count size : ℕ) (unused stacklets : Stacklets) (numbers free places left ready : Queue) (blank root : Thread) where
   pub started : ws' ≡ replicate (length ws) 0 → topsOf unused ≡ replicate 16 0 → size ≡ slotsOf im 0

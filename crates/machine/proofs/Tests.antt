@@ -3,13 +3,13 @@ use mathlib.Core.Bool.{Bool, true, false, cond}
 use mathlib.Core.List.{List}
 use mathlib.Core.Path.{_≡_, refl, ap}
 use Prim.Native.Nat.{ℕ}
+use lib.Dec.{eqb}
+use borrow.Author.Tests.{eq-eqb, ne-eqb}
 use Rattle.queue.specs.declared.Queue.{Queue}
 use Rattle.queue.specs.Contents.{contents, appended, capacity}
 use Rattle.rules.specs.Update.{accepted, enqueueReady}
-use lib.Dec.{eqb}
-use borrow.Author.Tests.{eq-eqb, ne-eqb}
-use Rattle.machine.specs.declared.Machine.{Machine}
 use Rattle.rules.specs.State.{State, Outcome, finished, faulted, isOver}
+use Rattle.machine.specs.declared.Machine.{Machine}
 use Rattle.machine.specs.Meaning.{outcomeOf, meaning, after}
 
 closed : (b : Bool) (x y : Outcome) → isOver x ≡ true → isOver y ≡ true → isOver (cond b x y) ≡ true

@@ -17,14 +17,14 @@ use Rattle.thread.specs.declared.Status.the-variants.{Waiting, Lent}
 use Rattle.thread.specs.Effect.{effectOf}
 use Rattle.thread.specs.View.{viewOf}
 use Rattle.thread.specs.Thread.{blankThread, isPending, _is_}
-use Rattle.machine.specs.declared.Machine.{Machine}
-use Rattle.machine.specs.declared.Met.{Met}
 use Rattle.rules.specs.State.{jobOf}
-use Rattle.machine.specs.Meaning.{meaning}
 use Rattle.rules.specs.Update.{accepted, refused}
 use Rattle.rules.specs.Turn.{turnAt, effectAt}
 use Rattle.rules.specs.Leave.{leaves}
 use Rattle.rules.specs.Rules.{carriedOf, turnOf, stepOf, isSeed, stolenOf, stealOf}
+use Rattle.machine.specs.declared.Machine.{Machine}
+use Rattle.machine.specs.declared.Met.{Met}
+use Rattle.machine.specs.Meaning.{meaning}
 use Rattle.machine.specs.Parts.{turnBy, metAt}
 use Rattle.machine.proofs.Tests.{over-false}
 

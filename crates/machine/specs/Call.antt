@@ -10,16 +10,16 @@ use Rattle.image.specs.Layout.{slotsOf, argumentsOf}
 use Rattle.queue.specs.declared.Queue.{Queue}
 use Rattle.queue.specs.declared.Front.the-variants.{Number}
 use Rattle.queue.specs.Contents.{contents, queueOf, firstOf, restOf}
+use Rattle.window.specs.Rights.{childOf, restOf as rest-of}
 use Rattle.stacklets.specs.Tops.{isTopmost, fitsOn, baseOn, pushedTops}
 use Rattle.stacklets.specs.Frames.{argumentsAt, pushedWords, withSlot}
-use Rattle.window.specs.Rights.{childOf, restOf as rest-of}
 use Rattle.thread.specs.declared.Thread.{Thread}
 use Rattle.thread.specs.declared.Status.the-variants.{Running, Lent}
 use Rattle.thread.specs.Thread.{newThread, behindFork, withoutChild}
+use Rattle.rules.specs.Fork.{Place, placeOf}
 use Rattle.machine.specs.declared.Spot.{Spot}
 use Rattle.machine.specs.declared.Call.{Call}
 use Rattle.machine.specs.declared.Finish.{Finish}
-use Rattle.rules.specs.Fork.{Place, placeOf}
 use Rattle.machine.specs.Parts.{placeBy}
 
 -- the stacklet of a new frame of `size` words, for a child of the frame of `slots` words at a base

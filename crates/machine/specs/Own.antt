@@ -18,10 +18,10 @@ use Rattle.thread.specs.declared.Thread.{Thread}
 use Rattle.thread.specs.Effect.{effectOf}
 use Rattle.thread.specs.View.{viewOf}
 use Rattle.thread.specs.Thread.{isPending, none}
-use Rattle.machine.specs.declared.OwnStep.{OwnStep}
-use Rattle.machine.specs.declared.OwnStep.the-variants.{Moved, Joined, Calls, Ends, Other}
 use Rattle.rules.specs.State.{Job}
 use Rattle.rules.specs.Turn.{offsetOf, byteOf}
+use Rattle.machine.specs.declared.OwnStep.{OwnStep}
+use Rattle.machine.specs.declared.OwnStep.the-variants.{Moved, Joined, Calls, Ends, Other}
 
 -- the thread that an entry steps, on a core below the count (of at most 4) while the machine is open; none where there is none
 unfoldable pub steppingOf : ℕ → ℕ → List ℕ → Entry → ℕ

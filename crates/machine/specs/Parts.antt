@@ -14,15 +14,15 @@ use Rattle.thread.specs.declared.Effect.{Effect}
 use Rattle.thread.specs.declared.Effect.the-variants.{Faults, Sets, Loads, Stores, Goes, Continues, Lforks, Forks, Joins, Suspends, Yields, Returns}
 use Rattle.thread.specs.declared.Thread.{Thread}
 use Rattle.thread.specs.Thread.{blankThread}
-use Rattle.machine.specs.declared.Machine.{Machine}
-use Rattle.machine.specs.declared.Met.{Met}
 use Rattle.rules.specs.declared.ForkKind.{ForkKind}
 use Rattle.rules.specs.declared.ForkKind.the-variants.{Called, Queued, Stolen}
 use Rattle.rules.specs.State.{Job}
-use Rattle.machine.specs.Meaning.{meaning}
 use Rattle.rules.specs.Turn.{Turn}
 use Rattle.rules.specs.Fork.{Place, onStacklet, nowhere}
 use Rattle.rules.specs.Sound.{Sound}
+use Rattle.machine.specs.declared.Machine.{Machine}
+use Rattle.machine.specs.declared.Met.{Met}
+use Rattle.machine.specs.Meaning.{meaning}
 
 -- a command that is met, as the code holds it
 abbrev pub turnBy : Met → Turn

@@ -15,11 +15,11 @@ ghost use mathlib.Core.Path.{_≡_};
 ghost use Prim.Native.Nat.{ℕ, _<_};
 ghost use Rattle.thread.specs.declared.Status.the-variants.{Ready, Suspended};
 ghost use Rattle.rules.specs.State.{jobOf};
-ghost use Rattle.machine.specs.Meaning.{meaning, after};
 ghost use Rattle.rules.specs.Update.{accepted, enqueueReady};
 ghost use Rattle.rules.specs.Turn.{goesOn, faults};
 ghost use Rattle.rules.specs.Leave.{leaves};
 ghost use Rattle.rules.specs.Rules.{carriedOf};
+ghost use Rattle.machine.specs.Meaning.{meaning, after};
 ghost use Rattle.machine.specs.Parts.{turnBy, Seated, Carrying};
 
 impl Machine {

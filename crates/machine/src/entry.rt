@@ -3,9 +3,9 @@ use crate::Machine;
 use schedule::Entry;
 ghost use mathlib.Core.Path.{_≡_};
 ghost use Rattle.rules.specs.State.{jobOf};
-ghost use Rattle.machine.specs.Meaning.{meaning, after};
 ghost use Rattle.rules.specs.Rules.{entryOf};
 ghost use Rattle.rules.specs.Sound.{Sound};
+ghost use Rattle.machine.specs.Meaning.{meaning, after};
 
 impl Machine {
     // The machine meets an entry.

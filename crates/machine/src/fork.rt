@@ -22,8 +22,8 @@ ghost use Prim.Native.Nat.{ℕ, _<_};
 ghost use Rattle.window.specs.Rights.{childOf, restOf};
 ghost use Rattle.thread.specs.Thread.{newThread, behindFork};
 ghost use Rattle.rules.specs.State.{jobOf};
-ghost use Rattle.machine.specs.Meaning.{meaning, after};
 ghost use Rattle.rules.specs.Fork.{asked, forkOf, childStatus, parentStatus, isConnected};
+ghost use Rattle.machine.specs.Meaning.{meaning, after};
 ghost use Rattle.machine.specs.Parts.{turnBy, Forking};
 
 // The child's window: from the mark to the cut.

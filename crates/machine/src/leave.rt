@@ -6,9 +6,9 @@ use thread::record::with_status;
 ghost use mathlib.Core.List.{List};
 ghost use mathlib.Core.Path.{_≡_};
 ghost use Prim.Native.Nat.{ℕ};
-ghost use Rattle.machine.specs.Meaning.{meaning, after};
 ghost use Rattle.rules.specs.Update.{accepted};
 ghost use Rattle.rules.specs.Leave.{leaves};
+ghost use Rattle.machine.specs.Meaning.{meaning, after};
 ghost use Rattle.machine.specs.Parts.{Leaving};
 
 impl Machine {

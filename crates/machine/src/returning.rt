@@ -12,9 +12,9 @@ use thread::record::without_child;
 ghost use mathlib.Core.List.{List};
 ghost use mathlib.Core.Path.{_≡_};
 ghost use Prim.Native.Nat.{ℕ};
-ghost use Rattle.machine.specs.Meaning.{meaning, after};
 ghost use Rattle.rules.specs.Update.{accepted};
 ghost use Rattle.rules.specs.Return.{returnOf};
+ghost use Rattle.machine.specs.Meaning.{meaning, after};
 ghost use Rattle.machine.specs.Parts.{turnBy, Returning};
 
 impl Machine {

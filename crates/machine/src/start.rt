@@ -10,8 +10,8 @@ ghost use mathlib.Core.Path.{_≡_};
 ghost use Prim.Native.Nat.{ℕ};
 ghost use lib.ListN.{length, replicate};
 ghost use Rattle.rules.specs.State.{jobOf};
-ghost use Rattle.machine.specs.Meaning.{meaning};
 ghost use Rattle.rules.specs.Start.{startState};
+ghost use Rattle.machine.specs.Meaning.{meaning};
 
 // All words become zero.
 fn clear(words: &mut [u32])

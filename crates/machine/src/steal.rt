@@ -14,10 +14,10 @@ ghost use mathlib.Core.List.{List};
 ghost use mathlib.Core.Path.{_≡_};
 ghost use Prim.Native.Nat.{ℕ};
 ghost use Rattle.rules.specs.State.{jobOf};
-ghost use Rattle.machine.specs.Meaning.{meaning, after};
 ghost use Rattle.rules.specs.Update.{refused};
 ghost use Rattle.rules.specs.Rules.{stolenOf, stealOf};
 ghost use Rattle.rules.specs.Sound.{Sound};
+ghost use Rattle.machine.specs.Meaning.{meaning, after};
 ghost use Rattle.machine.specs.Parts.{turnBy, Carrying};
 
 impl Machine {

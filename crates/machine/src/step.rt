@@ -14,9 +14,9 @@ ghost use mathlib.Core.Path.{_≡_};
 ghost use Prim.Native.Nat.{_+_, _<_};
 ghost use Rattle.command.specs.Command.{widthOf};
 ghost use Rattle.rules.specs.State.{jobOf};
-ghost use Rattle.machine.specs.Meaning.{meaning, after};
 ghost use Rattle.rules.specs.Rules.{stepOf};
 ghost use Rattle.rules.specs.Sound.{Sound};
+ghost use Rattle.machine.specs.Meaning.{meaning, after};
 ghost use Rattle.machine.specs.Parts.{metAt};
 
 // The command of a byte, at a place in the image, is met by core c, of thread t.

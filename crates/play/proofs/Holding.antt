@@ -19,14 +19,14 @@ use Rattle.queue.specs.declared.Queue.{Queue}
 use Rattle.stacklets.specs.Tops.{topsOf}
 use Rattle.thread.specs.declared.Thread.{Thread}
 use Rattle.thread.specs.Thread.{blankThread, movedTo, joinedAt, none}
+use Rattle.rules.specs.State.{jobOf, State}
+use Rattle.rules.specs.Rules.{entryOf}
 use Rattle.machine.specs.declared.Machine.{Machine}
 use Rattle.machine.specs.declared.Call.{Call}
 use Rattle.machine.specs.declared.Finish.{Finish}
 use Rattle.machine.specs.declared.OwnStep.{OwnStep}
 use Rattle.machine.specs.declared.OwnStep.the-variants.{Moved, Joined, Calls, Ends, Other}
-use Rattle.rules.specs.State.{jobOf, State}
 use Rattle.machine.specs.Meaning.{meaning, after}
-use Rattle.rules.specs.Rules.{entryOf}
 use Rattle.machine.specs.Own.{steppingOf, Owned, ownOf}
 use Rattle.machine.specs.Call.{Called, Finished}
 use Rattle.machine.proofs.Way.{record-of}

@@ -15,8 +15,8 @@ use Rattle.schedule.proofs.Following.{read-entry, read-end, accepted}
 use Rattle.rules.specs.State.{Job, State, After}
 use Rattle.rules.specs.Rules.{entryOf}
 use Rattle.rules.specs.Sound.{Sound}
-use Rattle.soundness.proofs.Kept.{entry-sound}
 use Rattle.rules.specs.Runs.{runFrom, logsFrom}
+use Rattle.soundness.proofs.Kept.{entry-sound}
 use Rattle.play.specs.Entries.{Playable, Played}
 
 -- k entries have been met, and the log has a byte for each

@@ -18,8 +18,8 @@ ghost use mathlib.Core.Bool.{cond};
 ghost use mathlib.Core.Path.{_≡_};
 ghost use Rattle.schedule.specs.declared.Entry.the-variants.{Step};
 ghost use Rattle.thread.specs.Thread.{none};
-ghost use Rattle.machine.specs.Own.{steppingOf};
 ghost use Rattle.rules.specs.State.{jobOf};
+ghost use Rattle.machine.specs.Own.{steppingOf};
 ghost use Rattle.machine.specs.Meaning.{meaning};
 ghost use Rattle.play.specs.Entries.{Playable, Played};
 

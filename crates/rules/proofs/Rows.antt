@@ -4,11 +4,11 @@ use mathlib.Core.Path.{_≡_, refl}
 use Rattle.command.specs.Command.{decoded}
 use Rattle.image.specs.Layout.{startOf, rowsOf, startsUpTo}
 use Rattle.queue.specs.Contents.{appended}
+use Rattle.window.specs.Rights.{mayStore, mayLoad, cutAt}
 use Rattle.stacklets.specs.Tops.{fitsOn, pushedTops}
 use Rattle.stacklets.specs.Frames.{argumentsAt, framed, pushedWords}
 use Rattle.thread.specs.Effect.{run, anyPending, unlessPending, provided, forking, effectOf}
 use Rattle.thread.specs.Thread.{isPending, withPending}
-use Rattle.window.specs.Rights.{mayStore, mayLoad, cutAt}
 use Rattle.rules.specs.Start.{startState}
 use Rattle.rules.specs.Turn.{effectAt}
 use Rattle.rules.specs.Leave.{leaves}

@@ -3,9 +3,9 @@ use mathlib.Core.Bool.{Bool, true, false, _&&_}
 use mathlib.Core.List.{List, [], _∷_}
 use Prim.Native.Nat.{ℕ, _+_, _/_}
 use Rattle.image.specs.Layout.{slotsOf, argumentsOf}
+use Rattle.window.specs.Rights.{childOf, restOf}
 use Rattle.stacklets.specs.Tops.{baseOn, fitsOn, isTopmost, pushedTops}
 use Rattle.stacklets.specs.Frames.{argumentsAt, pushedWords}
-use Rattle.window.specs.Rights.{childOf, restOf}
 use Rattle.thread.specs.declared.Thread.{Thread}
 use Rattle.thread.specs.declared.Status.{Status}
 use Rattle.thread.specs.declared.Status.the-variants.{Running, Ready, Lent}

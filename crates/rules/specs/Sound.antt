@@ -8,11 +8,11 @@ use lib.Dec.{eqb}
 use lib.ListN.{length}
 use Rattle.image.specs.Layout.{countOf, slotsOf, codeOf}
 use Rattle.image.specs.Code.{commandsOf, isStart}
+use Rattle.window.specs.Rights.{Fits}
 use Rattle.stacklets.specs.Layout.{Apart, Under}
 use Rattle.stacklets.specs.Tops.{topAt}
 pub use Rattle.thread.specs.Job.{GoodJob}
 use Rattle.thread.specs.Thread.{statusNumber, isPending, none}
-use Rattle.window.specs.Rights.{Fits}
 use Rattle.rules.specs.State.{Job, State, finished, threadAt, onCore}
 use Rattle.rules.specs.Turn.{byteOf}
 use Rattle.rules.specs.Lists.{Every, Member, Distinct}

@@ -1,30 +1,23 @@
 -- The demands of what a run gives and leaves, from what it gives alone. Assumes nothing.
 use mathlib.Core.List.{List}
-use mathlib.Core.Path.{_≡_, sym, _∙_, subst}
-use Prim.Native.Nat.{ℕ, _<_}
-use lib.ListN.{length, getD, drop}
+use mathlib.Core.Path.{_≡_, sym, _∙_, subst, ap}
+use Prim.Native.Nat.{ℕ, _<_, _+_, _≤_}
+use lib.ListN.{length, getD, drop, length-append, length-drop}
+use native.Mathlib.Omega.{arith}
 use Rattle.schedule.specs.declared.Entry.{Entry}
 use Rattle.schedule.specs.Meaning.{entries, scheduleOf}
-use Rattle.machine.specs.Meaning.{meaning}
-use Rattle.demands.proofs.Demands.{demand-2-logged, demand-3, run-next, sound-after, logs-many}
-use Rattle.demands.proofs.Passing.{takes}
-use Rattle.run.specs.declared.Ran.{Ran}
-use Rattle.demands.specs.Input.{Input, jobIn, startIn, refusalOf}
-use Rattle.rules.specs.Runs.{logsFrom}
-use Rattle.run.specs.Run.{RunsAs}
-use Rattle.demands.specs.Demands.{Demand2, Demand3}
-use Rattle.run.specs.Promise.{Promise}
+use Rattle.rules.specs.Runs.{logsFrom, runFrom, logged}
 use Rattle.rules.specs.State.{Outcome, going, finished, faulted}
-use Rattle.rules.specs.Runs.{runFrom, logged}
-use Rattle.demands.specs.declared.RunAnswer.the-variants.{Refused}
-use Rattle.demands.specs.Input.{answerOf, entryCount}
-use Rattle.demands.specs.Demands.{Demand1}
-use Rattle.demands.proofs.Passing.{has-room}
+use Rattle.machine.specs.Meaning.{meaning}
 use Rattle.soundness.proofs.Unchanged.{unchanged}
-use native.Mathlib.Omega.{arith}
-use Prim.Native.Nat.{_+_, _≤_}
-use mathlib.Core.Path.{ap}
-use lib.ListN.{length-append, length-drop}
+use Rattle.demands.proofs.Demands.{demand-2-logged, demand-3, run-next, sound-after, logs-many}
+use Rattle.demands.proofs.Passing.{takes, has-room}
+use Rattle.demands.specs.Input.{Input, jobIn, startIn, refusalOf, answerOf, entryCount}
+use Rattle.demands.specs.Demands.{Demand2, Demand3, Demand1}
+use Rattle.demands.specs.declared.RunAnswer.the-variants.{Refused}
+use Rattle.run.specs.declared.Ran.{Ran}
+use Rattle.run.specs.Run.{RunsAs}
+use Rattle.run.specs.Promise.{Promise}
 
 -- log bytes over the front of a log
 whole : (bytes log : List ℕ) → length bytes ≤ length log → length (logged log bytes) ≡ length log

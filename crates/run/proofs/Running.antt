@@ -11,15 +11,14 @@ use Rattle.image.specs.Image.{imageVerdict, imageAnswer, numberIn, programFor}
 use Rattle.thread.specs.Job.{jobOf}
 use Rattle.rules.specs.State.{State}
 use Rattle.machine.specs.Meaning.{meaning, outcomeOf}
-use Rattle.demands.proofs.Passing.{takes}
-use Rattle.run.specs.declared.Ran.{Ran}
-use Rattle.run.specs.declared.begin.Begun.{Begun}
+use Rattle.soundness.proofs.StartSound.{start-sound}
+use Rattle.demands.proofs.Passing.{takes, good, has-room}
 use Rattle.demands.specs.declared.RunAnswer.the-variants.{Refused}
 use Rattle.demands.specs.Input.{Input, jobIn, startIn, refusalOf, answerOf}
-use Rattle.run.specs.Run.{RunsAs, Begins}
 use Rattle.play.specs.Entries.{Playable, Played}
-use Rattle.soundness.proofs.StartSound.{start-sound}
-use Rattle.demands.proofs.Passing.{good, has-room}
+use Rattle.run.specs.declared.Ran.{Ran}
+use Rattle.run.specs.declared.begin.Begun.{Begun}
+use Rattle.run.specs.Run.{RunsAs, Begins}
 
 -- the image's number and its codes' starts, as the reader gives them
 pub number-of : (image : List ℕ) (checked : Checked) (n : ℕ) → checked ≡ imageAnswer image → n ≡ numberIn (checked .verdict) → n ≡ numberIn (imageVerdict image)

@@ -5,10 +5,10 @@ use Prim.Native.Nat.{ℕ}
 use Rattle.schedule.specs.declared.Entry.{Entry}
 use Rattle.schedule.specs.Meaning.{entries, scheduleOf}
 use Rattle.machine.specs.Meaning.{meaning}
-use Rattle.run.specs.declared.Ran.{Ran}
 use Rattle.demands.specs.Input.{Input, refusalOf}
-use Rattle.run.specs.Run.{RunsAs}
 use Rattle.demands.specs.Demands.{Demand1, Demand2, Demand3}
+use Rattle.run.specs.declared.Ran.{Ran}
+use Rattle.run.specs.Run.{RunsAs}
 
 pub record Promise (i : Input) (schedule log : List ℕ) (r : Ran) (memoryAfter logAfter : List ℕ) : Type 0 where
   pub runs : RunsAs i schedule log r memoryAfter logAfter

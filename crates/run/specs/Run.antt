@@ -5,12 +5,12 @@ use Prim.Native.Nat.{ℕ}
 use Rattle.image.specs.Layout.{programOf, startsIn}
 use Rattle.schedule.specs.declared.Entry.{Entry}
 use Rattle.schedule.specs.Meaning.{entries, scheduleOf}
+use Rattle.rules.specs.Runs.{runFrom, logsFrom, logged}
 use Rattle.machine.specs.Meaning.{meaning}
 use Rattle.demands.specs.declared.RunAnswer.the-variants.{Refused}
+use Rattle.demands.specs.Input.{Input, jobIn, startIn, refusalOf, answerOf, numberOfAnswer}
 use Rattle.run.specs.declared.Ran.{Ran}
 use Rattle.run.specs.declared.begin.Begun.{Begun}
-use Rattle.rules.specs.Runs.{runFrom, logsFrom, logged}
-use Rattle.demands.specs.Input.{Input, jobIn, startIn, refusalOf, answerOf, numberOfAnswer}
 
 -- a run that is refused: its number alone, and "nothing written"; the machine beside it is as at Start
 pub record IsRefused (i : Input) (n : ℕ) (logBefore : List ℕ) (r : Ran) (memoryAfter logAfter : List ℕ) : Type 0 where

@@ -15,18 +15,17 @@ use Rattle.schedule.proofs.Following.{allBytes, accepts-short}
 use Rattle.rules.specs.Lists.{Every}
 use Rattle.rules.specs.State.{Job, State, isOver}
 use Rattle.rules.specs.Rules.{entryOf}
-use Rattle.demands.specs.Input.{Input, jobIn, startIn}
 use Rattle.rules.specs.Runs.{runFrom, logsFrom}
-use Rattle.demands.specs.Demands.{Demand3}
 use Rattle.soundness.proofs.EntryCases.{and-true}
+use Rattle.demands.specs.Input.{Input, jobIn, startIn}
+use Rattle.demands.specs.Demands.{Demand3}
 use Rattle.demands.proofs.Demands.{demand-3}
 use Rattle.demands.proofs.Passing.{takes}
-use Rattle.scheduler.proofs.Keeping.{short}
-use Rattle.scheduler.proofs.Trying.{bytes-snoc}
 use Rattle.search.specs.Search.{choiceOf, lowestSuspended}
 use Rattle.rounds.specs.Rounds.{Progress, isWritten, mayTry, recorded, tried, turns, fresh, round, goesOn, wakened, rounds, usable, beginning, bytesOfAll}
-use Rattle.scheduler.specs.Promise.{scheduledOf}
-use Rattle.scheduler.specs.Promise.{refusalIn, EqualsRun}
+use Rattle.scheduler.proofs.Keeping.{short}
+use Rattle.scheduler.proofs.Trying.{bytes-snoc}
+use Rattle.scheduler.specs.Promise.{scheduledOf, refusalIn, EqualsRun}
 
 module _ (j : Job) where
   run-snoc : (s : State) (es : List Entry) (e : Entry) → runFrom j s (es ++ (e ∷ [])) ≡ entryOf j (runFrom j s es) e .state

@@ -10,19 +10,19 @@ use lib.Dec.{eqb}
 use lib.ListN.{getD}
 use Rattle.schedule.specs.declared.Entry.the-variants.{Step}
 use Rattle.thread.specs.Thread.{movedTo}
+use Rattle.rules.specs.State.{Job, jobOf, State, isOver}
+use Rattle.rules.specs.Rules.{entryOf}
 use Rattle.machine.specs.declared.Machine.{Machine}
 use Rattle.machine.specs.declared.OwnStep.{OwnStep}
 use Rattle.machine.specs.declared.OwnStep.the-variants.{Moved}
-use Rattle.rules.specs.State.{Job, jobOf, State, isOver}
 use Rattle.machine.specs.Meaning.{outcomeOf, meaning, after}
-use Rattle.rules.specs.Rules.{entryOf}
 use Rattle.machine.specs.Own.{steppingOf, Owned, ownOf}
 use Rattle.machine.proofs.Tests.{over-true}
 use Rattle.machine.proofs.Way.{record-of}
 use Rattle.machine.proofs.HeldWay.{holding, holds-own, HeldMeans, held-entry}
 use Rattle.search.proofs.Searching.{busy}
-use Rattle.scheduler.proofs.Rounding.{Rounding, turns-on, again-moved}
 use Rattle.search.specs.Search.{choiceOf}
+use Rattle.scheduler.proofs.Rounding.{Rounding, turns-on, again-moved}
 use Rattle.scheduler.specs.Steps.{Keeps}
 
 open-zero : (m : Machine) → isOver (outcomeOf m) ≡ false → eqb (m .over) 0 ≡ true

@@ -5,11 +5,11 @@ use Prim.Native.Nat.{ℕ, _<_}
 use lib.ListN.{getD, length}
 use Rattle.thread.specs.Job.{jobOf}
 use Rattle.rules.specs.State.{State}
-use Rattle.machine.specs.Meaning.{meaning, outcomeOf}
 use Rattle.rules.specs.Sound.{Sound}
+use Rattle.machine.specs.Meaning.{meaning, outcomeOf}
 use Rattle.demands.specs.declared.RunAnswer.the-variants.{Refused}
-use Rattle.run.specs.declared.begin.Begun.{Begun}
 use Rattle.demands.specs.Input.{Input, jobIn, startIn, answerOf}
+use Rattle.run.specs.declared.begin.Begun.{Begun}
 use Rattle.run.specs.Run.{Begins}
 use Rattle.run.proofs.Running.{ready as playable-at-start}
 use Rattle.scheduler.proofs.Equalling.{equals}

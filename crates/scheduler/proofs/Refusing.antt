@@ -14,8 +14,8 @@ use Rattle.rules.specs.Update.{refused}
 use Rattle.rules.specs.Rules.{entryOf, enableOf, stealOf, isSeed}
 use Rattle.soundness.proofs.EntryCases.{Cases, entry-by}
 use Rattle.soundness.proofs.Tested.{fault-tested}
-use Rattle.rounds.specs.Rounds.{isWritten}
 use Rattle.search.specs.Search.{isNothing}
+use Rattle.rounds.specs.Rounds.{isWritten}
 
 -- "accepted or faulting": 0 and 9 to 12 are
 fault-written : (n : ℕ) → 9 ≤ n → n ≤ 12 → isWritten n ≡ true

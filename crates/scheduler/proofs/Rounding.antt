@@ -19,11 +19,10 @@ use Rattle.rules.specs.Sound.{Sound}
 use Rattle.soundness.proofs.Kept.{entry-sound}
 use Rattle.soundness.proofs.KeepSized.{keep-count}
 use Rattle.search.proofs.Searching.{lowest-is}
+use Rattle.search.specs.Search.{choiceOf, lowestSuspended, isNothing}
+use Rattle.rounds.specs.Rounds.{Progress, isWritten, mayTry, recorded, tried, turns, fresh, goesOn, wakened, rounds, usable, beginning, scheduledFrom, bytesOfAll, filled}
 use Rattle.scheduler.proofs.Refusing.{enables, nothing-refused}
 use Rattle.scheduler.proofs.Trying.{At, may, may-not-over, may-not-left, tries, writes, adds}
-use Rattle.search.specs.Search.{choiceOf, lowestSuspended}
-use Rattle.rounds.specs.Rounds.{Progress, isWritten, mayTry, recorded, tried, turns, fresh, goesOn, wakened, rounds, usable, beginning, scheduledFrom, bytesOfAll, filled}
-use Rattle.search.specs.Search.{isNothing}
 use Rattle.scheduler.specs.Steps.{Keeps, Rounded}
 
 -- what may not be tried changes nothing

@@ -12,15 +12,15 @@ use lib.ListN.{length, take, drop, length-append, take-append-drop}
 use lib.Seq.{take-at, drop-at, drop-drop}
 use Rattle.schedule.specs.declared.Entry.{Entry}
 use Rattle.schedule.specs.Format.{bytesOf}
-use Rattle.machine.specs.declared.Machine.{Machine}
 use Rattle.rules.specs.State.{Job, State, After, isOver}
-use Rattle.machine.specs.Meaning.{outcomeOf}
 use Rattle.rules.specs.Rules.{entryOf}
+use Rattle.machine.specs.declared.Machine.{Machine}
+use Rattle.machine.specs.Meaning.{outcomeOf}
 use Rattle.machine.proofs.Tests.{over-true, over-false}
 use Rattle.soundness.proofs.EntryCases.{and-true}
+use Rattle.rounds.specs.Rounds.{Progress, isWritten, mayTry, recorded, tried, bytesOfAll}
 use Rattle.scheduler.proofs.Keeping.{short}
 use Rattle.scheduler.proofs.Refusing.{refused-stays}
-use Rattle.rounds.specs.Rounds.{Progress, isWritten, mayTry, recorded, tried, bytesOfAll}
 use Rattle.scheduler.specs.Steps.{bytesKept, Keeps}
 
 pub bytes-snoc : (es : List Entry) (e : Entry) → bytesOfAll (es ++ (e ∷ [])) ≡ bytesOfAll es ++ bytesOf e

@@ -6,13 +6,13 @@ use Prim.Native.Nat.{ℕ}
 use lib.ListN.{length}
 use Rattle.schedule.specs.Meaning.{entries, scheduleOf}
 use Rattle.rules.specs.Lists.{Every}
+use Rattle.rules.specs.Runs.{runFrom, logsFrom}
 use Rattle.machine.specs.Meaning.{meaning}
 use Rattle.demands.specs.declared.RunAnswer.the-variants.{Refused}
 use Rattle.demands.specs.Input.{Input, jobIn, startIn, refusalOf, answerOf, numberOfAnswer}
-use Rattle.rules.specs.Runs.{runFrom, logsFrom}
 use Rattle.demands.specs.Demands.{Demand3}
-use Rattle.scheduler.specs.declared.Scheduled.{Scheduled}
 use Rattle.rounds.specs.Rounds.{Progress, isWritten, scheduledFrom, bytesOfAll, filled}
+use Rattle.scheduler.specs.declared.Scheduled.{Scheduled}
 
 -- 23, the image's, 24 and 25, this of the words only: the tests of a run by the empty schedule, which needs no log
 abbrev pub refusalIn : Input → ℕ

@@ -23,8 +23,8 @@ use thread::record::moved_to;
 ghost use Prim.Native.Nat.{_+_, _≤_};
 ghost use lib.ListN.{length};
 ghost use Rattle.rules.specs.State.{jobOf};
-ghost use Rattle.machine.specs.Meaning.{meaning};
 ghost use Rattle.rules.specs.Sound.{Sound};
+ghost use Rattle.machine.specs.Meaning.{meaning};
 ghost use Rattle.scheduler.specs.Steps.{Keeps, Rounded};
 
 // The machine after the rounds, and how many bytes of the buffer its entries have.

@@ -12,10 +12,10 @@ use Rattle.image.specs.Layout.{countOf, slotsOf, argumentsOf, codeOf}
 use Rattle.image.specs.Code.{commandsOf, isStart}
 use Rattle.image.proofs.Accepted.{accepted}
 use Rattle.image.proofs.Laws.{start-good}
-use Rattle.stacklets.specs.Frames.{slotOf}
 use Rattle.window.specs.declared.Window.{Window}
 use Rattle.window.specs.Rights.{Fits, mayLoad, childOf}
 use Rattle.window.proofs.Laws.{store-in-memory, load-memory, rejoined-fits}
+use Rattle.stacklets.specs.Frames.{slotOf}
 use Rattle.thread.specs.declared.Effect.{Effect}
 use Rattle.thread.specs.declared.Effect.the-variants.{Faults, Sets, Loads, Stores, Goes, Continues, Lforks, Forks, Joins, Suspends, Yields, Returns}
 use Rattle.thread.specs.View.{viewOf}

@@ -10,15 +10,16 @@ use lib.ListN.{length, getD, set, take, drop, length-set, length-take, length-dr
 use Rattle.command.specs.Command.{decodedAt, fiveAt}
 use Rattle.command.specs.Weight.{weightOf}
 use Rattle.image.specs.Layout.{argumentsOf}
-use Rattle.stacklets.specs.Frames.{slotOf}
 use Rattle.window.specs.declared.Window.{Window}
 use Rattle.window.specs.Rights.{childOf, restOf, rejoined}
+use Rattle.stacklets.specs.Frames.{slotOf}
 use Rattle.thread.specs.declared.Effect.{Effect}
 use Rattle.thread.specs.declared.Effect.the-variants.{Faults, Sets, Loads, Stores, Goes, Continues, Lforks, Forks, Joins, Suspends, Yields, Returns}
 use Rattle.thread.specs.Effect.{effectOf, bytesBy}
 use Rattle.thread.specs.View.{viewOf}
 use Rattle.thread.specs.Thread.{isPending, withPending}
 use Rattle.thread.specs.Job.{Job, GoodJob}
+use Rattle.thread.proofs.Widths.{bytes-below}
 use Rattle.serial.specs.declared.Routine.{Routine}
 use Rattle.serial.specs.declared.Ask.{Ask}
 use Rattle.serial.specs.declared.Ask.the-variants.{GoOn, Join, Call, Stop, Return}
@@ -28,7 +29,6 @@ use Rattle.serial.specs.Serial.{Ended, done, stopped, andThen, endedBy, 
 use Rattle.serial.specs.Steps.{openAt, firstSlots, askedOf, slotsAfter, memoryAfter, childFrom, GoodRoutine, InReach, Ready, ForkReady, forkOf}
 use Rattle.serial.proofs.CommandMet.{met, weighs, slots-few, next-small, nextOf}
 use Rattle.serial.proofs.Unrolled.{Between, ended, between, between-done}
-use Rattle.thread.proofs.Widths.{bytes-below}
 use Rattle.serial.proofs.Turns.{Calls, wide-here, turn-22, turn-goes, turn-joins, turn-stops, turn-returns, turn-calls}
 
 -- what is left of the run gives what the whole run from l₀ on gives

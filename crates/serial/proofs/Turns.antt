@@ -12,15 +12,15 @@ use Rattle.window.specs.Rights.{childOf, rejoined}
 use Rattle.thread.specs.declared.Effect.{Effect}
 use Rattle.thread.specs.declared.Effect.the-variants.{Faults, Sets, Loads, Stores, Goes, Continues, Lforks, Forks, Joins, Suspends, Yields, Returns}
 use Rattle.thread.specs.Job.{Job, GoodJob, byteAt}
+use Rattle.thread.proofs.CommandMet.{ForkMet}
+use Rattle.thread.proofs.Widths.{Widened}
 use Rattle.serial.specs.declared.Routine.{Routine}
 use Rattle.serial.specs.declared.Ask.{Ask}
 use Rattle.serial.specs.declared.Ask.the-variants.{GoOn, Join, Call, Stop, Return}
 use Rattle.serial.specs.Serial.{done, stopped, withSlot, goesOn, forked, startedOn, argumentsFrom, weightAt, effectAt, forkCalled, carried, runFrom}
 use Rattle.serial.specs.Steps.{openAt, askedOf, slotsAfter, memoryAfter, GoodRoutine}
 use Rattle.serial.proofs.CommandMet.{Next, next-met, met, Known, width-met}
-use Rattle.thread.proofs.CommandMet.{ForkMet}
 use Rattle.serial.proofs.Unrolled.{unrolled}
-use Rattle.thread.proofs.Widths.{Widened}
 
 -- a number for each case, by which two are told apart
 kind : Ask → ℕ

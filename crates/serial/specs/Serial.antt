@@ -11,9 +11,9 @@ use Rattle.image.specs.declared.Verdict.{Verdict}
 use Rattle.image.specs.declared.Verdict.the-variants.{Accepted, Refused}
 use Rattle.image.specs.Layout.{argumentsOf}
 use Rattle.image.specs.Image.{imageVerdict, numberOf}
-use Rattle.stacklets.specs.Frames.{slotOf}
 use Rattle.window.specs.declared.Window.{Window}
 use Rattle.window.specs.Rights.{rootWindow, childOf, restOf, rejoined}
+use Rattle.stacklets.specs.Frames.{slotOf}
 use Rattle.thread.specs.declared.Effect.{Effect}
 use Rattle.thread.specs.declared.Effect.the-variants.{Faults, Sets, Loads, Stores, Goes, Continues, Lforks, Forks, Joins, Suspends, Yields, Returns}
 use Rattle.thread.specs.Effect.{effectOf}

@@ -6,16 +6,16 @@ use mathlib.Core.Path.{_≡_, refl, sym, _∙_, ap, subst}
 use Prim.Native.Nat.{ℕ, _+_, _<_, _≤_}
 use native.Mathlib.Omega.{arith}
 use lib.ListN.{length, List·getD-eq-default}
+use Rattle.image.specs.Layout.{argumentsOf}
+use Rattle.schedule.specs.declared.Entry.{Entry}
+use Rattle.window.specs.declared.Window.{Window}
+use Rattle.window.proofs.Instance.{windows}
 use Rattle.forkjoin.proofs.Language.{halt, ret}
 use Rattle.forkjoin.proofs.ThreadPool.{Link, root, used, free, Pool}
 use Rattle.forkjoin.proofs.Arrays.{words-from, words-eq}
 use Rattle.forkjoin.proofs.PoolRun.{rest, run-snoc}
 use Rattle.forkjoin.proofs.SerialRun.{Outcome as SerialOutcome, done, stopped}
 use Rattle.forkjoin.proofs.ScheduleIndependence.{Job as TheoryJob, JobRun, job-serial, machine-agrees, machine-sound, machine-units}
-use Rattle.image.specs.Layout.{argumentsOf}
-use Rattle.schedule.specs.declared.Entry.{Entry}
-use Rattle.window.specs.declared.Window.{Window}
-use Rattle.window.proofs.Instance.{windows}
 use Rattle.thread.specs.Thread.{statusNumber, blankThread}
 use Rattle.thread.proofs.ThreadState.{ThreadState}
 use Rattle.thread.proofs.LawfulThreads.{threads}

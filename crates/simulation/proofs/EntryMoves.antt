@@ -7,12 +7,12 @@ use mathlib.Core.Logic.{_⊎_, ⊎-elim}
 use mathlib.Core.Path.{_≡_, refl, sym, _∙_, ap, subst}
 use Prim.Native.Nat.{ℕ, _+_, _-_, _≤_, _<_}
 use native.Mathlib.Omega.{arith}
-use Rattle.forkjoin.proofs.Language.{halt, ret}
-use Rattle.forkjoin.proofs.ThreadPool.{Link, root, used}
 use Rattle.image.specs.Layout.{countOf}
 use Rattle.schedule.specs.declared.Entry.{Entry}
 use Rattle.window.specs.declared.Window.{Window}
 use Rattle.window.proofs.Instance.{windows}
+use Rattle.forkjoin.proofs.Language.{halt, ret}
+use Rattle.forkjoin.proofs.ThreadPool.{Link, root, used}
 use Rattle.thread.specs.declared.Effect.the-variants.{Faults, Lforks, Forks, Returns}
 use Rattle.thread.specs.declared.Status.{Status}
 use Rattle.thread.specs.declared.Status.the-variants.{Ready, Suspended, Waiting}
@@ -36,20 +36,7 @@ use Rattle.soundness.proofs.Tested.{fault-tested}
 use Rattle.soundness.proofs.EntryCases.{Stepped, Chosen, above, onFree, Forked, Cases, entry-by}
 use Rattle.simulation.proofs.JobCode.{weightIn, codeOf}
 use Rattle.simulation.proofs.StatePool.{linkOf, poolOf}
-use Rattle.simulation.proofs.OwnSteps.{
-  here,
-  cell-here,
-  units-here,
-  effect-met,
-  effect-slots,
-  sets-goes,
-  loads-goes,
-  stores-goes,
-  goes-goes,
-  continues-goes,
-  suspends-goes,
-  yields-goes,
-}
+use Rattle.simulation.proofs.OwnSteps.{here, cell-here, units-here, effect-met, effect-slots, sets-goes, loads-goes, stores-goes, goes-goes, continues-goes, suspends-goes, yields-goes}
 use Rattle.simulation.proofs.JoinStep.{joins-goes}
 use Rattle.simulation.proofs.ForkStep.{Room, room-above, room-free, lforks-goes, forks-goes}
 use Rattle.simulation.proofs.ReturnStep.{ResultsInFrame, returns, root-cell, returns-goes}

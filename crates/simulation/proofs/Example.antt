@@ -10,13 +10,20 @@ use lib.ListN.{getD, replicate, length-replicate}
 use borrow.Author.Tests.{ltb-true}
 use Rattle.command.proofs.Tables.{weight-least}
 use Rattle.command.specs.Command.{decoded, commandAt}
-use Rattle.forkjoin.proofs.Arrays.{words-from}
-use Rattle.forkjoin.proofs.SerialRun.{done}
+use Rattle.command.proofs.Bools.{both}
 use Rattle.image.specs.Layout.{startOf}
 use Rattle.image.specs.Code.{commandsFrom, commandsOf, isStart, verdictFrom, lastEnds, targetsGood, routineVerdict}
 use Rattle.image.specs.Image.{inRange, rowsGood, routinesVerdict, imageVerdict}
 use Rattle.schedule.specs.declared.Entry.{Entry}
 use Rattle.schedule.specs.declared.Entry.the-variants.{Step, Take, Steal, Enable}
+use Rattle.queue.specs.Contents.{appended}
+use Rattle.window.specs.Rights.{mayStore, mayLoad, cutAt}
+use Rattle.stacklets.specs.Tops.{fitsOn, pushedTops}
+use Rattle.stacklets.specs.Frames.{argumentsAt, framed, pushedWords}
+use Rattle.forkjoin.proofs.Arrays.{words-from}
+use Rattle.forkjoin.proofs.SerialRun.{done}
+use Rattle.thread.specs.Effect.{run, anyPending, unlessPending, provided, forking, effectOf}
+use Rattle.thread.specs.Thread.{isPending, withPending}
 use Rattle.rules.specs.State.{Job, State, finished, jobOf}
 use Rattle.rules.specs.Sound.{GoodJob}
 use Rattle.rules.specs.Turn.{effectAt}
@@ -26,13 +33,6 @@ use Rattle.rules.specs.Return.{stackletsWithout, wakes, statusAfter, readyAfter
 use Rattle.rules.specs.Rules.{carriedOf, turnOf, stepOf, takeInto, takeOf, isSeed, stolenOf, stealOf, enableOf, entryOf}
 use Rattle.rules.specs.Start.{startState}
 use Rattle.rules.specs.Runs.{runFrom}
-use Rattle.queue.specs.Contents.{appended}
-use Rattle.stacklets.specs.Tops.{fitsOn, pushedTops}
-use Rattle.stacklets.specs.Frames.{argumentsAt, framed, pushedWords}
-use Rattle.thread.specs.Effect.{run, anyPending, unlessPending, provided, forking, effectOf}
-use Rattle.thread.specs.Thread.{isPending, withPending}
-use Rattle.window.specs.Rights.{mayStore, mayLoad, cutAt}
-use Rattle.command.proofs.Bools.{both}
 use Rattle.simulation.proofs.EntriesRun.{serialRun, endOf, entries-agree}
 
 abbrev image : List ℕ

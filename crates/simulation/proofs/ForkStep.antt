@@ -11,27 +11,29 @@ use native.Mathlib.Omega.{arith}
 use lib.Dec.{ltb}
 use lib.ListN.{getD, set, length, length-set}
 use borrow.Author.Tests.{lt-ltb, le-ltb, lt-leb}
-use Rattle.forkjoin.proofs.Update.{update}
-use Rattle.forkjoin.proofs.ThreadPool.{root, child, free, used}
-use Rattle.forkjoin.proofs.Arrays.{words-from, frame}
+use Rattle.command.proofs.Bools.{both}
 use Rattle.image.specs.Layout.{countOf, slotsOf, argumentsOf}
 use Rattle.image.proofs.Accepted.{accepted}
 use Rattle.image.proofs.Laws.{slots-some, slots-most, arguments-most}
+use Rattle.window.specs.declared.Window.{Window}
+use Rattle.window.specs.Rights.{childOf, restOf, cutAt}
+use Rattle.window.proofs.Laws.{cut-made}
+use Rattle.window.proofs.Instance.{windows, partsOf}
 use Rattle.stacklets.specs.Tops.{topAt, baseOn, fitsOn, isTopmost}
 use Rattle.stacklets.specs.Layout.{Apart}
 use Rattle.stacklets.specs.Frames.{argumentsAt, pushedWords}
 use Rattle.stacklets.proofs.Places.{fits-yes, pushed-apart}
 use Rattle.stacklets.proofs.Words.{pushed-keeps, pushed-argument, pushed-zero}
-use Rattle.window.specs.declared.Window.{Window}
-use Rattle.window.specs.Rights.{childOf, restOf, cutAt}
-use Rattle.window.proofs.Laws.{cut-made}
-use Rattle.window.proofs.Instance.{windows, partsOf}
+use Rattle.forkjoin.proofs.Update.{update}
+use Rattle.forkjoin.proofs.ThreadPool.{root, child, free, used}
+use Rattle.forkjoin.proofs.Arrays.{words-from, frame}
 use Rattle.thread.specs.declared.Effect.the-variants.{Lforks, Forks}
 use Rattle.thread.specs.declared.Thread.{Thread}
 use Rattle.thread.specs.Thread.{statusNumber, none, newThread, behindFork}
 use Rattle.thread.proofs.ThreadState.{ThreadState, started, behind-fork}
 use Rattle.thread.proofs.MarkedWindows.{window-tests}
 use Rattle.thread.proofs.ThreadSteps.{ThreadStep, forked, lforks-step, forks-step}
+use Rattle.thread.proofs.CommandMet.{ForkMet}
 use Rattle.rules.specs.declared.ForkKind.{ForkKind}
 use Rattle.rules.specs.declared.ForkKind.the-variants.{Called, Queued, Stolen}
 use Rattle.rules.specs.State.{Job, State, threadAt}
@@ -39,8 +41,6 @@ use Rattle.rules.specs.Turn.{turnAt, effectAt}
 use Rattle.rules.specs.Fork.{asked, born, childGoes, childStatus, parentStatus, isConnected, goesAbove}
 use Rattle.rules.specs.Lists.{Every}
 use Rattle.rules.specs.Sound.{GoodJob, Sound, Used, sizeAt, statusAt, Unused}
-use Rattle.thread.proofs.CommandMet.{ForkMet}
-use Rattle.command.proofs.Bools.{both}
 use Rattle.simulation.proofs.JobCode.{codeOf}
 use Rattle.simulation.proofs.PendingSlots.{none-pending, more-pending}
 use Rattle.simulation.proofs.StatePool.{linkOf, cellOf, cellsOf, poolOf, cell-used, cell-free, cells-set, cells-words}

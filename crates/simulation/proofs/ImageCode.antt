@@ -13,6 +13,7 @@ use Rattle.command.specs.declared.Command.the-variants.{Join}
 use Rattle.command.specs.Command.{decodedAt, widthOf}
 use Rattle.command.specs.Weight.{weightOf}
 use Rattle.command.proofs.RoundTrip.{stands}
+use Rattle.command.proofs.Bools.{both}
 use Rattle.image.specs.declared.Verdict.the-variants.{Accepted}
 use Rattle.image.specs.Layout.{countOf, slotsOf, argumentsOf, startOf, codeOf}
 use Rattle.image.specs.Code.{commandsOf, isStart}
@@ -21,7 +22,6 @@ use Rattle.image.proofs.Accepted.{Accepts, accepted}
 use Rattle.image.proofs.Laws.{placed, slots-most}
 use Rattle.thread.proofs.Routines.{Code, InRange}
 use Rattle.thread.proofs.Operands.{InFrame, in-frame, in-range}
-use Rattle.command.proofs.Bools.{both}
 
 -- does a command of routine r start at position p?
 abbrev pub isCommand : List ℕ → ℕ → ℕ → Bool

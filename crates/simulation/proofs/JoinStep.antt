@@ -7,11 +7,11 @@ use Prim.Native.Nat.{ℕ, zero, suc, _<_}
 use native.Mathlib.Decide.{ℕ-discrete}
 use native.Mathlib.Omega.{arith}
 use borrow.Author.Tests.{ltb-false, eq-eqb, ne-eqb}
-use Rattle.forkjoin.proofs.ThreadPool.{Link, root, child, used}
-use Rattle.forkjoin.proofs.Arrays.{words-from}
 use Rattle.window.specs.declared.Window.{Window}
 use Rattle.window.specs.Rights.{rejoined}
 use Rattle.window.proofs.Instance.{windows}
+use Rattle.forkjoin.proofs.ThreadPool.{Link, root, child, used}
+use Rattle.forkjoin.proofs.Arrays.{words-from}
 use Rattle.thread.specs.declared.Effect.the-variants.{Joins}
 use Rattle.thread.specs.declared.Thread.{Thread}
 use Rattle.thread.specs.declared.Status.{Status}

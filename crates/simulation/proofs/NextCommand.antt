@@ -9,20 +9,20 @@ use native.Mathlib.Decide.{decLt}
 use lib.ListN.{getD}
 use Rattle.command.specs.Command.{decodedAt, widthOf}
 use Rattle.command.specs.Weight.{weightOf}
-use Rattle.forkjoin.proofs.Arrays.{frame}
 use Rattle.image.specs.Layout.{argumentsOf, startOf}
-use Rattle.stacklets.specs.Frames.{slotOf}
 use Rattle.window.proofs.Instance.{windows}
+use Rattle.stacklets.specs.Frames.{slotOf}
+use Rattle.forkjoin.proofs.Arrays.{frame}
 use Rattle.thread.specs.declared.Thread.{Thread}
 use Rattle.thread.specs.Effect.{effectOf}
 use Rattle.thread.specs.View.{viewOf}
 use Rattle.thread.specs.Thread.{isPending}
 use Rattle.thread.proofs.ThreadState.{effect}
 use Rattle.thread.proofs.MarkedWindows.{window-tests}
+use Rattle.thread.proofs.Operands.{effect-alike}
 use Rattle.rules.specs.State.{Job, State, threadAt}
 use Rattle.rules.specs.Turn.{offsetOf, byteOf, effectAt}
 use Rattle.rules.specs.Sound.{GoodJob, Placed, Used, sizeAt}
-use Rattle.thread.proofs.Operands.{effect-alike}
 use Rattle.simulation.proofs.ImageCode.{Stood, stood, isCommand, is-command, firstByte, fetch-is, weight-is}
 use Rattle.simulation.proofs.JobCode.{weightIn, codeOf}
 use Rattle.simulation.proofs.StatePool.{threadOf}

@@ -8,13 +8,13 @@ use native.Mathlib.Decide.{decLt, decLe}
 use native.Mathlib.Omega.{arith}
 use lib.ListN.{getD, set, length}
 use borrow.Author.Tests.{lt-ltb, le-ltb}
-use Rattle.forkjoin.proofs.Update.{update}
-use Rattle.forkjoin.proofs.ThreadPool.{used}
-use Rattle.forkjoin.proofs.Arrays.{words-from, words-set, frame, frame-own, frame-other}
 use Rattle.image.specs.Layout.{argumentsOf}
 use Rattle.window.specs.declared.Window.{Window}
 use Rattle.window.proofs.Laws.{store-in-memory}
 use Rattle.window.proofs.Instance.{windows}
+use Rattle.forkjoin.proofs.Update.{update}
+use Rattle.forkjoin.proofs.ThreadPool.{used}
+use Rattle.forkjoin.proofs.Arrays.{words-from, words-set, frame, frame-own, frame-other}
 use Rattle.thread.specs.declared.Effect.{Effect}
 use Rattle.thread.specs.declared.Effect.the-variants.{Sets, Loads, Stores, Goes, Continues, Suspends, Yields}
 use Rattle.thread.specs.declared.Thread.{Thread}
@@ -23,18 +23,7 @@ use Rattle.thread.proofs.EffectFacts.{Facts}
 use Rattle.thread.proofs.ThreadState.{ThreadState, effect, view, onward, at-target}
 use Rattle.thread.proofs.LawfulThreads.{effect-facts}
 use Rattle.thread.proofs.MarkedWindows.{window-tests}
-use Rattle.thread.proofs.ThreadSteps.{
-  ThreadStep,
-  moved,
-  sets-step,
-  goes-step,
-  continues-step,
-  suspends-step,
-  yields-step,
-  loads-parameter-step,
-  loads-step,
-  stores-step,
-}
+use Rattle.thread.proofs.ThreadSteps.{ThreadStep, moved, sets-step, goes-step, continues-step, suspends-step, yields-step, loads-parameter-step, loads-step, stores-step}
 use Rattle.rules.specs.State.{Job, State, threadAt}
 use Rattle.rules.specs.Update.{setSlot, setMemory}
 use Rattle.rules.specs.Turn.{turnAt, effectAt, wordAt, done, goesOn}

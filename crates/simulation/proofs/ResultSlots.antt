@@ -10,13 +10,13 @@ use lib.ListN.{set, length, length-set}
 use lib.Seq.{getD-set-same, getD-set-other}
 use Rattle.image.specs.Layout.{slotsOf}
 use Rattle.schedule.specs.declared.Entry.{Entry}
+use Rattle.window.specs.Rights.{childOf, restOf}
+use Rattle.stacklets.specs.Tops.{baseOn}
 use Rattle.thread.specs.declared.Effect.the-variants.{Lforks, Forks, Returns}
 use Rattle.thread.specs.declared.Status.{Status}
 use Rattle.thread.specs.declared.Status.the-variants.{Running, Ready, Suspended, Waiting}
 use Rattle.thread.specs.declared.Thread.{Thread}
 use Rattle.thread.specs.Thread.{statusNumber, isPending, isRoot, none, blankThread, withStatus, disconnected, movedTo, withoutChild, behindFork, newThread}
-use Rattle.window.specs.Rights.{childOf, restOf}
-use Rattle.stacklets.specs.Tops.{baseOn}
 use Rattle.rules.specs.declared.ForkKind.{ForkKind}
 use Rattle.rules.specs.declared.ForkKind.the-variants.{Called, Queued, Stolen}
 use Rattle.rules.specs.State.{Job, State, threadAt}

@@ -10,13 +10,13 @@ use native.Mathlib.Omega.{arith}
 use lib.ListN.{getD, set, length-set}
 use lib.Seq.{getD-set-same, getD-set-other}
 use borrow.Author.Tests.{leb-false}
+use Rattle.image.specs.Layout.{slotsOf}
+use Rattle.window.specs.declared.Window.{Window}
+use Rattle.window.proofs.Instance.{windows}
 use Rattle.forkjoin.proofs.Language.{ret}
 use Rattle.forkjoin.proofs.Update.{update}
 use Rattle.forkjoin.proofs.ThreadPool.{root, child, free, used}
 use Rattle.forkjoin.proofs.Arrays.{words-from, frame, frame-own}
-use Rattle.image.specs.Layout.{slotsOf}
-use Rattle.window.specs.declared.Window.{Window}
-use Rattle.window.proofs.Instance.{windows}
 use Rattle.thread.specs.declared.Effect.the-variants.{Returns}
 use Rattle.thread.specs.declared.Status.the-variants.{Ready}
 use Rattle.thread.specs.declared.Thread.{Thread}

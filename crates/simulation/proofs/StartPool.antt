@@ -9,9 +9,6 @@ use native.Mathlib.Decide.{decLt}
 use native.Mathlib.Omega.{arith}
 use lib.ListN.{getD, set, length, replicate, length-replicate, getD-replicate, List·getD-eq-default}
 use lib.Seq.{getD-set-same, getD-set-other}
-use Rattle.forkjoin.proofs.ThreadPool.{used, root}
-use Rattle.forkjoin.proofs.Arrays.{words-from, frame}
-use Rattle.forkjoin.proofs.ScheduleIndependence.{first-pool}
 use Rattle.image.specs.Layout.{slotsOf, argumentsOf}
 use Rattle.image.proofs.Accepted.{accepted}
 use Rattle.image.proofs.Laws.{slots-most, arguments-most}
@@ -19,6 +16,9 @@ use Rattle.stacklets.specs.Tops.{fitsOn}
 use Rattle.stacklets.specs.Frames.{pushedWords}
 use Rattle.stacklets.proofs.Places.{fits-yes}
 use Rattle.stacklets.proofs.Words.{pushed-slot}
+use Rattle.forkjoin.proofs.ThreadPool.{used, root}
+use Rattle.forkjoin.proofs.Arrays.{words-from, frame}
+use Rattle.forkjoin.proofs.ScheduleIndependence.{first-pool}
 use Rattle.thread.specs.declared.Thread.{Thread}
 use Rattle.thread.specs.Thread.{blankThread, rootThread}
 use Rattle.thread.proofs.MarkedWindows.{root-job}

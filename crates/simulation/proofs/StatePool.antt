@@ -10,11 +10,11 @@ use native.Mathlib.Omega.{arith}
 use lib.Dec.{leb}
 use lib.ListN.{getD, set, length, List·getD-eq-default}
 use lib.Seq.{getD-set-same, getD-set-other}
+use Rattle.image.specs.Layout.{slotsOf}
+use Rattle.window.specs.declared.Window.{Window}
 use Rattle.forkjoin.proofs.Update.{update}
 use Rattle.forkjoin.proofs.ThreadPool.{Link, root, child, Cell, free, used, Pool}
 use Rattle.forkjoin.proofs.Arrays.{words-from, frame}
-use Rattle.image.specs.Layout.{slotsOf}
-use Rattle.window.specs.declared.Window.{Window}
 use Rattle.thread.specs.declared.Thread.{Thread}
 use Rattle.thread.specs.declared.Status.{Status}
 use Rattle.thread.specs.declared.Status.the-variants.{Free, Running, Ready, Suspended, Waiting, Lent}

@@ -12,9 +12,9 @@ use Rattle.image.specs.Layout.{slotsOf}
 use Rattle.image.proofs.Accepted.{Accepts, accepted}
 use Rattle.image.proofs.Laws.{slots-most}
 use Rattle.schedule.specs.declared.Entry.{Entry}
+use Rattle.window.specs.Rights.{childOf, restOf}
 use Rattle.stacklets.specs.Tops.{topAt, baseOn, fitsOn, isTopmost, pushedTops}
 use Rattle.stacklets.proofs.Places.{fits-yes, topmost-base}
-use Rattle.window.specs.Rights.{childOf, restOf}
 use Rattle.thread.specs.declared.Thread.{Thread}
 use Rattle.thread.specs.declared.Status.{Status}
 use Rattle.thread.specs.declared.Status.the-variants.{Running, Ready, Suspended, Waiting}

@@ -10,8 +10,8 @@ use native.Mathlib.Omega.{arith}
 use lib.ListN.{getD, set, length}
 use lib.Seq.{getD-set-same, getD-set-other, set-out}
 use Rattle.image.specs.Layout.{countOf, slotsOf}
-use Rattle.stacklets.specs.Tops.{topAt, baseOn, fitsOn, pushedTops, poppedTops}
 use Rattle.window.specs.Rights.{childOf, restOf}
+use Rattle.stacklets.specs.Tops.{topAt, baseOn, fitsOn, pushedTops, poppedTops}
 use Rattle.thread.specs.declared.Thread.{Thread}
 use Rattle.thread.specs.declared.Status.{Status}
 use Rattle.thread.specs.Thread.{statusNumber, blankThread, newThread, _is_}

@@ -13,8 +13,8 @@ use Rattle.image.specs.Code.{commandsOf, isStart}
 use Rattle.image.proofs.Accepted.{Accepts, accepted}
 use Rattle.image.proofs.Laws.{slots-most, start-good}
 use Rattle.schedule.specs.declared.Entry.{Entry}
-use Rattle.stacklets.specs.Tops.{baseOn}
 use Rattle.window.specs.Rights.{childOf, restOf}
+use Rattle.stacklets.specs.Tops.{baseOn}
 use Rattle.thread.specs.declared.Thread.{Thread}
 use Rattle.thread.specs.declared.Status.{Status}
 use Rattle.thread.specs.declared.Status.the-variants.{Running, Ready, Suspended, Waiting}

@@ -13,8 +13,8 @@ use borrow.Author.Tests.{eqb-true, eqb-false}
 use Rattle.image.specs.Layout.{slotsOf}
 use Rattle.image.proofs.Accepted.{accepted}
 use Rattle.image.proofs.Laws.{slots-some}
-use Rattle.queue.specs.Contents.{appended, capacity}
 use Rattle.schedule.specs.declared.Entry.{Entry}
+use Rattle.queue.specs.Contents.{appended, capacity}
 use Rattle.stacklets.specs.Tops.{topAt}
 use Rattle.stacklets.proofs.Places.{base-stacklet, pushed-other, popped-top, popped-other}
 use Rattle.rules.specs.Lists.{Every, Member, Distinct}

@@ -8,9 +8,9 @@ use Prim.Native.Nat.{ℕ, _<_, _≤_}
 use native.Mathlib.Omega.{arith}
 use lib.ListN.{length, set, length-set}
 use Rattle.queue.specs.Contents.{appended, capacity}
-use Rattle.stacklets.specs.Tops.{baseOn}
 use Rattle.window.specs.declared.Window.{Window}
 use Rattle.window.specs.Rights.{childOf, restOf}
+use Rattle.stacklets.specs.Tops.{baseOn}
 use Rattle.thread.specs.declared.Thread.{Thread}
 use Rattle.thread.specs.Thread.{newThread, behindFork, isPending, statusNumber, none}
 use Rattle.rules.specs.declared.ForkKind.{ForkKind}

@@ -11,11 +11,11 @@ use lib.Seq.{getD-set-other}
 use Rattle.image.specs.Layout.{slotsOf}
 use Rattle.image.proofs.Accepted.{Accepts, accepted}
 use Rattle.image.proofs.Laws.{slots-some, slots-most, start-good}
+use Rattle.window.proofs.Laws.{root-fits}
 use Rattle.stacklets.specs.Tops.{topAt, fitsOn}
 use Rattle.stacklets.proofs.Places.{fits-yes, pushed-length, pushed-top, pushed-other, pushed-most}
 use Rattle.stacklets.proofs.Words.{length-pushed}
 use Rattle.thread.specs.Thread.{blankThread, rootThread, none}
-use Rattle.window.proofs.Laws.{root-fits}
 use Rattle.rules.specs.State.{Job, State, threadAt, onCore}
 use Rattle.rules.specs.Start.{startState}
 use Rattle.rules.specs.Sound.{GoodJob, Sized, Placed, Seats, Links, Turns, Tree, childrenAmong, Results, Windows, FreeThreads, Frames, FreeStacklets, Sound, Used, Unused, statusAt}

@@ -11,12 +11,12 @@ use borrow.Author.Tests.{eqb-true}
 use Rattle.command.specs.Command.{decoded, pair}
 use Rattle.command.specs.declared.Command.{Command}
 use Rattle.command.specs.declared.Command.the-variants.{Set, Add, Subtract, Load, Store, JumpIfZero, Jump, Lfork, Fork, Join, Suspend, Yield, Return}
+use Rattle.image.specs.Layout.{argumentsOf}
 use Rattle.thread.specs.declared.Effect.{Effect}
 use Rattle.thread.specs.declared.Effect.the-variants.{Faults, Sets, Loads, Stores, Goes, Continues, Lforks, Forks, Joins, Suspends, Yields, Returns}
 use Rattle.thread.specs.Effect.{Own, run, anyPending, unlessPending, provided, forking, effectOf}
 use Rattle.thread.specs.Thread.{isPending}
 use Rattle.thread.proofs.EffectFacts.{AllClear, all-clear, first-clear}
-use Rattle.image.specs.Layout.{argumentsOf}
 use Rattle.rules.specs.State.{Job, State, threadAt}
 use Rattle.rules.specs.Turn.{effectAt, byteOf}
 use Rattle.soundness.proofs.Changes.{pendingAt}

@@ -18,11 +18,11 @@ use Rattle.schedule.proofs.Following.{allBytes, Accepted, accepted}
 use Rattle.thread.specs.Job.{Job}
 use Rattle.rules.specs.State.{State, Outcome, going, finished, faulted}
 use Rattle.rules.specs.Rules.{entryOf}
-use Rattle.run.specs.declared.Ran.{Ran}
+use Rattle.rules.specs.Runs.{runFrom, logsFrom}
 use Rattle.demands.specs.declared.RunAnswer.{RunAnswer}
 use Rattle.demands.specs.declared.RunAnswer.the-variants.{Refused, Finished, Faulted, Open}
 use Rattle.demands.specs.Input.{Input, jobIn, startIn, entryCount, refusalOf, answerOf}
-use Rattle.rules.specs.Runs.{runFrom, logsFrom}
+use Rattle.run.specs.declared.Ran.{Ran}
 use Rattle.run.specs.Run.{RunsAs, IsPlayed}
 use Rattle.transcript.proofs.Writing.{followed, same-text}
 use Rattle.transcript.specs.Text.{lastLine}

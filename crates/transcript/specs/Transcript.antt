@@ -6,9 +6,9 @@ use lib.Dec.{eqb}
 use lib.ListN.{replicate}
 use Rattle.schedule.specs.declared.Entry.{Entry}
 use Rattle.schedule.specs.Meaning.{Schedule, entries, malformed, scheduleOf}
+use Rattle.rules.specs.Runs.{runFrom, logsFrom}
 use Rattle.demands.specs.declared.RunAnswer.the-variants.{Refused}
 use Rattle.demands.specs.Input.{Input, jobIn, startIn, entryCount, refusalOf, answerOf}
-use Rattle.rules.specs.Runs.{runFrom, logsFrom}
 use Rattle.transcript.specs.Text.{entryLine, lastLine}
 use Rattle.transcript.specs.Reading.{endsEarly, inputOf, scheduleIn}
 

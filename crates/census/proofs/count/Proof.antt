@@ -51,7 +51,6 @@ use denote.Triple.Table.{entered, cited}
 use denote.Triple.Clauses.{ensured, lasts}
 use denote.Triple.Walked.{says, Stays, stay-none, stay-none-slice, walkOf, goes-none, goes-none-slice, Walks, ends-at, walked, walk-meets}
 use denote.Exit.{yes}
-use Rattle.census.specs.Counted.{countOf, isIn, oneIf}
 use Rattle.thread.specs.declared.Thread.{Thread}
 use Rattle.thread.specs.declared.Status.{Status}
 use Rattle.thread.specs.Thread.{statusNumber, blankThread}
@@ -59,6 +58,7 @@ use Rattle.thread.proofs.Thread as T
 use Rattle.thread.proofs.Thread.Laws as T′
 use Rattle.thread.proofs.Status as S
 use Rattle.thread.proofs.Status.Laws as S′
+use Rattle.census.specs.Counted.{countOf, isIn, oneIf}
 use Rattle.census.proofs.counted as counted
 use Rattle.census.proofs.counted.Symbol as counted-def
 use Rattle.census.proofs.counted.Symbol.{name as #census·counted}

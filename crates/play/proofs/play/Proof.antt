@@ -9,11 +9,11 @@ use borrow.Author.Needs.{needs}
 use lib.ListN.{length, length-set}
 use Rattle.schedule.proofs.Standing.{found}
 use Rattle.schedule.proofs.Following.{read-malformed}
-use Rattle.machine.specs.declared.OwnStep.the-variants.{Moved, Joined, Calls, Ends, Other}
 use Rattle.rules.specs.State.{State, jobOf}
+use Rattle.machine.specs.declared.OwnStep.the-variants.{Moved, Joined, Calls, Ends, Other}
 use Rattle.machine.specs.Meaning.{meaning, after}
-use Rattle.play.proofs.Playing.{Left, begins, has-room, goes, ends}
 use Rattle.machine.proofs.HeldWay.{again, again-few}
+use Rattle.play.proofs.Playing.{Left, begins, has-room, goes, ends}
 use Rattle.play.proofs.Holding.{Held, held-goes, held-room, held-within, holds, holds-on, may-step}
 use Rattle.play.proofs.play.Statement.{statement}
 use Rattle.play.proofs.play.Tie as tie

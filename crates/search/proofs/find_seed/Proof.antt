@@ -6,11 +6,11 @@ use mathlib.Core.Path.{_≡_, refl, sym, _∙_}
 use Prim.Native.Nat.{ℕ, _-_, _≤_}
 use native.Mathlib.Nat.{sub-zero}
 use native.Mathlib.Omega.{arith}
+use borrow.Author.Needs.{needs}
 use Rattle.rules.specs.State.{jobOf, State}
 use Rattle.search.specs.Showing.{showing}
 use Rattle.search.specs.Search.{seedAbove, seedOn, seedFrom, firstSeed}
 use Rattle.search.proofs.Searching.{seed-is, stops, meets, goes, empty, found, missed, absent}
-use borrow.Author.Needs.{needs}
 use Rattle.search.proofs.find_seed.Statement.{statement}
 use Rattle.search.proofs.find_seed.Tie as tie
 

@@ -1,8 +1,8 @@
 -- `search::idle_choice` meets its contract. Assumes nothing.
 use borrow.Author.Tests.{lt-ltb, le-ltb}
+use borrow.Author.Needs.{needs}
 use Rattle.queue.specs.Contents.{contents}
 use Rattle.search.specs.Search.{idleChoice}
-use borrow.Author.Needs.{needs}
 use Rattle.search.proofs.idle_choice.Statement.{statement}
 use Rattle.search.proofs.idle_choice.Tie as tie
 

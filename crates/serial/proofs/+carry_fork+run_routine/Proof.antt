@@ -3,23 +3,26 @@
 use mathlib.Core.Path.{refl, sym, _∙_}
 use native.Mathlib.Omega.{arith}
 use borrow.Author.Needs.{needs}
-use Rattle.thread.specs.Job.{jobOf}
-use Rattle.serial.specs.Serial.{startedOn}
-use Rattle.serial.specs.Steps.{openAt}
-use Rattle.serial.proofs.Loop.{Far, far-starts, fork-deep, fork-end, fork-ready, fork-runs, cost-met, effect-met, some-cost, unpaid, paid-units, reach, goes-again, join-fits, joins-again, stops-run, returns-run, call-ready, call-slot, call-cut, call-fits, call-stops, call-units, call-again}
 use Prim.Native.Nat.{ℕ, suc, _<_, _+_, _-_}
 use borrow.Fn.Kinds.{In}
 use borrow.Fn.PlainCycle.{Measures, is, falls, and}
+use Rattle.command.proofs.command_of.Reads as command-of-reads
+use Rattle.command.proofs.five_at.Reads as five-at-reads
+use Rattle.command.proofs.weights.Reads as weights-reads
+use Rattle.image.proofs.routines.arguments_of.Reads as arguments-of-reads
+use Rattle.window.proofs.Window.rejoin.Reads as rejoin-reads
+use Rattle.thread.specs.Job.{jobOf}
+use Rattle.thread.proofs.effects.effect.Reads as effect-reads
+use Rattle.thread.proofs.pending.with_pending.Reads as with-pending-reads
+use Rattle.serial.specs.Serial.{startedOn}
+use Rattle.serial.specs.Steps.{openAt}
+use Rattle.serial.proofs.Loop.{Far, far-starts, fork-deep, fork-end, fork-ready, fork-runs, cost-met, effect-met, some-cost, unpaid, paid-units, reach, goes-again, join-fits, joins-again, stops-run, returns-run, call-ready, call-slot, call-cut, call-fits, call-stops, call-units, call-again}
 use Rattle.serial.proofs.carry_fork.Reads as carry-fork
 use Rattle.serial.proofs.carry_fork.Kinds as carry-fork-kinds
 use Rattle.serial.proofs.+carry_fork+run_routine.Lts-carry_fork as carry-fork-lts
 use Rattle.serial.proofs.run_routine.Reads as run-routine
 use Rattle.serial.proofs.run_routine.Kinds as run-routine-kinds
 use Rattle.serial.proofs.+carry_fork+run_routine.Lts-run_routine as run-routine-lts
-use Rattle.command.proofs.command_of.Reads as command-of-reads
-use Rattle.command.proofs.five_at.Reads as five-at-reads
-use Rattle.command.proofs.weights.Reads as weights-reads
-use Rattle.image.proofs.routines.arguments_of.Reads as arguments-of-reads
 use Rattle.serial.proofs.act.carry_out.Reads as carry-out-reads
 use Rattle.serial.proofs.act.code_start.Reads as code-start-reads
 use Rattle.serial.proofs.act.cost_of.Reads as cost-of-reads
@@ -29,9 +32,6 @@ use Rattle.serial.proofs.frame.lay.Reads as lay-reads
 use Rattle.serial.proofs.frame.put.Reads as put-reads
 use Rattle.serial.proofs.frame.rest_window.Reads as rest-window-reads
 use Rattle.serial.proofs.frame.wide_byte.Reads as wide-byte-reads
-use Rattle.thread.proofs.effects.effect.Reads as effect-reads
-use Rattle.thread.proofs.pending.with_pending.Reads as with-pending-reads
-use Rattle.window.proofs.Window.rejoin.Reads as rejoin-reads
 use Rattle.serial.proofs.+carry_fork+run_routine.{statement}
 use Rattle.serial.proofs.+carry_fork+run_routine.Tie.{close}
 

@@ -3,10 +3,10 @@ use mathlib.Core.Path.{ap, _∙_}
 use Prim.Native.Nat.{_-_, _≤_}
 use native.Mathlib.Omega.{arith}
 use lib.ListN.{length}
+use borrow.Author.Needs.{needs}
 use Rattle.stacklets.specs.Frames.{argumentsAt}
 use Rattle.stacklets.proofs.Words.{length-framed}
 use Rattle.stacklets.proofs.Laying.{Above, down-starts, down-more, down-reads, down-ends}
-use borrow.Author.Needs.{needs}
 use Rattle.stacklets.proofs.lay_down.Statement.{statement}
 use Rattle.stacklets.proofs.lay_down.Tie as tie
 

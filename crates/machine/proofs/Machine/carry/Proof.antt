@@ -1,10 +1,10 @@
 -- `machine::Machine::carry` meets its contract. Assumes nothing.
-use Rattle.rules.specs.State.{jobOf}
-use Rattle.machine.proofs.Carrying.{sets-as, loads-as, stores-as, goes-as, continues-as, joins-as, bounded-as}
-use Rattle.rules.specs.Rules.{carriedOf}
 use native.Mathlib.Omega.{arith}
 use mathlib.Core.Path.{sym, _∙_, ap}
 use borrow.Author.Needs.{needs}
+use Rattle.rules.specs.State.{jobOf}
+use Rattle.rules.specs.Rules.{carriedOf}
+use Rattle.machine.proofs.Carrying.{sets-as, loads-as, stores-as, goes-as, continues-as, joins-as, bounded-as}
 use Rattle.machine.proofs.Machine.carry.Statement.{statement}
 use Rattle.machine.proofs.Machine.carry.Tie as tie
 

@@ -1,8 +1,8 @@
 -- `machine::Machine::carry_seed` meets its contract. Assumes nothing.
-use Rattle.machine.proofs.Carrying.{bounded-as}
-use Rattle.rules.specs.Rules.{stolenOf}
 use mathlib.Core.Path.{sym, _∙_, ap}
 use borrow.Author.Needs.{needs}
+use Rattle.rules.specs.Rules.{stolenOf}
+use Rattle.machine.proofs.Carrying.{bounded-as}
 use Rattle.machine.proofs.Machine.carry_seed.Statement.{statement}
 use Rattle.machine.proofs.Machine.carry_seed.Tie as tie
 

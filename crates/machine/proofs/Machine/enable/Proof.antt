@@ -1,10 +1,10 @@
 -- `machine::Machine::enable` meets its contract. Assumes nothing.
-use Rattle.rules.specs.Rules.{enableOf}
-use Rattle.machine.specs.Meaning.{meaning, after}
-use Rattle.machine.proofs.Tests.{over-true, over-false}
 use mathlib.Core.Path.{sym, _∙_}
 use borrow.Author.Tests.{lt-ltb, le-ltb, not-true, not-false}
 use borrow.Author.Needs.{needs}
+use Rattle.rules.specs.Rules.{enableOf}
+use Rattle.machine.specs.Meaning.{meaning, after}
+use Rattle.machine.proofs.Tests.{over-true, over-false}
 use Rattle.machine.proofs.Machine.enable.Statement.{statement}
 use Rattle.machine.proofs.Machine.enable.Tie as tie
 

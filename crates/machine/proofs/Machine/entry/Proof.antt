@@ -1,7 +1,7 @@
 -- `machine::Machine::entry` meets its contract. Assumes nothing.
-use Rattle.rules.specs.Rules.{entryOf}
 use mathlib.Core.Path.{sym, _∙_, ap}
 use borrow.Author.Needs.{needs}
+use Rattle.rules.specs.Rules.{entryOf}
 use Rattle.machine.proofs.Machine.entry.Statement.{statement}
 use Rattle.machine.proofs.Machine.entry.Tie as tie
 

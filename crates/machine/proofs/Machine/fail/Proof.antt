@@ -1,6 +1,6 @@
 -- `machine::Machine::fail` meets its contract. Assumes nothing.
-use Rattle.machine.specs.Meaning.{meaning, after}
 use mathlib.Core.Path.{refl}
+use Rattle.machine.specs.Meaning.{meaning, after}
 use Rattle.machine.proofs.Machine.fail.Statement.{statement}
 use Rattle.machine.proofs.Machine.fail.Tie as tie
 

@@ -1,8 +1,8 @@
 -- `machine::Machine::finish_and_leave` meets its contract. Assumes nothing.
-use Rattle.machine.proofs.Able.{moved-linked}
-use Rattle.machine.specs.Meaning.{meaning}
 use mathlib.Core.Path.{_∙_}
 use borrow.Author.Needs.{needs}
+use Rattle.machine.proofs.Able.{moved-linked}
+use Rattle.machine.specs.Meaning.{meaning}
 use Rattle.machine.proofs.Machine.finish_and_leave.Statement.{statement}
 use Rattle.machine.proofs.Machine.finish_and_leave.Tie as tie
 

@@ -1,7 +1,7 @@
 -- `machine::Machine::finish_and_yield` meets its contract. Assumes nothing.
+use borrow.Author.Needs.{needs}
 use Rattle.machine.proofs.Tests.{queued-after}
 use Rattle.machine.specs.Meaning.{after}
-use borrow.Author.Needs.{needs}
 use Rattle.machine.proofs.Machine.finish_and_yield.Statement.{statement}
 use Rattle.machine.proofs.Machine.finish_and_yield.Tie as tie
 

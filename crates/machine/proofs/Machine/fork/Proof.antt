@@ -1,11 +1,11 @@
 -- `machine::Machine::fork` meets its contract. Assumes nothing.
-use Rattle.machine.proofs.Birth.{no-number, no-stacklet, fork-on, born-as}
-use Rattle.machine.specs.Meaning.{after, meaning}
-use Rattle.queue.specs.Contents.{contents}
-use Rattle.machine.proofs.Places.{head-below}
 use native.Mathlib.Omega.{arith}
 use mathlib.Core.Path.{sym, _∙_}
 use borrow.Author.Needs.{needs}
+use Rattle.queue.specs.Contents.{contents}
+use Rattle.machine.proofs.Birth.{no-number, no-stacklet, fork-on, born-as}
+use Rattle.machine.specs.Meaning.{after, meaning}
+use Rattle.machine.proofs.Places.{head-below}
 use Rattle.machine.proofs.Machine.fork.Statement.{statement}
 use Rattle.machine.proofs.Machine.fork.Tie as tie
 

@@ -1,8 +1,8 @@
 -- `machine::Machine::leave` meets its contract. Assumes nothing.
-use Rattle.rules.specs.Leave.{leaves}
-use Rattle.machine.specs.Meaning.{meaning, after}
 use native.Mathlib.Omega.{arith}
 use borrow.Author.Needs.{needs}
+use Rattle.rules.specs.Leave.{leaves}
+use Rattle.machine.specs.Meaning.{meaning, after}
 use Rattle.machine.proofs.Machine.leave.Statement.{statement}
 use Rattle.machine.proofs.Machine.leave.Tie as tie
 

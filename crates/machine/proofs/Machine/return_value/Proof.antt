@@ -1,11 +1,11 @@
 -- `machine::Machine::return_value` meets its contract. Assumes nothing.
-use Rattle.machine.proofs.Ending.{returned-as}
 use borrow.Author.Tests.{leb-false}
-use Rattle.rules.specs.Return.{returnOf, returnToParent}
-use Rattle.machine.specs.Meaning.{after, meaning}
 use native.Mathlib.Omega.{arith}
 use mathlib.Core.Path.{sym, _∙_}
 use borrow.Author.Needs.{needs}
+use Rattle.rules.specs.Return.{returnOf, returnToParent}
+use Rattle.machine.proofs.Ending.{returned-as}
+use Rattle.machine.specs.Meaning.{after, meaning}
 use Rattle.machine.proofs.Machine.return_value.Statement.{statement}
 use Rattle.machine.proofs.Machine.return_value.Tie as tie
 

@@ -1,12 +1,12 @@
 -- `machine::Machine::steal` meets its contract. Assumes nothing.
+use mathlib.Core.Path.{_∙_}
+use borrow.Author.Tests.{lt-ltb, le-ltb, le-leb, lt-leb, not-true, not-false}
+use borrow.Author.Needs.{needs}
 use Rattle.rules.specs.Rules.{stealOf, isSeed}
 use Rattle.machine.specs.Meaning.{meaning, after}
 use Rattle.machine.proofs.Reach.{core-below, units-within, meet-fits, carrying, seed-used}
 use Rattle.machine.proofs.Way.{no-seed-at, seed-dear-at, seed-at}
 use Rattle.machine.proofs.Tests.{over-true, over-false}
-use mathlib.Core.Path.{_∙_}
-use borrow.Author.Tests.{lt-ltb, le-ltb, le-leb, lt-leb, not-true, not-false}
-use borrow.Author.Needs.{needs}
 use Rattle.machine.proofs.Machine.steal.Statement.{statement}
 use Rattle.machine.proofs.Machine.steal.Tie as tie
 

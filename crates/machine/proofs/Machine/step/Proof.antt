@@ -1,12 +1,12 @@
 -- `machine::Machine::step` meets its contract. Assumes nothing.
+use mathlib.Core.Path.{_∙_}
+use borrow.Author.Tests.{le-ltb, le-leb, lt-leb}
+use borrow.Author.Needs.{needs}
 use Rattle.rules.specs.Rules.{stepOf}
 use Rattle.machine.specs.Meaning.{meaning, after}
 use Rattle.machine.proofs.Reach.{core-below, units-within, meet-fits, carrying, core-used, leaving}
 use Rattle.machine.proofs.Way.{wait-at, dear-at, step-at}
 use Rattle.machine.proofs.Tests.{over-true, over-false}
-use mathlib.Core.Path.{_∙_}
-use borrow.Author.Tests.{le-ltb, le-leb, lt-leb}
-use borrow.Author.Needs.{needs}
 use Rattle.machine.proofs.Machine.step.Statement.{statement}
 use Rattle.machine.proofs.Machine.step.Tie as tie
 

@@ -1,15 +1,15 @@
 -- `machine::Machine::take` meets its contract. Assumes nothing.
-use Rattle.machine.proofs.Able.{ready-below, count-most}
-use Rattle.queue.specs.Contents.{contents}
-use Rattle.rules.specs.Rules.{takeOf, takeInto}
-use Rattle.machine.specs.Meaning.{meaning, after}
-use Rattle.queue.proofs.Laws.{nothing-empty, number-first}
-use Rattle.machine.proofs.Places.{head-below}
-use Rattle.machine.proofs.Tests.{over-true, over-false}
 use native.Mathlib.Omega.{arith}
 use mathlib.Core.Path.{sym, _∙_}
 use borrow.Author.Tests.{lt-ltb, le-ltb, le-leb, lt-leb}
 use borrow.Author.Needs.{needs}
+use Rattle.queue.specs.Contents.{contents}
+use Rattle.queue.proofs.Laws.{nothing-empty, number-first}
+use Rattle.rules.specs.Rules.{takeOf, takeInto}
+use Rattle.machine.proofs.Able.{ready-below, count-most}
+use Rattle.machine.specs.Meaning.{meaning, after}
+use Rattle.machine.proofs.Places.{head-below}
+use Rattle.machine.proofs.Tests.{over-true, over-false}
 use Rattle.machine.proofs.Machine.take.Statement.{statement}
 use Rattle.machine.proofs.Machine.take.Tie as tie
 

@@ -1,6 +1,6 @@
 -- `machine::own::own_step` meets its contract. Assumes nothing.
-use Rattle.machine.proofs.OwnWay.{own-dear, own-carries}
 use borrow.Author.Needs.{needs}
+use Rattle.machine.proofs.OwnWay.{own-dear, own-carries}
 use Rattle.machine.proofs.own.own_step.Statement.{statement}
 use Rattle.machine.proofs.own.own_step.Tie as tie
 

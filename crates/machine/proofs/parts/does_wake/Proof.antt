@@ -1,8 +1,8 @@
 -- `machine::parts::does_wake` meets its contract. Assumes nothing.
-use Rattle.rules.specs.Return.{wakes}
 use mathlib.Core.Path.{sym, _∙_}
 use borrow.Author.Tests.{not-true, not-false}
 use borrow.Author.Needs.{needs}
+use Rattle.rules.specs.Return.{wakes}
 use Rattle.machine.proofs.parts.does_wake.Statement.{statement}
 use Rattle.machine.proofs.parts.does_wake.Tie as tie
 

@@ -1,7 +1,7 @@
 -- `machine::parts::find_place` meets its contract. Assumes nothing.
-use Rattle.machine.proofs.Places.{place-free}
-use Rattle.rules.specs.Fork.{placeOf}
 use borrow.Author.Needs.{needs}
+use Rattle.rules.specs.Fork.{placeOf}
+use Rattle.machine.proofs.Places.{place-free}
 use Rattle.machine.proofs.parts.find_place.Statement.{statement}
 use Rattle.machine.proofs.parts.find_place.Tie as tie
 

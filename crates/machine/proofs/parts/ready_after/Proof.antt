@@ -1,7 +1,7 @@
 -- `machine::parts::ready_after` meets its contract. Assumes nothing.
-use Rattle.rules.specs.Return.{readyAfter}
 use mathlib.Core.Path.{sym, _∙_}
 use borrow.Author.Needs.{needs}
+use Rattle.rules.specs.Return.{readyAfter}
 use Rattle.machine.proofs.parts.ready_after.Statement.{statement}
 use Rattle.machine.proofs.parts.ready_after.Tie as tie
 

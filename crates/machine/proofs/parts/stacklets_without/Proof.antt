@@ -1,7 +1,7 @@
 -- `machine::parts::stacklets_without` meets its contract. Assumes nothing.
-use Rattle.rules.specs.Return.{stackletsWithout}
 use borrow.Author.Tests.{eq-eqb, ne-eqb}
 use borrow.Author.Needs.{needs}
+use Rattle.rules.specs.Return.{stackletsWithout}
 use Rattle.machine.proofs.parts.stacklets_without.Statement.{statement}
 use Rattle.machine.proofs.parts.stacklets_without.Tie as tie
 

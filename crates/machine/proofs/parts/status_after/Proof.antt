@@ -1,7 +1,7 @@
 -- `machine::parts::status_after` meets its contract. Assumes nothing.
-use Rattle.rules.specs.Return.{statusAfter}
 use mathlib.Core.Path.{sym, _∙_}
 use borrow.Author.Needs.{needs}
+use Rattle.rules.specs.Return.{statusAfter}
 use Rattle.machine.proofs.parts.status_after.Statement.{statement}
 use Rattle.machine.proofs.parts.status_after.Tie as tie
 

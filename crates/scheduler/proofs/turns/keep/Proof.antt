@@ -2,8 +2,8 @@
 use mathlib.Core.Path.{sym, _∙_}
 use native.Mathlib.Omega.{arith}
 use borrow.Author.Tests.{not-true, not-false}
-use Rattle.scheduler.proofs.Keeping.{not-kept, kept, few, has-room}
 use borrow.Author.Needs.{needs}
+use Rattle.scheduler.proofs.Keeping.{not-kept, kept, few, has-room}
 use Rattle.scheduler.proofs.turns.keep.Statement.{statement}
 use Rattle.scheduler.proofs.turns.keep.Tie as tie
 

@@ -9,8 +9,8 @@ use mathlib.Core.Path.{_≡_, refl, sym, _∙_, ap}
 use Prim.Native.Nat.{_+_, _-_, _*_, _≤_, _<_, ℕ}
 use native.Mathlib.Omega.{arith}
 use lib.ListN.{length, getD}
-use Rattle.machine.specs.declared.OwnStep.the-variants.{Moved, Joined, Calls, Ends, Other}
 use Rattle.rules.specs.State.{State, jobOf}
+use Rattle.machine.specs.declared.OwnStep.the-variants.{Moved, Joined, Calls, Ends, Other}
 use Rattle.machine.specs.Meaning.{meaning, after}
 use Rattle.machine.proofs.HeldWay.{again, again-few, may-own}
 use Rattle.search.proofs.Searching.{chosen}
