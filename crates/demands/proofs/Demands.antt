@@ -4,7 +4,7 @@ use mathlib.Core.Bool.{true}
 use mathlib.Core.List.{List, [], _∷_, _++_, append-nil}
 use mathlib.Core.Logic.{_⊎_}
 use mathlib.Core.Path.{_≡_, refl, sym, _∙_, ap, subst}
-use Prim.Native.Nat.{ℕ, suc, _+_, _<_}
+use Prim.Native.Nat.{ℕ, _+_, _<_}
 use native.Mathlib.Omega.{arith}
 use lib.ListN.{length, getD}
 use Rattle.command.proofs.RoundTrip.{reads-back, writes-again}
@@ -17,6 +17,7 @@ use Rattle.rules.specs.State.{Job, State, finished, faulted, isOver}
 use Rattle.rules.specs.Rules.{entryOf, stepOf, takeOf}
 use Rattle.rules.specs.Start.{startState}
 use Rattle.rules.specs.Sound.{Sound, statusAt}
+use Rattle.rules.proofs.Laws.{run-next, log-at}
 use Rattle.rules.specs.Runs.{runFrom, logsFrom}
 use Rattle.serial.specs.Serial.{Ended, done, stopped, serialOf, serialFrom}
 use Rattle.soundness.proofs.Kept.{run-sound, entry-sound}
@@ -106,28 +107,6 @@ module _ (i : Input) (k : Takes i) where
 
 pub demand-3 : (i : Input) → Takes i → (es : List Entry) → Demand3 i (runFrom (jobIn i) (startIn i) es)
 demand-3 i k es = at-end i k es
-
--- entries one after another
-run-append : (j : Job) (s : State) (before after : List Entry) → runFrom j s (before ++ after) ≡ runFrom j (runFrom j s before) after
-unfolding runFrom
-run-append j s [] after = refl
-run-append j s (e ∷ before) after = run-append j (entryOf j s e .state) before after
-
-pub run-next : (j : Job) (s : State) (before : List Entry) (e : Entry) → runFrom j s (before ++ (e ∷ [])) ≡ entryOf j (runFrom j s before) e .state
-unfolding runFrom
-run-next j s before e = run-append j s before (e ∷ [])
-
--- the log byte behind those of the entries before
-log-at : (j : Job) (s : State) (before after : List Entry) (e : Entry) (rest : List ℕ)
-    → getD (logsFrom j s (before ++ (e ∷ after)) ++ rest) (length before) 0 ≡ entryOf j (runFrom j s before) e .log
-unfolding runFrom logsFrom
-log-at j s [] after e rest = refl
-log-at j s (x ∷ before) after e rest = log-at j (entryOf j s x .state) before after e rest
-
-pub logs-many : (j : Job) (s : State) (es : List Entry) → length (logsFrom j s es) ≡ length es
-unfolding logsFrom
-logs-many j s [] = refl
-logs-many j s (e ∷ es) = ap suc (logs-many j (entryOf j s e .state) es)
 
 pub sound-after : (i : Input) → Takes i → (es : List Entry) → Sound (jobIn i) (runFrom (jobIn i) (startIn i) es)
 sound-after i k es = sound i k es

@@ -8,6 +8,7 @@ use Prim.Native.Nat.{ℕ, _≤_, _<_}
 use native.Mathlib.Omega.{arith}
 use lib.Dec.{ltb, eqb}
 use lib.ListN.{length, getD}
+use Rattle.command.proofs.Bools.{neither}
 use Rattle.command.proofs.Tables.{weight-least}
 use Rattle.image.specs.declared.Verdict.{Verdict}
 use Rattle.image.specs.declared.Verdict.the-variants.{Accepted, Refused}
@@ -26,10 +27,6 @@ use Rattle.demands.specs.Demands.{Takes}
 passed : (b : Bool) (n rest : ℕ) → 1 ≤ n → cond b n rest ≡ 0 → (b ≡ false) × (rest ≡ 0)
 passed true n rest h e = absurd (omega (arith, h, e))
 passed false n rest h e = (refl, e)
-
-or-false : (a b : Bool) → (a || b) ≡ false → (a ≡ false) × (b ≡ false)
-or-false true b e = let z : _≡_ {A = ℕ} 0 1 = cc in absurd (omega arith)
-or-false false b e = (refl, e)
 
 -- a number that is given where it is not 0
 passed-number : (n rest : ℕ) → cond (not (eqb n 0)) n rest ≡ 0 → (n ≡ 0) × (rest ≡ 0)
@@ -103,13 +100,13 @@ module _ (i : Input) (schedule log : List ℕ) (passes : refusalOf i schedule lo
   schedule-right = passed (not (eqb (numberOf (scheduleOf schedule)) 0)) 13 fourth (omega arith) (arguments-right .1)
 
   words-right : (badWords i ≡ false) × (ltb (length log) (entryCount (scheduleOf schedule)) ≡ false)
-  words-right = or-false (badWords i) _ (passed lastTest 25 0 (omega arith) (schedule-right .1) .0)
+  words-right = neither (badWords i) _ (passed lastTest 25 0 (omega arith) (schedule-right .1) .0)
 
   lengths-right : (not (eqb (length (i .parameters)) 32) ≡ false) × (not (eqb (length (i .memory)) 992) ≡ false)
-  lengths-right = or-false _ _ (words-right .0)
+  lengths-right = neither _ _ (words-right .0)
 
   cores-right : (eqb (i .cores) 0 ≡ false) × (ltb 4 (i .cores) ≡ false)
-  cores-right = or-false _ _ (first .0)
+  cores-right = neither _ _ (first .0)
 
   pub takes : ((k : ℕ) → getD (i .image) k 0 < 256) → Takes i
   takes bytes =

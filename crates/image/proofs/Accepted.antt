@@ -7,6 +7,7 @@ use Prim.Native.Nat.{ℕ, zero, suc, _≤_}
 use native.Mathlib.Omega.{arith}
 use lib.Dec.{ltb, eqb}
 use lib.ListN.{length}
+use Rattle.command.proofs.Bools.{neither}
 use Rattle.image.specs.declared.Verdict.the-variants.{Accepted, Refused}
 use Rattle.image.specs.declared.Refusal.{Refusal}
 use Rattle.image.specs.declared.Refusal.the-variants.{BadLength, BadCount, BadRow}
@@ -20,10 +21,6 @@ pub record Accepts (s : List ℕ) : Type 0 where
   pub total : length s ≡ startOf s (countOf s)
   pub rows : rowsGood s (countOf s) ≡ true
   pub routines : routinesVerdict s (countOf s) 0 ≡ Accepted
-
-neither : (a b : Bool) → (a || b) ≡ false → (a ≡ false) × (b ≡ false)
-neither true b h = let z : _≡_ {A = ℕ} 0 1 = cc in absurd (omega arith)
-neither false b h = (refl, h)
 
 positive : (k : ℕ) → (k ≡ 0 → ⊥) → 1 ≤ k
 positive zero b = absurd (b refl)

@@ -22,7 +22,7 @@ use Rattle.thread.specs.View.{viewOf, mayCut}
 use Rattle.thread.specs.declared.Status.the-variants.{Lent}
 use Rattle.thread.specs.Thread.{isPending, statusNumber, _is_}
 use Rattle.thread.proofs.Routines.{InRange}
-use Rattle.thread.proofs.CommandMet.{cut-inside, place-small, next-small, some-bytes, operands-few}
+use Rattle.met.proofs.CommandMet.{cut-inside, place-small, next-small, some-bytes, operands-few}
 use Rattle.thread.proofs.EffectFacts.{Guarded, guarded}
 use Rattle.rules.specs.State.{Job, jobOf, State, threadAt}
 use Rattle.rules.specs.Turn.{offsetOf, byteOf}

@@ -28,4 +28,4 @@ Holds (r ∷ rs) =
 
 pub rows-hold : Holds rows
 unfolding decoded startOf rowsOf startsUpTo appended fitsOn pushedTops argumentsAt framed pushedWords run anyPending unlessPending provided forking effectOf isPending withPending mayStore mayLoad cutAt startState effectAt leaves goesAbove placeOf born forkOn forkWith forkOf stackletsWithout wakes statusAfter readyAfter returnToParent returnOf carriedOf turnOf stepOf takeInto takeOf isSeed stolenOf stealOf enableOf entryOf runFrom logsFrom
-rows-hold = (refl, refl, refl, (refl, refl, refl, (refl, refl, refl, tt)))
+rows-hold = (refl, refl, refl, (refl, refl, refl, (refl, refl, refl, (refl, refl, refl, (refl, refl, refl, tt)))))

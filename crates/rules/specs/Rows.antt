@@ -3,10 +3,9 @@
 use mathlib.Core.List.{List, [], _∷_, _++_}
 use Prim.Native.Nat.{ℕ}
 use lib.ListN.{replicate}
-use Rattle.image.specs.Cases.{whole}
 use Rattle.image.specs.Layout.{programOf, startsIn}
 use Rattle.schedule.specs.declared.Entry.{Entry}
-use Rattle.schedule.specs.declared.Entry.the-variants.{Step, Take, Steal}
+use Rattle.schedule.specs.declared.Entry.the-variants.{Step, Take, Steal, Enable}
 use Rattle.rules.specs.State.{Job, jobOf, State, Outcome, finished, faulted}
 use Rattle.rules.specs.Start.{startState}
 
@@ -64,20 +63,49 @@ pendingUntilTheJoin = record {
   units = 9;
 }
 
--- "steal: carry out thread t's next command .. t staying lent": the second lfork of the case "Whole" is stolen while the first child has
--- core 0. When that child returns the parent goes on behind both, to its join
-abbrev pub stolenOnce : Row
-stolenOnce = record {
-  image = whole;
-  cores = 2;
+-- "steal: carry out thread t's next command .., its child independent and running on idle core c, .. t staying lent": of three lforks the second
+-- and the third are stolen while the first child has core 0. A stolen child leaves its core idle when it returns (16); when the first child
+-- returns the parent goes on behind all three, to its join. Units: 1, three times 6, three times 1 + 1, and 1 + 1 + 1 + 1
+abbrev pub stolenTwice : Row
+stolenTwice = record {
+  image =
+      (0x02 ∷ 0x04 ∷ 0x00 ∷ 0x1E ∷ 0x00 ∷ 0x01 ∷ 0x00 ∷ 0x06 ∷ 0x00 ∷ [])
+      ++ (0x01 ∷ 0x03 ∷ 0x20 ∷ 0x00 ∷ 0x08 ∷ 0x01 ∷ 0x00 ∷ 0x00 ∷ 0x03 ∷ 0x08 ∷ 0x01 ∷ 0x01 ∷ 0x00 ∷ 0x03 ∷ 0x08 ∷ 0x01 ∷ 0x02 ∷ 0x00 ∷ 0x03 ∷ [])
+      ++ (0x0A ∷ 0x02 ∷ 0x00 ∷ 0x00 ∷ 0x01 ∷ 0x02 ∷ 0x00 ∷ 0x00 ∷ 0x02 ∷ 0x0D ∷ 0x00 ∷ [])
+      ++ five;
+  cores = 3;
   entries =
-      Step 0 ∷ Step 0 ∷ Steal 1 0
-      ∷ Step 1 ∷ Step 1 ∷ Step 0 ∷ Step 0
-      ∷ Step 0 ∷ Step 0 ∷ Step 0 ∷ [];
-  log = 0 ∷ 0 ∷ 0 ∷ 0 ∷ 0 ∷ 0 ∷ 0 ∷ 0 ∷ 0 ∷ 0 ∷ [];
-  outcome = finished 10;
-  units = 20;
+      Step 0 ∷ Step 0 ∷ Steal 1 0 ∷ Steal 2 0
+      ∷ Step 1 ∷ Step 1 ∷ Take 1
+      ∷ Step 2 ∷ Step 2 ∷ Step 0 ∷ Step 0
+      ∷ Step 0 ∷ Step 0 ∷ Step 0 ∷ Step 0 ∷ [];
+  log = 0 ∷ 0 ∷ 0 ∷ 0 ∷ 0 ∷ 0 ∷ 16 ∷ 0 ∷ 0 ∷ 0 ∷ 0 ∷ 0 ∷ 0 ∷ 0 ∷ 0 ∷ [];
+  outcome = finished 15;
+  units = 29;
+}
+
+-- "yield: the command is done, then the thread .. stands at the tail of the ready line": its core is idle (15) until it is taken again
+abbrev pub yieldsAndReturns : Row
+yieldsAndReturns = record {
+  image = 0x01 ∷ 0x01 ∷ 0x00 ∷ 0x03 ∷ 0x00 ∷ 0x0C ∷ 0x0D ∷ 0x00 ∷ [];
+  cores = 1;
+  entries = Step 0 ∷ Step 0 ∷ Take 0 ∷ Step 0 ∷ [];
+  log = 0 ∷ 15 ∷ 0 ∷ 0 ∷ [];
+  outcome = finished 0;
+  units = 4;
+}
+
+-- "suspend: the command is done, then the thread is suspended"; "enable: suspended t joins the ready line". It is not ready before (16), and not
+-- suspended behind (17)
+abbrev pub suspendsAndReturns : Row
+suspendsAndReturns = record {
+  image = 0x01 ∷ 0x01 ∷ 0x00 ∷ 0x03 ∷ 0x00 ∷ 0x0B ∷ 0x0D ∷ 0x00 ∷ [];
+  cores = 1;
+  entries = Step 0 ∷ Take 0 ∷ Enable 0 ∷ Enable 0 ∷ Take 0 ∷ Step 0 ∷ [];
+  log = 0 ∷ 16 ∷ 0 ∷ 17 ∷ 0 ∷ 0 ∷ [];
+  outcome = finished 0;
+  units = 4;
 }
 
 abbrev pub rows : List Row
-rows = wokenByTheLastChild ∷ pendingUntilTheJoin ∷ stolenOnce ∷ []
+rows = wokenByTheLastChild ∷ pendingUntilTheJoin ∷ stolenTwice ∷ yieldsAndReturns ∷ suspendsAndReturns ∷ []

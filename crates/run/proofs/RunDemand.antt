@@ -6,11 +6,12 @@ use lib.ListN.{length, getD, drop, length-append, length-drop}
 use native.Mathlib.Omega.{arith}
 use Rattle.schedule.specs.declared.Entry.{Entry}
 use Rattle.schedule.specs.Meaning.{entries, scheduleOf}
+use Rattle.rules.proofs.Laws.{run-next, logs-many}
 use Rattle.rules.specs.Runs.{logsFrom, runFrom, logged}
 use Rattle.rules.specs.State.{Outcome, going, finished, faulted}
 use Rattle.machine.specs.Meaning.{meaning}
 use Rattle.soundness.proofs.Unchanged.{unchanged}
-use Rattle.demands.proofs.Demands.{demand-2-logged, demand-3, run-next, sound-after, logs-many}
+use Rattle.demands.proofs.Demands.{demand-2-logged, demand-3, sound-after}
 use Rattle.demands.proofs.Passing.{takes, has-room}
 use Rattle.demands.specs.Input.{Input, jobIn, startIn, refusalOf, answerOf, entryCount}
 use Rattle.demands.specs.Demands.{Demand2, Demand3, Demand1}

@@ -134,17 +134,18 @@ pub record Found-at (s : List ℕ) (at : ℕ) (e : Entry) (next : ℕ) : Type 0 
   pub within : next ≤ length s
   pub wide : at + 2 ≤ next
 
-wide : (e : Entry) → 2 ≤ length (bytesOf e)
-wide (Step c) = omega arith
-wide (Take c) = omega arith
-wide (Steal c t) = omega arith
-wide (Enable t) = omega arith
+-- an entry has two bytes at least
+pub two-bytes : (e : Entry) → 2 ≤ length (bytesOf e)
+two-bytes (Step c) = omega arith
+two-bytes (Take c) = omega arith
+two-bytes (Steal c t) = omega arith
+two-bytes (Enable t) = omega arith
 
 pub found : (s : List ℕ) (at : ℕ) (e : Entry) (next : ℕ) → entryAt s at ≡ Found e next → Found-at s at e next
 unfolding entryAt
 found s at e next h =
     let st : Stands (drop at s) at e next = in-found (drop at s) at e next h in
-    let w : 2 ≤ length (bytesOf e) = wide e in
+    let w : 2 ≤ length (bytesOf e) = two-bytes e in
     let b : drop at s ≡ bytesOf e ++ drop (at + length (bytesOf e)) s = st .bytes ∙ ap (λ (l : List ℕ). bytesOf e ++ l) (drop-drop (length (bytesOf e)) at s) in
     let n : length s - at ≡ length (bytesOf e) + (length s - (at + length (bytesOf e))) = simp (length-append, length-drop) at (ap length b) in
     record { bytes = rw (st .after) b; after = st .after; within = omega (arith, st .after); wide = omega (arith, st .after) }

@@ -8,6 +8,7 @@ use native.Mathlib.Nat.{zero-add}
 use native.Mathlib.Omega.{arith}
 use lib.Dec.{leb}
 use lib.ListN.{getD, length, length-append}
+use Rattle.command.proofs.Bools.{both}
 use Rattle.schedule.specs.declared.Entry.{Entry}
 use Rattle.schedule.specs.declared.Entry.the-variants.{Enable}
 use Rattle.schedule.specs.Format.{bytesOf}
@@ -15,8 +16,8 @@ use Rattle.schedule.proofs.Following.{allBytes, accepts-short}
 use Rattle.rules.specs.Lists.{Every}
 use Rattle.rules.specs.State.{Job, State, isOver}
 use Rattle.rules.specs.Rules.{entryOf}
+use Rattle.rules.proofs.Laws.{run-next}
 use Rattle.rules.specs.Runs.{runFrom, logsFrom}
-use Rattle.soundness.proofs.EntryCases.{and-true}
 use Rattle.demands.specs.Input.{Input, jobIn, startIn}
 use Rattle.demands.specs.Demands.{Demand3}
 use Rattle.demands.proofs.Demands.{demand-3}
@@ -28,11 +29,6 @@ use Rattle.scheduler.proofs.Trying.{bytes-snoc}
 use Rattle.scheduler.specs.Promise.{scheduledOf, refusalIn, EqualsRun}
 
 module _ (j : Job) where
-  run-snoc : (s : State) (es : List Entry) (e : Entry) → runFrom j s (es ++ (e ∷ [])) ≡ entryOf j (runFrom j s es) e .state
-  unfolding runFrom
-  run-snoc s [] e = refl
-  run-snoc s (d ∷ es) e = run-snoc (entryOf j s d .state) es e
-
   logs-snoc : (P : ℕ → Type 0) (s : State) (es : List Entry) (e : Entry) → Every P (logsFrom j s es) → P (entryOf j (runFrom j s es) e .log)
       → Every P (logsFrom j s (es ++ (e ∷ [])))
   unfolding runFrom logsFrom
@@ -52,7 +48,7 @@ module _ (j : Job) where
     ran-recorded p r l e true h =
         rw h
         (record {
-          runs = run-snoc s₀ (p .written) e ∙ ap (λ (x : State). entryOf j x e .state) (r .runs);
+          runs = run-next j s₀ (p .written) e ∙ ap (λ (x : State). entryOf j x e .state) (r .runs);
           logs = logs-snoc (λ n. isWritten n ≡ true) s₀ (p .written) e (r .logs) (ap (λ (x : State). isWritten (entryOf j x e .log)) (r .runs) ∙ h);
           fits = rw (bytes-snoc, length-append) (omega (arith, r .fits, short e));
         })
@@ -67,7 +63,7 @@ module _ (j : Job) where
     unfolding tried
     ran-tried p r e =
         either (mayTry p) (recorded e (entryOf j (p .state) e) p) p
-        (λ h. ran-recorded p r (leb-true 3 (p .left) (and-true (not (isOver (p .state .outcome))) (leb 3 (p .left)) h .1)) e _ refl)
+        (λ h. ran-recorded p r (leb-true 3 (p .left) (both (not (isOver (p .state .outcome))) (leb 3 (p .left)) h .1)) e _ refl)
         r
 
     ran-turns : (n c : ℕ) (p : Progress) → Ran s₀ room p → Ran s₀ room (turns n j c p)

@@ -1,7 +1,7 @@
 -- A busy core's steps carried out in place, with the thread's position and the units held apart from the machine: each is the core's try.
 -- Assumes nothing.
 use borrow.Author.Tests.{lt-ltb, eqb-false}
-use mathlib.Core.Bool.{Bool, true, false, _||_}
+use mathlib.Core.Bool.{or-true, Bool, true, false}
 use mathlib.Core.List.{List}
 use mathlib.Core.Path.{_≡_, refl, sym, _∙_}
 use Prim.Native.Nat.{ℕ, _+_, _-_, _%_, _≤_, _<_}
@@ -31,10 +31,6 @@ open-zero m h = by (eqb (m .over) 0) refl
     by : (x : Bool) → eqb (m .over) 0 ≡ x → x ≡ true
     by true e = refl
     by false e = sym h ∙ over-true m (eqb-false (m .over) 0 e)
-
-or-true : (b : Bool) → (b || true) ≡ true
-or-true true = refl
-or-true false = refl
 
 moved-by : (j : Job) (count room : ℕ) (begin : State) (first : List ℕ) (s : State) (at : ℕ) (buffer : List ℕ) (b : Bool) (c : ℕ)
     → b ≡ true → Rounding j count room begin first s at buffer b c → Rounding j count room begin first s at buffer true c

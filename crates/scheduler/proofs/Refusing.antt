@@ -1,6 +1,6 @@
 -- A refused entry changes nothing, and a suspended thread's enable is accepted. Assumes nothing.
 use borrow.Author.Tests.{le-leb, lt-ltb, le-ltb, leb-true}
-use mathlib.Core.Bool.{Bool, true, false, cond, _||_}
+use mathlib.Core.Bool.{or-true, Bool, true, false, cond}
 use mathlib.Core.Path.{_≡_, refl, sym, _∙_}
 use Prim.Native.Nat.{ℕ, _≤_, _<_}
 use native.Mathlib.Omega.{arith}
@@ -20,10 +20,6 @@ use Rattle.rounds.specs.Rounds.{isWritten}
 -- "accepted or faulting": 0 and 9 to 12 are
 fault-written : (n : ℕ) → 9 ≤ n → n ≤ 12 → isWritten n ≡ true
 fault-written n l h = rw (le-leb 9 n l, le-leb n 12 h) (or-true (eqb n 0))
-  where
-    or-true : (b : Bool) → (b || true) ≡ true
-    or-true true = refl
-    or-true false = refl
 
 never : {A : Type 0} → true ≡ false → A
 never e = let z : _≡_ {A = ℕ} 0 1 = cc in absurd (omega arith)

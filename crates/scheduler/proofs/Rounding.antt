@@ -1,6 +1,6 @@
 -- The loop over the tries: the cores that are left in this round, and the rounds behind it, lead to where all rounds do. Assumes nothing.
 use borrow.Author.Tests.{lt-ltb, le-ltb, eqb-true}
-use mathlib.Core.Bool.{Bool, true, false, cond, _&&_, _||_}
+use mathlib.Core.Bool.{and-false, Bool, true, false, cond, _||_}
 use mathlib.Core.List.{List, _++_}
 use mathlib.Core.Path.{_≡_, refl, sym, _∙_, ap}
 use Prim.Native.Nat.{ℕ, zero, suc, _+_, _-_, _*_, _≤_, _<_}
@@ -85,10 +85,6 @@ one-round j n count p e = ap (λ (k : ℕ). onward-from j n (turns k j 0 (fresh 
 
 false-not : {A : Type 0} → false ≡ true → A
 false-not e = let z : _≡_ {A = ℕ} 0 1 = cc in absurd (omega arith)
-
-and-false : (b : Bool) → (b && false) ≡ false
-and-false true = refl
-and-false false = refl
 
 -- whether another round follows, and from where
 goes-not : (p : Progress) → p .moved ≡ false → none ≤ lowestSuspended (p .state) → goesOn p ≡ false

@@ -1,6 +1,6 @@
 -- One try in the code and in the definition: the scheduler's variables stand at some progress, and go on to the next. Assumes nothing.
 use borrow.Author.Tests.{le-leb, lt-leb, leb-true, leb-false, eqb-true, eqb-false}
-use mathlib.Core.Bool.{Bool, true, false, _&&_, _||_, not}
+use mathlib.Core.Bool.{and-false, Bool, true, false, _&&_, _||_, not}
 use mathlib.Core.List.{List, [], _∷_, _++_, append-nil, append-assoc}
 use mathlib.Core.Logic.{_⊎_, inl, inr}
 use mathlib.Core.Path.{_≡_, refl, sym, _∙_, ap}
@@ -10,6 +10,7 @@ use native.Mathlib.Omega.{arith}
 use lib.Dec.{eqb, leb}
 use lib.ListN.{length, take, drop, length-append, take-append-drop}
 use lib.Seq.{take-at, drop-at, drop-drop}
+use Rattle.command.proofs.Bools.{both}
 use Rattle.schedule.specs.declared.Entry.{Entry}
 use Rattle.schedule.specs.Format.{bytesOf}
 use Rattle.rules.specs.State.{Job, State, After, isOver}
@@ -17,7 +18,6 @@ use Rattle.rules.specs.Rules.{entryOf}
 use Rattle.machine.specs.declared.Machine.{Machine}
 use Rattle.machine.specs.Meaning.{outcomeOf}
 use Rattle.machine.proofs.Tests.{over-true, over-false}
-use Rattle.soundness.proofs.EntryCases.{and-true}
 use Rattle.rounds.specs.Rounds.{Progress, isWritten, mayTry, recorded, tried, bytesOfAll}
 use Rattle.scheduler.proofs.Keeping.{short}
 use Rattle.scheduler.proofs.Refusing.{refused-stays}
@@ -39,7 +39,7 @@ pub record At (room : ℕ) (first : List ℕ) (p : Progress) (s : State) (at : �
 -- the test before a try
 pub test-met : (m : Machine) (left : ℕ) (b : Bool) → b ≡ (eqb (m .over) 0 && leb 3 left) → b ≡ true → (isOver (outcomeOf m) ≡ false) × (3 ≤ left)
 test-met m left b h t =
-    let (o, l) = and-true (eqb (m .over) 0) (leb 3 left) (sym h ∙ t) in
+    let (o, l) = both (eqb (m .over) 0) (leb 3 left) (sym h ∙ t) in
     (over-false m (eqb-true (m .over) 0 o), leb-true 3 left l)
 
 pub test-failed : (m : Machine) (left : ℕ) (b : Bool) → b ≡ (eqb (m .over) 0 && leb 3 left) → b ≡ false → (isOver (outcomeOf m) ≡ true) ⊎ (left < 3)
@@ -52,8 +52,8 @@ test-failed m left b h t = by (eqb (m .over) 0) refl (sym h ∙ t)
 -- the test behind a step of a machine's only core
 pub round-ends : (count over left : ℕ) (b : Bool) → b ≡ (eqb count 1 && (eqb over 0 && leb 3 left)) → b ≡ true → (count ≡ 1) × (3 ≤ left)
 round-ends count over left b h t =
-    let (one, more) = and-true (eqb count 1) (eqb over 0 && leb 3 left) (sym h ∙ t) in
-    let (o, l) = and-true (eqb over 0) (leb 3 left) more in
+    let (one, more) = both (eqb count 1) (eqb over 0 && leb 3 left) (sym h ∙ t) in
+    let (o, l) = both (eqb over 0) (leb 3 left) more in
     (eqb-true count 1 one, leb-true 3 left l)
 
 or-none : (b : Bool) (n : ℕ) → isWritten n ≡ false → (b || eqb n 0) ≡ b
@@ -73,10 +73,6 @@ module _ (j : Job) (room : ℕ) (first : List ℕ) (p : Progress) (s : State) (a
 
   pub may-not-left : room - at < 3 → mayTry p ≡ false
   may-not-left l = rw (lt-leb 3 (p .left) (omega (arith, here .left))) (and-false (not (isOver (p .state .outcome))))
-    where
-      and-false : (b : Bool) → (b && false) ≡ false
-      and-false true = refl
-      and-false false = refl
 
   module _ (e : Entry) (a : After) (is : a ≡ entryOf j s e) (next : ℕ) (after : List ℕ) (k : Keeps e (a .log) buffer at next after)
       (ongoing : isOver (s .outcome) ≡ false) (three : 3 ≤ room - at) where

@@ -21,7 +21,7 @@ use Rattle.thread.specs.declared.Effect.the-variants.{Faults, Sets, Loads, Stor
 use Rattle.thread.specs.View.{viewOf}
 use Rattle.thread.specs.Thread.{isPending}
 use Rattle.thread.specs.Job.{Job, GoodJob, byteAt}
-use Rattle.thread.proofs.CommandMet as command
+use Rattle.met.proofs.CommandMet as command
 use Rattle.thread.proofs.EffectFacts.{Guarded}
 use Rattle.thread.proofs.Widths.{Widened}
 use Rattle.serial.specs.declared.Routine.{Routine}

@@ -12,7 +12,7 @@ use Rattle.window.specs.Rights.{childOf, rejoined}
 use Rattle.thread.specs.declared.Effect.{Effect}
 use Rattle.thread.specs.declared.Effect.the-variants.{Faults, Sets, Loads, Stores, Goes, Continues, Lforks, Forks, Joins, Suspends, Yields, Returns}
 use Rattle.thread.specs.Job.{Job, GoodJob, byteAt}
-use Rattle.thread.proofs.CommandMet.{ForkMet}
+use Rattle.met.proofs.CommandMet.{ForkMet}
 use Rattle.thread.proofs.Widths.{Widened}
 use Rattle.serial.specs.declared.Routine.{Routine}
 use Rattle.serial.specs.declared.Ask.{Ask}

@@ -34,6 +34,7 @@ use Rattle.rules.specs.Rules.{entryOf}
 use Rattle.rules.specs.Sound.{GoodJob, Sound, Used}
 use Rattle.soundness.proofs.Tested.{fault-tested}
 use Rattle.soundness.proofs.EntryCases.{Stepped, Chosen, above, onFree, Forked, Cases, entry-by}
+use Rattle.soundness.proofs.ThreadsMet.{runner, waiter-used, lent-used, linked-parent}
 use Rattle.simulation.proofs.JobCode.{weightIn, codeOf}
 use Rattle.simulation.proofs.StatePool.{linkOf, poolOf}
 use Rattle.simulation.proofs.OwnSteps.{here, cell-here, units-here, effect-met, effect-slots, sets-goes, loads-goes, stores-goes, goes-goes, continues-goes, suspends-goes, yields-goes}
@@ -41,7 +42,7 @@ use Rattle.simulation.proofs.JoinStep.{joins-goes}
 use Rattle.simulation.proofs.ForkStep.{Room, room-above, room-free, lforks-goes, forks-goes}
 use Rattle.simulation.proofs.ReturnStep.{ResultsInFrame, returns, root-cell, returns-goes}
 use Rattle.simulation.proofs.SamePool.{runs-pool, leaves-pool, enable-pool}
-use Rattle.simulation.proofs.UsedThreads.{stepped-used, waits-used, seeded-used, ready-used, parent-used, moved-used, moved-parent}
+use Rattle.simulation.proofs.UsedThreads.{ready-used, moved-used, moved-parent}
 
 module _ (j : Job) (good : GoodJob j) (s : State) where
   -- an accepted entry that the pool does not see: a take, an enable, a join that waits
@@ -205,7 +206,7 @@ module _ (j : Job) (good : GoodJob j) (s : State) (ok : Sound j s) (results : Re
   return-moves c t k v met = go (isRoot (threadAt s t)) refl
     where
       u : Used s t
-      u = stepped-used j s ok c t k
+      u = runner j s ok c t k
 
       root-units : s .units + turnAt j s c t .weight ≡ s .units + weightIn j (threadAt s t .routine) (threadAt s t .position)
       root-units = sym (units-here j good s ok c t u)
@@ -229,26 +230,26 @@ module _ (j : Job) (good : GoodJob j) (s : State) (ok : Sound j s) (results : Re
   cases : Cases (Moves j good s) j s
   cases = record {
     refuses = λ n l m. refuses n l m refl;
-    fault = λ c t k n met. ⊎-elim (λ w. fault-moves c t (w .ongoing) (stepped-used j s ok c t w) n met)
-        (λ w. fault-moves c t (w .ongoing) (seeded-used j s ok c t w) n met) k;
+    fault = λ c t k n met. ⊎-elim (λ w. fault-moves c t (w .ongoing) (runner j s ok c t w) n met)
+        (λ w. fault-moves c t (w .ongoing) (lent-used j s ok c t w) n met) k;
     waiting = λ c t k. rest-of (leaves c t Waiting s) (k .ongoing) (leaves-outcome c t Waiting s)
-        (leaves-pool j c t Waiting s (waits-used j s ok c t k) (omega arith) (parent-used j s ok t));
-    sets = λ c t k d v met. step-of t _ (k .ongoing) refl (sets-goes j good s ok c t (stepped-used j s ok c t k) d v met);
-    loads = λ c t k d a met. step-of t _ (k .ongoing) refl (loads-goes j good s ok c t (stepped-used j s ok c t k) d a met);
-    stores = λ c t k a v met. step-of t _ (k .ongoing) refl (stores-goes j good s ok c t (stepped-used j s ok c t k) a v met);
-    goes = λ c t k p met. step-of t _ (k .ongoing) refl (goes-goes j good s ok c t (stepped-used j s ok c t k) p met);
-    continues = λ c t k met. step-of t _ (k .ongoing) refl (continues-goes j good s ok c t (stepped-used j s ok c t k) met);
-    lforks = λ c t k r d a e met n ns x xs f. lfork-moves Called c t (k .ongoing) (stepped-used j s ok c t k) r d a e met n ns x xs f;
-    forks = λ c t k r d a e met n ns x xs f. fork-moves Queued c t (k .ongoing) (stepped-used j s ok c t k) r d a e met n ns x xs f;
-    joins = λ c t k met. step-of t _ (k .ongoing) refl (joins-goes j good s ok c t (stepped-used j s ok c t k) (k .passes) met);
+        (leaves-pool j c t Waiting s (waiter-used j s ok c t k) (omega arith) (linked-parent j s ok t));
+    sets = λ c t k d v met. step-of t _ (k .ongoing) refl (sets-goes j good s ok c t (runner j s ok c t k) d v met);
+    loads = λ c t k d a met. step-of t _ (k .ongoing) refl (loads-goes j good s ok c t (runner j s ok c t k) d a met);
+    stores = λ c t k a v met. step-of t _ (k .ongoing) refl (stores-goes j good s ok c t (runner j s ok c t k) a v met);
+    goes = λ c t k p met. step-of t _ (k .ongoing) refl (goes-goes j good s ok c t (runner j s ok c t k) p met);
+    continues = λ c t k met. step-of t _ (k .ongoing) refl (continues-goes j good s ok c t (runner j s ok c t k) met);
+    lforks = λ c t k r d a e met n ns x xs f. lfork-moves Called c t (k .ongoing) (runner j s ok c t k) r d a e met n ns x xs f;
+    forks = λ c t k r d a e met n ns x xs f. fork-moves Queued c t (k .ongoing) (runner j s ok c t k) r d a e met n ns x xs f;
+    joins = λ c t k met. step-of t _ (k .ongoing) refl (joins-goes j good s ok c t (runner j s ok c t k) (k .passes) met);
     suspends = λ c t k met. step-of t _ (k .ongoing) (leaves-outcome c t Suspended (goesOn (turnAt j s c t) s))
-        (leaves-step c t Suspended k (omega arith) (suspends-goes j good s ok c t (stepped-used j s ok c t k) met));
+        (leaves-step c t Suspended k (omega arith) (suspends-goes j good s ok c t (runner j s ok c t k) met));
     yields = λ c t k met. step-of t _ (k .ongoing) (leaves-outcome c t Ready (goesOn (turnAt j s c t) s))
-        (leaves-step c t Ready k (omega arith) (yields-goes j good s ok c t (stepped-used j s ok c t k) met));
+        (leaves-step c t Ready k (omega arith) (yields-goes j good s ok c t (runner j s ok c t k) met));
     returns = return-moves;
     takes = λ c t ts k. rest-of (runs c t (setReady ts s)) (k .ongoing) refl (runs-pool j c t (setReady ts s) (ready-used j s ok t ts (k .head)));
-    steals = λ c t k r d a e met n ns x xs f. ⊎-elim (λ m. lfork-moves Stolen c t (k .ongoing) (seeded-used j s ok c t k) r d a e m n ns x xs f)
-        (λ m. fork-moves Stolen c t (k .ongoing) (seeded-used j s ok c t k) r d a e m n ns x xs f) met;
+    steals = λ c t k r d a e met n ns x xs f. ⊎-elim (λ m. lfork-moves Stolen c t (k .ongoing) (lent-used j s ok c t k) r d a e m n ns x xs f)
+        (λ m. fork-moves Stolen c t (k .ongoing) (lent-used j s ok c t k) r d a e m n ns x xs f) met;
     enables = λ t k. rest-of _ (k .ongoing) refl (enable-pool j t s (let z = k .suspended in omega arith));
   }
 

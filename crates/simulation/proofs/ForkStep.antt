@@ -29,11 +29,12 @@ use Rattle.forkjoin.proofs.ThreadPool.{root, child, free, used}
 use Rattle.forkjoin.proofs.Arrays.{words-from, frame}
 use Rattle.thread.specs.declared.Effect.the-variants.{Lforks, Forks}
 use Rattle.thread.specs.declared.Thread.{Thread}
-use Rattle.thread.specs.Thread.{statusNumber, none, newThread, behindFork}
+use Rattle.thread.specs.Thread.{none, newThread, behindFork}
 use Rattle.thread.proofs.ThreadState.{ThreadState, started, behind-fork}
 use Rattle.thread.proofs.MarkedWindows.{window-tests}
 use Rattle.thread.proofs.ThreadSteps.{ThreadStep, forked, lforks-step, forks-step}
-use Rattle.thread.proofs.CommandMet.{ForkMet}
+use Rattle.met.proofs.CommandMet.{ForkMet}
+use Rattle.rules.proofs.Laws.{child-in-use, parent-in-use}
 use Rattle.rules.specs.declared.ForkKind.{ForkKind}
 use Rattle.rules.specs.declared.ForkKind.the-variants.{Called, Queued, Stolen}
 use Rattle.rules.specs.State.{Job, State, threadAt}
@@ -74,16 +75,6 @@ room-free j s good ok r n x ns xs e e' l =
     let i = slots-most (j .image) (accepted (j .image) (good .image)) r l in
     let top = g .0 .1 in
     record { low = f .0 .0; unused = f .0 .1; fits = fits-yes (s .tops) x (slotsOf (j .image) r) (g .0 .0) (omega arith) }
-
-child-in-use : (kind : ForkKind) → 0 < statusNumber (childStatus kind)
-child-in-use Called = omega arith
-child-in-use Queued = omega arith
-child-in-use Stolen = omega arith
-
-parent-in-use : (kind : ForkKind) → 0 < statusNumber (parentStatus kind)
-parent-in-use Called = omega arith
-parent-in-use Queued = omega arith
-parent-in-use Stolen = omega arith
 
 -- where the child goes does not show in the pool
 child-goes-pool : (j : Job) (kind : ForkKind) (c n : ℕ) (s : State) → poolOf j (childGoes kind c n s) ≡ poolOf j s

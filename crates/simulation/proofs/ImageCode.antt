@@ -21,7 +21,7 @@ use Rattle.image.specs.Image.{imageVerdict}
 use Rattle.image.proofs.Accepted.{Accepts, accepted}
 use Rattle.image.proofs.Laws.{placed, slots-most}
 use Rattle.thread.proofs.Routines.{Code, InRange}
-use Rattle.thread.proofs.Operands.{InFrame, in-frame, in-range}
+use Rattle.met.proofs.Operands.{InFrame, in-frame, in-range}
 
 -- does a command of routine r start at position p?
 abbrev pub isCommand : List ℕ → ℕ → ℕ → Bool

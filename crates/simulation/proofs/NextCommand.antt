@@ -19,7 +19,7 @@ use Rattle.thread.specs.View.{viewOf}
 use Rattle.thread.specs.Thread.{isPending}
 use Rattle.thread.proofs.ThreadState.{effect}
 use Rattle.thread.proofs.MarkedWindows.{window-tests}
-use Rattle.thread.proofs.Operands.{effect-alike}
+use Rattle.met.proofs.Operands.{effect-alike}
 use Rattle.rules.specs.State.{Job, State, threadAt}
 use Rattle.rules.specs.Turn.{offsetOf, byteOf, effectAt}
 use Rattle.rules.specs.Sound.{GoodJob, Placed, Used, sizeAt}

@@ -30,11 +30,12 @@ use Rattle.rules.specs.Lists.{Every}
 use Rattle.rules.specs.Sound.{GoodJob, Sound, Used, statusAt, sizeAt}
 use Rattle.soundness.proofs.EntryCases.{Stepped, Forked, Cases, entry-by}
 use Rattle.soundness.proofs.Tested.{return-tested}
+use Rattle.soundness.proofs.ThreadsMet.{parent-of, runner, waiter-used, lent-used, linked-parent}
 use Rattle.simulation.proofs.StatePool.{InUse, used-below}
 use Rattle.simulation.proofs.OwnSteps.{effect-slots}
 use Rattle.simulation.proofs.ReturnStep.{ResultsInFrame, above}
 use Rattle.simulation.proofs.SamePool.{used-set}
-use Rattle.simulation.proofs.UsedThreads.{stepped-used, waits-used, seeded-used, ready-used, parent-used, moved-used, moved-parent}
+use Rattle.simulation.proofs.UsedThreads.{ready-used, moved-used, moved-parent}
 
 -- one record is put in: its own result slot is good, and its routine is the same if it has children
 put-results : (j : Job) (s : State) (t : ℕ) (h : Thread) → t < length (s .threads) → ResultsInFrame j s
@@ -108,10 +109,6 @@ child-goes-results j Queued c n s r = r
 child-goes-results j Stolen c n s r = r
 
 module _ (j : Job) (good : GoodJob j) (s : State) (ok : Sound j s) (results : ResultsInFrame j s) where
-  -- a used thread's parent is in use, and so is not a free number
-  parent-of : (u : ℕ) → Used s u → (u ≡ 0 → ⊥) → Used s (threadAt s u .parent)
-  parent-of u used first = ⊎-elim (λ x. absurd (first (x .0))) (λ x. x .1) (ok .tree .tree u used)
-
   born-results : (kind : ForkKind) (c t : ℕ) → Used s t → (r d a e n : ℕ) (ns : List ℕ) (x : ℕ) (xs : List ℕ) → n < 32 → statusAt s n ≡ 0
       → d < sizeAt j s t → ResultsInFrame j (born j s kind (turnAt j s c t) (asked r d a e) n ns x xs)
   unfolding born
@@ -141,7 +138,7 @@ module _ (j : Job) (good : GoodJob j) (s : State) (ok : Sound j s) (results : Re
       none-of u k first q = absurd (free-parent (ℕ-discrete u t))
         where
           by : (z : ℕ) → Used s z → (z ≡ 0 → ⊥) → threadAt s z .parent ≡ n → ⊥
-          by z was f p = let y = parent-of z was f in let w = ap (statusAt s) p in omega arith
+          by z was f p = let y = parent-of j s ok z was f in let w = ap (statusAt s) p in omega arith
 
           free-parent : Dec (u ≡ t) → ⊥
           free-parent (yes z) =
@@ -198,7 +195,7 @@ module _ (j : Job) (good : GoodJob j) (s : State) (ok : Sound j s) (results : Re
 
   leaving : (c t : ℕ) (x : Status) (k : Stepped j s c t) → 0 < statusNumber x → ResultsInFrame j (leaves c t x (goesOn (turnAt j s c t) s))
   leaving c t x k l = leaves-results j c t x (goesOn (turnAt j s c t) s) (moved-used j s ok c t k) l (moved-parent j s ok c t k)
-      (moved-results t (movedTo (turnAt j s c t .next) (threadAt s t)) (stepped-used j s ok c t k) (record { routine = refl; parent = refl; result = refl }))
+      (moved-results t (movedTo (turnAt j s c t .next) (threadAt s t)) (runner j s ok c t k) (record { routine = refl; parent = refl; result = refl }))
 
   lforked : (kind : ForkKind) (c t : ℕ) → Used s t → (r d a e : ℕ) → effectAt j s (threadAt s t) ≡ Lforks r d a e
       → (n : ℕ) (ns : List ℕ) (x : ℕ) (xs : List ℕ) → Forked j s kind (threadAt s t) r n ns x xs
@@ -220,22 +217,22 @@ module _ (j : Job) (good : GoodJob j) (s : State) (ok : Sound j s) (results : Re
   cases = record {
     refuses = λ n l m. results;
     fault = λ c t k n met. results;
-    waiting = λ c t k. leaves-results j c t Waiting s (waits-used j s ok c t k) (omega arith) (parent-used j s ok t) results;
-    sets = λ c t k d v met. moved-results t _ (stepped-used j s ok c t k) (record { routine = refl; parent = refl; result = refl });
-    loads = λ c t k d a met. moved-results t _ (stepped-used j s ok c t k) (record { routine = refl; parent = refl; result = refl });
-    stores = λ c t k a v met. moved-results t _ (stepped-used j s ok c t k) (record { routine = refl; parent = refl; result = refl });
-    goes = λ c t k p met. moved-results t _ (stepped-used j s ok c t k) (record { routine = refl; parent = refl; result = refl });
-    continues = λ c t k met. moved-results t _ (stepped-used j s ok c t k) (record { routine = refl; parent = refl; result = refl });
-    lforks = λ c t k r d a e met n ns x xs f. lforked Called c t (stepped-used j s ok c t k) r d a e met n ns x xs f;
-    forks = λ c t k r d a e met n ns x xs f. forked Queued c t (stepped-used j s ok c t k) r d a e met n ns x xs f;
-    joins = λ c t k met. moved-results t _ (stepped-used j s ok c t k) (record { routine = refl; parent = refl; result = refl });
+    waiting = λ c t k. leaves-results j c t Waiting s (waiter-used j s ok c t k) (omega arith) (linked-parent j s ok t) results;
+    sets = λ c t k d v met. moved-results t _ (runner j s ok c t k) (record { routine = refl; parent = refl; result = refl });
+    loads = λ c t k d a met. moved-results t _ (runner j s ok c t k) (record { routine = refl; parent = refl; result = refl });
+    stores = λ c t k a v met. moved-results t _ (runner j s ok c t k) (record { routine = refl; parent = refl; result = refl });
+    goes = λ c t k p met. moved-results t _ (runner j s ok c t k) (record { routine = refl; parent = refl; result = refl });
+    continues = λ c t k met. moved-results t _ (runner j s ok c t k) (record { routine = refl; parent = refl; result = refl });
+    lforks = λ c t k r d a e met n ns x xs f. lforked Called c t (runner j s ok c t k) r d a e met n ns x xs f;
+    forks = λ c t k r d a e met n ns x xs f. forked Queued c t (runner j s ok c t k) r d a e met n ns x xs f;
+    joins = λ c t k met. moved-results t _ (runner j s ok c t k) (record { routine = refl; parent = refl; result = refl });
     suspends = λ c t k met. leaving c t Suspended k (omega arith);
     yields = λ c t k met. leaving c t Ready k (omega arith);
-    returns = λ c t k v met. return-results c t (stepped-used j s ok c t k) v met;
+    returns = λ c t k v met. return-results c t (runner j s ok c t k) v met;
     takes = λ c t ts k. moved-results t (withStatus Running (threadAt s t)) (ready-used j s ok t ts (k .head))
         (record { routine = refl; parent = refl; result = refl });
-    steals = λ c t k r d a e met n ns x xs f. ⊎-elim (λ m. lforked Stolen c t (seeded-used j s ok c t k) r d a e m n ns x xs f)
-        (λ m. forked Stolen c t (seeded-used j s ok c t k) r d a e m n ns x xs f) met;
+    steals = λ c t k r d a e met n ns x xs f. ⊎-elim (λ m. lforked Stolen c t (lent-used j s ok c t k) r d a e m n ns x xs f)
+        (λ m. forked Stolen c t (lent-used j s ok c t k) r d a e m n ns x xs f) met;
     enables = λ t k. moved-results t (withStatus Ready (threadAt s t)) (let z = k .suspended in omega arith)
         (record { routine = refl; parent = refl; result = refl });
   }

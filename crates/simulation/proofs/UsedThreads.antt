@@ -1,4 +1,4 @@
--- Which threads of a sound state are in use: those that an entry speaks of, and a connected thread's parent. Assumes a sound state.
+-- Which threads are in use once a thread of a sound state has gone on; and the ready queue's first. Assumes a sound state.
 use mathlib.Core.Bool.{true}
 use mathlib.Core.List.{List, _∷_}
 use mathlib.Core.Path.{_≡_, sym, _∙_, ap, subst}
@@ -11,33 +11,17 @@ use Rattle.rules.specs.State.{Job, State, threadAt}
 use Rattle.rules.specs.Turn.{turnAt, goesOn}
 use Rattle.rules.specs.Lists.{Every}
 use Rattle.rules.specs.Sound.{Sound, Used, statusAt}
-use Rattle.soundness.proofs.EntryCases.{Waits, Stepped, Seeded}
+use Rattle.soundness.proofs.EntryCases.{Stepped}
+use Rattle.soundness.proofs.ThreadsMet.{runner, linked-parent}
 use Rattle.simulation.proofs.StatePool.{used-below}
 use Rattle.simulation.proofs.SamePool.{used-set}
 
 module _ (j : Job) (s : State) (ok : Sound j s) where
-  pub stepped-used : (c t : ℕ) → Stepped j s c t → Used s t
-  stepped-used c t k =
-      let z : statusAt s t ≡ 1 = subst (λ u. statusAt s u ≡ 1) (k .seat) (ok .seats .runs c (k .core) (rw (k .seat) (k .low))) in
-      omega arith
-
-  pub waits-used : (c t : ℕ) → Waits j s c t → Used s t
-  waits-used c t k =
-      let z : statusAt s t ≡ 1 = subst (λ u. statusAt s u ≡ 1) (k .seat) (ok .seats .runs c (k .core) (rw (k .seat) (k .low))) in
-      omega arith
-
-  pub seeded-used : (c t : ℕ) → Seeded j s c t → Used s t
-  seeded-used c t k = let z = k .lent in omega arith
-
   pub ready-used : (t : ℕ) (ts : List ℕ) → s .ready ≡ t ∷ ts → Used s t
   ready-used t ts e =
       let f : Every (λ u. statusAt s u ≡ 2) (t ∷ ts) = subst (Every (λ u. statusAt s u ≡ 2)) e (ok .turns .ready) in
       let z = f .0 in
       omega arith
-
-  -- a connected thread's parent is lent
-  pub parent-used : (t : ℕ) → threadAt s t .connected ≡ true → Used s (threadAt s t .parent)
-  parent-used t h = let z = ok .links .linked t h .1 in omega arith
 
   -- the same once thread t has gone on
   module _ (c t : ℕ) (k : Stepped j s c t) where
@@ -48,14 +32,14 @@ module _ (j : Job) (s : State) (ok : Sound j s) where
     behind = goesOn (turnAt j s c t) s
 
     pub still-used : (u : ℕ) → Used s u → Used behind u
-    still-used u h = used-set s t moved (used-below (s .threads) t (stepped-used c t k)) (stepped-used c t k) u h
+    still-used u h = used-set s t moved (used-below (s .threads) t (runner j s ok c t k)) (runner j s ok c t k) u h
 
     now : threadAt behind t ≡ moved
-    now = getD-set-same (s .threads) t moved blankThread (used-below (s .threads) t (stepped-used c t k))
+    now = getD-set-same (s .threads) t moved blankThread (used-below (s .threads) t (runner j s ok c t k))
 
     pub moved-used : Used behind t
-    moved-used = still-used t (stepped-used c t k)
+    moved-used = still-used t (runner j s ok c t k)
 
     pub moved-parent : threadAt behind t .connected ≡ true → Used behind (threadAt behind t .parent)
     moved-parent h = subst (λ z. Used behind (z .parent)) (sym now)
-        (still-used (threadAt s t .parent) (parent-used t (sym (ap (λ z. z .connected) now) ∙ h)))
+        (still-used (threadAt s t .parent) (linked-parent j s ok t (sym (ap (λ z. z .connected) now) ∙ h)))

@@ -7,7 +7,7 @@ use Rattle.image.specs.Code.{commandsOf, isStart}
 use Rattle.stacklets.specs.Frames.{slotOf}
 use Rattle.thread.specs.declared.Effect.{Effect}
 use Rattle.thread.specs.Thread.{isPending}
-use Rattle.thread.proofs.CommandMet.{Facts, met-here}
+use Rattle.met.proofs.CommandMet.{Facts, met-here}
 use Rattle.rules.specs.State.{Job, State, threadAt}
 use Rattle.rules.specs.Turn.{byteOf, effectAt}
 use Rattle.rules.specs.Sound.{GoodJob, Placed, Used}

@@ -16,7 +16,7 @@ use Rattle.rules.specs.Leave.{runs, leaves}
 use Rattle.rules.specs.Fork.{asked, born}
 use Rattle.rules.specs.Return.{returnOf}
 use Rattle.rules.specs.Rules.{entryOf}
-pub use Rattle.soundness.proofs.EntryCases.{Waits, Stepped, Seeded, Chosen, above, onFree, Forked, Taken, Enabled, Seed, seed-true, not-over, and-true, or-true}
+pub use Rattle.soundness.proofs.EntryCases.{Waits, Stepped, Seeded, Chosen, above, onFree, Forked, Taken, Enabled, Seed, seed-true, not-over, or-true}
 use Rattle.soundness.proofs.EntryCases.{Cases}
 use Rattle.soundness.proofs.EntryCases as cases
 

@@ -8,6 +8,7 @@ use Prim.Native.Nat.{ℕ, _-_, _/_, _<_, _≤_}
 use native.Mathlib.Omega.{arith}
 use lib.Dec.{ltb, leb, eqb}
 use borrow.Author.Tests.{eqb-true, ltb-true, ltb-false, leb-false}
+use Rattle.command.proofs.Bools.{both}
 use Rattle.schedule.specs.declared.Entry.{Entry}
 use Rattle.schedule.specs.declared.Entry.the-variants.{Step, Take, Steal, Enable}
 use Rattle.thread.specs.declared.Effect.{Effect}
@@ -103,10 +104,6 @@ not-over going e = refl
 not-over (finished v) e = absurd (let z : _≡_ {A = ℕ} 0 1 = cc in omega arith)
 not-over (faulted n t o) e = absurd (let z : _≡_ {A = ℕ} 0 1 = cc in omega arith)
 
-pub and-true : (a b : Bool) → (a && b) ≡ true → (a ≡ true) × (b ≡ true)
-and-true true b h = (refl, h)
-and-true false b h = absurd (let z : _≡_ {A = ℕ} 0 1 = cc in omega arith)
-
 pub or-true : (a b : Bool) → (a || b) ≡ true → (a ≡ true) ⊎ (b ≡ true)
 or-true true b h = inl refl
 or-true false b h = inr h
@@ -115,8 +112,8 @@ pub seed-true : (j : Job) (s : State) (t : ℕ) → isSeed j s t ≡ true → Se
 unfolding isSeed
 seed-true j s t h =
     let fork = eqb (byteOf j (threadAt s t)) 8 || eqb (byteOf j (threadAt s t)) 9 in
-    let (a, b) = and-true (ltb t 32) (threadAt s t .status is Lent && fork) h in
-    let (d, e) = and-true (threadAt s t .status is Lent) fork b in
+    let (a, b) = both (ltb t 32) (threadAt s t .status is Lent && fork) h in
+    let (d, e) = both (threadAt s t .status is Lent) fork b in
     (ltb-true _ _ a, eqb-true _ _ d, ⊎-elim (λ z. inl (eqb-true _ _ z)) (λ z. inr (eqb-true _ _ z)) (or-true _ _ e))
 
 module _ (P : After → Type 0) (j : Job) (s : State) (cases : Cases P j s) where
@@ -166,7 +163,7 @@ module _ (P : After → Type 0) (j : Job) (s : State) (cases : Cases P j s) wher
       go true _ y _ z _ v _ b _ = cases .refuses 19 (omega arith) (omega arith)
       go false e true _ z _ v _ b _ = cases .refuses 14 (omega arith) (omega arith)
       go false e false f false _ v _ b _ = cases .refuses 15 (omega arith) (omega arith)
-      go false e false f true g true h b _ = let w = and-true (eqb (byteOf j (threadAt s (onCore s c))) 10) (ltb 0 (threadAt s (onCore s c) .children)) h in
+      go false e false f true g true h b _ = let w = both (eqb (byteOf j (threadAt s (onCore s c))) 10) (ltb 0 (threadAt s (onCore s c) .children)) h in
           cases .waiting c (onCore s c) (record {
             ongoing = not-over _ e;
             core = leb-false _ _ f;
@@ -250,7 +247,7 @@ module _ (P : After → Type 0) (j : Job) (s : State) (cases : Cases P j s) wher
           (record { state = enqueueReady t (setThread t (withStatus Ready (threadAt s t)) s); log = 0 })))
       go true _ y _ = cases .refuses 19 (omega arith) (omega arith)
       go false e false _ = cases .refuses 17 (omega arith) (omega arith)
-      go false e true f = let w = and-true (ltb t 32) (threadAt s t .status is Suspended) f in
+      go false e true f = let w = both (ltb t 32) (threadAt s t .status is Suspended) f in
           cases .enables t (record { ongoing = not-over _ e; low = ltb-true _ _ (w .0); suspended = eqb-true _ _ (w .1) })
 
   pub entry-by : (e : Entry) → P (entryOf j s e)

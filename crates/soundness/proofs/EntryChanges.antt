@@ -8,6 +8,7 @@ use native.Mathlib.Decide.{ℕ-discrete}
 use native.Mathlib.Omega.{arith}
 use lib.ListN.{getD, set, length, length-set}
 use lib.Seq.{getD-set-same, getD-set-other}
+use Rattle.command.proofs.Bools.{both}
 use Rattle.image.specs.Layout.{slotsOf}
 use Rattle.image.proofs.Accepted.{Accepts, accepted}
 use Rattle.image.proofs.Laws.{slots-most}
@@ -20,6 +21,7 @@ use Rattle.thread.specs.declared.Status.{Status}
 use Rattle.thread.specs.declared.Status.the-variants.{Running, Ready, Suspended, Waiting}
 use Rattle.thread.specs.declared.Effect.the-variants.{Lforks, Forks, Joins, Returns}
 use Rattle.thread.specs.Thread.{statusNumber, blankThread, newThread, withStatus, disconnected, movedTo, joinedAt, behindFork, withoutChild, isRoot, none, _is_}
+use Rattle.rules.proofs.Laws.{child-in-use, parent-in-use}
 use Rattle.rules.specs.declared.ForkKind.{ForkKind}
 use Rattle.rules.specs.declared.ForkKind.the-variants.{Called, Queued, Stolen}
 use Rattle.rules.specs.State.{Job, State, going, finished, threadAt}
@@ -31,7 +33,7 @@ use Rattle.rules.specs.Return.{freed, wakes, statusAfter, returnToParent, retur
 use Rattle.rules.specs.Rules.{entryOf}
 use Rattle.rules.specs.Lists.{Every}
 use Rattle.rules.specs.Sound.{Sound, Used, Unused, statusAt, sizeAt}
-use Rattle.soundness.proofs.Entries.{Kept, Stepped, Forked, Chosen, above, onFree, and-true, entry-by}
+use Rattle.soundness.proofs.Entries.{Kept, Stepped, Forked, Chosen, above, onFree, entry-by}
 use Rattle.soundness.proofs.Changes.{used-below}
 use Rattle.soundness.proofs.CommandMet.{MetAt}
 use Rattle.soundness.proofs.FrameChanges.{Stays, Like, stays-refl, like-same, like-trans, like-used, like-replaced, NewPlace, aboveParent, onNew, Change, steady, birth, ending}
@@ -141,7 +143,7 @@ module _ (j : Job) (s : State) (ok : Sound j s) where
       → (isTopmost (s .tops) (threadAt s t .base) (sizeAt j s t) ≡ true) × (fitsOn (s .tops) (threadAt s t .base / 64) (slotsOf (j .image) r) ≡ true)
   unfolding goesAbove
   goes-above kind t r g =
-      and-true _ _ (and-true (isConnected kind) (isTopmost (s .tops) (threadAt s t .base) (sizeAt j s t) && fitsOn (s .tops) (threadAt s t .base / 64) (slotsOf (j .image) r)) g .1)
+      both _ _ (both (isConnected kind) (isTopmost (s .tops) (threadAt s t .base) (sizeAt j s t) && fitsOn (s .tops) (threadAt s t .base / 64) (slotsOf (j .image) r)) g .1)
 
   -- a fork of any kind: s' is the state with the child
   fork-change : (kind : ForkKind) (c t r d a e n : ℕ) (ns : List ℕ) (x : ℕ) (xs : List ℕ) (s' : State) → s .outcome ≡ going → Used s t
@@ -162,9 +164,9 @@ module _ (j : Job) (s : State) (ok : Sound j s) where
     tops = tops;
     status = childStatus kind;
     connected = isConnected kind;
-    used = child-used kind;
+    used = child-in-use kind;
     child = rw threads (getD-set-same (set (s .threads) t p) n q blankThread (let l = length-set (s .threads) t p in let k = ok .sized .threads in omega (arith, number)));
-    parent = rw parent (record { routine = refl; parent = refl; result = refl; base = refl; was = λ _. h; still = λ _. parent-stays kind });
+    parent = rw parent (record { routine = refl; parent = refl; result = refl; base = refl; was = λ _. h; still = λ _. parent-in-use kind });
     rest = rw parent;
     others = λ u a b. rw threads (getD-set-other (set (s .threads) t p) n u q blankThread b ∙ getD-set-other (s .threads) t u p blankThread a);
   })
@@ -192,16 +194,6 @@ module _ (j : Job) (s : State) (ok : Sound j s) where
 
       parent : threadAt s' t ≡ p
       parent = rw threads (getD-set-other (set (s .threads) t p) n t q blankThread other ∙ getD-set-same (s .threads) t p blankThread (used-below s t h))
-
-      child-used : (kind : ForkKind) → 0 < statusNumber (childStatus kind)
-      child-used Called = omega arith
-      child-used Queued = omega arith
-      child-used Stolen = omega arith
-
-      parent-stays : (kind : ForkKind) → 0 < statusNumber (parentStatus kind)
-      parent-stays Called = omega arith
-      parent-stays Queued = omega arith
-      parent-stays Stolen = omega arith
 
       spot : (fitsOn (s .tops) x (slotsOf (j .image) r) ≡ true) × NewPlace j s s' t x
       spot = go (f .place)

@@ -13,7 +13,7 @@ use Rattle.rules.specs.Sound.{Sound, Windows, Used}
 use Rattle.soundness.proofs.Changes.{used-low}
 use Rattle.soundness.proofs.ForkTree.{Childless}
 use Rattle.soundness.proofs.FrameChanges.{Steady, Birth, Ending, Change, steady, birth, ending, Family, newborn, elder, childOfBirth, family, not-newborn, survivor}
-use Rattle.soundness.proofs.ThreadsMet.{child-not-root}
+use Rattle.soundness.proofs.ThreadsMet.{parent-of, child-not-root}
 use Rattle.soundness.proofs.EntryChanges.{entry-change}
 
 -- two windows of equal ends
@@ -22,9 +22,6 @@ same-ends w w' l h (inl e) f = record { memory = omega arith; behind = omega ari
 same-ends w w' l h (inr e) f = record { memory = omega arith; behind = omega arith; before = omega arith; within = omega arith }
 
 module _ (j : Job) (s : State) (ok : Sound j s) where
-  parent-used : (u : ℕ) → Used s u → (u ≡ 0 → ⊥) → Used s (threadAt s u .parent)
-  parent-used u h n = ⊎-elim (λ z. absurd (n (z .0))) (λ z. z .1) (ok .tree .tree u h)
-
   steady-windows : (s' : State) → Steady s s' → Windows s'
   steady-windows s' f = record {
     fits = λ t u. same-ends (threadAt s t .window) (threadAt s' t .window) (f .lo t) (f .hi t) (⊎-elim (λ z. inl z) (λ z. inr (z .0)) (f .mark t))
@@ -90,7 +87,7 @@ module _ (j : Job) (s : State) (ok : Sound j s) where
         inside u h m (elder _ k) =
             let w = ok .windows .inside u (k .was h) m in
             let q = elder-window u (k .was h) in
-            let p = elder-window (threadAt s u .parent) (parent-used u (k .was h) m) in
+            let p = elder-window (threadAt s u .parent) (parent-of j s ok u (k .was h) m) in
             rw (k .parent, q .0, q .1, p .0) (w .0, within _ _ _ (w .1) (p .2))
           where
             within : (a c e : ℕ) → a ≤ c → c ≤ e → a ≤ e

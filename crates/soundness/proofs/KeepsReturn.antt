@@ -9,6 +9,7 @@ use native.Mathlib.Omega.{arith}
 use lib.Dec.{eqb, leb}
 use lib.ListN.{length, set, length-set}
 use borrow.Author.Tests.{eqb-true, eqb-false, eq-eqb, le-leb, lt-leb}
+use Rattle.command.proofs.Bools.{both}
 use Rattle.queue.specs.Contents.{appended, capacity}
 use Rattle.thread.specs.declared.Status.{Status}
 use Rattle.thread.specs.declared.Status.the-variants.{Running, Ready, Waiting}
@@ -19,7 +20,6 @@ use Rattle.rules.specs.Update.{setThread, setCore, setReady, setSlot}
 use Rattle.rules.specs.Turn.{turnAt}
 use Rattle.rules.specs.Return.{freed, wakes, statusAfter, readyAfter, returnToParent, returnOf}
 use Rattle.rules.specs.Sound.{statusAt, Used, Seats, Links}
-use Rattle.soundness.proofs.Entries.{and-true}
 use Rattle.soundness.proofs.Changes.{standing, connectedAt, parentAt, childrenAt, one-changed, two-changed, used-low, used-below}
 use Rattle.soundness.proofs.CoreSeats.{Same, same-refl, neither, Seat, came, went, sits, seats-move}
 use Rattle.soundness.proofs.LentThreads.{Bound, bound-refl, not-both, links-same, Cut, off, again, stays, links-cut}
@@ -247,7 +247,7 @@ held-returns j s ok c t v l seat low over childless = ⊎-elim at-root inside (o
         go true e w f = held-back s _ ok c t (parentAt s t) Running l seat low refl (z .1) childless over over refl refl refl (omega arith)
             (λ x. absurd (omega arith)) e refl refl refl
         go false e true f =
-            let (a, b) = and-true (threadAt s (parentAt s t) .status is Waiting) (eqb (childrenAt s (parentAt s t)) 1) f in
+            let (a, b) = both (threadAt s (parentAt s t) .status is Waiting) (eqb (childrenAt s (parentAt s t)) 1) f in
             let x = eqb-true (statusAt s (parentAt s t)) 4 a in
             held-woken s _ ok c t (parentAt s t) Ready l seat low refl (z .1) childless over over refl refl refl (omega arith)
             (λ y. absurd (omega arith)) e refl

@@ -7,12 +7,12 @@ use Prim.Native.Nat.{ℕ, _-_, _<_, _≤_}
 use native.Mathlib.Omega.{arith}
 use lib.Dec.{ltb}
 use borrow.Author.Tests.{lt-ltb, le-ltb, lt-leb, le-leb, ltb-true, eqb-true}
+use Rattle.command.proofs.Bools.{both}
 use Rattle.thread.specs.declared.Status.the-variants.{Suspended}
 use Rattle.thread.specs.Thread.{none, _is_}
 use Rattle.rules.specs.State.{State, going, isOver, threadAt, onCore}
 use Rattle.rules.specs.Rules.{takeInto, takeOf, enableOf}
 use Rattle.rules.specs.Sound.{statusAt}
-use Rattle.soundness.proofs.Entries.{and-true}
 use Rattle.soundness.proofs.Exactly.{Exactly}
 use Rattle.soundness.proofs.Logs.{TakeLog, takeOver, takeNoCore, takeBusy, takeEmpty, takeAccepted, take-log, EnableLog, enableOver, enableAwake, enableAccepted, enable-log}
 
@@ -117,7 +117,7 @@ module _ (s : State) (t : ℕ) where
       not-suspended k = test (ltb t 32 && threadAt s t .status is Suspended) refl
         where
           test : (b : Bool) → (ltb t 32 && threadAt s t .status is Suspended) ≡ b → (ltb t 32 && threadAt s t .status is Suspended) ≡ false
-          test true e = let (a, d) = and-true (ltb t 32) (threadAt s t .status is Suspended) e in absurd (k (ltb-true _ _ a, eqb-true _ _ d))
+          test true e = let (a, d) = both (ltb t 32) (threadAt s t .status is Suspended) e in absurd (k (ltb-true _ _ a, eqb-true _ _ d))
           test false e = e
 
   -- no other number is logged

@@ -34,6 +34,10 @@ module _ (j : Job) (s : State) (ok : Sound j s) where
   pub parent-used : (t : ℕ) → Used s t → isRoot (threadAt s t) ≡ false → Used s (threadAt s t .parent)
   parent-used t h r = ⊎-elim (λ z. let y = leb-false none (threadAt s t .parent) r in let w = z .1 in absurd (omega arith)) (λ z. z .1) (ok .tree .tree t h)
 
+  -- so is the parent of any thread but the root
+  pub parent-of : (u : ℕ) → Used s u → (u ≡ 0 → ⊥) → Used s (threadAt s u .parent)
+  parent-of u h n = ⊎-elim (λ z. absurd (n (z .0))) (λ z. z .1) (ok .tree .tree u h)
+
   -- what is known of the command that is met, by a step or by a steal
   pub step-met : (c t : ℕ) → Stepped j s c t → (e : Effect) → effectAt j s (threadAt s t) ≡ e → MetAt j s t e
   step-met c t k = met-at j s (ok .job) (ok .placed) t (runner c t k)

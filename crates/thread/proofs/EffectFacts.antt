@@ -2,12 +2,13 @@
 -- are allowed, a return leaves nothing pending. And an effect does not depend on what pending slots hold (`effect-hidden`).
 use mathlib.Core.Path.{_≡_, refl, sym, _∙_, ap, ap₂}
 use mathlib.Core.List.{List, [], _∷_}
-use mathlib.Core.Bool.{Bool, true, false, cond, _||_, true≢false}
+use mathlib.Core.Bool.{Bool, true, false, cond}
 use Prim.Native.Nat.{ℕ, zero, suc, _+_, _<_}
 use native.Mathlib.Omega.{arith}
 use lib.Dec.{eqb}
 use Rattle.command.specs.declared.Command.{Command}
 use Rattle.command.specs.declared.Command.the-variants.{Set, Add, Subtract, Load, Store, JumpIfZero, Jump, Lfork, Fork, Join, Suspend, Yield, Return}
+use Rattle.command.proofs.Bools.{neither}
 use Rattle.thread.specs.declared.Effect.{Effect}
 use Rattle.thread.specs.declared.Effect.the-variants.{Faults, Sets, Loads, Stores, Goes, Continues, Lforks, Forks, Joins, Suspends, Yields, Returns}
 use Rattle.thread.specs.Effect.{Own, run, anyPending, unlessPending, provided, sum, difference, forking, effectOf}
@@ -18,14 +19,10 @@ abbrev pub AllClear : (ℕ → Bool) → List ℕ → Type 0
 AllClear p [] = Unit {0}
 AllClear p (k ∷ ks) = (p k ≡ false) × AllClear p ks
 
-or-false : (a b : Bool) → (a || b) ≡ false → (a ≡ false) × (b ≡ false)
-or-false true b h = absurd (true≢false h)
-or-false false b h = (refl, h)
-
 pub all-clear : (p : ℕ → Bool) (ks : List ℕ) → anyPending p ks ≡ false → AllClear p ks
 unfolding anyPending
 all-clear p [] h = tt
-all-clear p (k ∷ ks) h = let (x, y) = or-false (p k) (anyPending p ks) h in (x, all-clear p ks y)
+all-clear p (k ∷ ks) h = let (x, y) = neither (p k) (anyPending p ks) h in (x, all-clear p ks y)
 
 pub run-clear : (p : ℕ → Bool) (a n : ℕ) → AllClear p (run a n) → (k : ℕ) → k < n → p (a + k) ≡ false
 unfolding run

@@ -11,5 +11,3 @@ pub mod Example
 pub mod Witness
 pub mod CodePending
 pub mod Widths
-pub mod Operands
-pub mod CommandMet

@@ -2,22 +2,20 @@
 use mathlib.Core.Bool.{Bool, true, false}
 use mathlib.Core.List.{List, [], _∷_, _++_}
 use mathlib.Core.Path.{_≡_, refl, ap, sym, _∙_}
-use Prim.Native.Nat.{ℕ, suc, _+_, _*_, _≤_}
+use Prim.Native.Nat.{ℕ, _+_, _*_, _≤_}
 use native.Mathlib.Omega.{arith}
 use borrow.Author.Tests.{le-ltb, ne-eqb, eqb-true, eqb-false}
 use lib.Dec.{eqb}
 use lib.ListN.{length, take, drop, replicate, length-append, length-replicate}
 use lib.Seq.{take-at}
-use Rattle.schedule.specs.Format.{bytesOf}
+use Rattle.schedule.proofs.Standing.{two-bytes}
 use Rattle.schedule.specs.Meaning.{Schedule, entries, malformed, scheduleOf, countOf, Counts}
 use Rattle.schedule.specs.declared.Entry.{Entry}
-use Rattle.schedule.specs.declared.Entry.the-variants.{Step, Take, Steal, Enable}
 use Rattle.schedule.specs.declared.Counted.{Counted}
 use Rattle.schedule.specs.declared.Counted.the-variants.{Entries, Malformed}
 use Rattle.schedule.proofs.Following.{allBytes, Accepted, accepted}
-use Rattle.thread.specs.Job.{Job}
-use Rattle.rules.specs.State.{State, Outcome, going, finished, faulted}
-use Rattle.rules.specs.Rules.{entryOf}
+use Rattle.rules.specs.State.{Outcome, going, finished, faulted}
+use Rattle.rules.proofs.Laws.{logs-many}
 use Rattle.rules.specs.Runs.{runFrom, logsFrom}
 use Rattle.demands.specs.declared.RunAnswer.{RunAnswer}
 use Rattle.demands.specs.declared.RunAnswer.the-variants.{Refused, Finished, Faulted, Open}
@@ -28,13 +26,6 @@ use Rattle.transcript.proofs.Writing.{followed, same-text}
 use Rattle.transcript.specs.Text.{lastLine}
 use Rattle.transcript.specs.Transcript.{entryLines, playedText, numberOfRun, runText}
 use Rattle.transcript.specs.Parts.{Put, Fills, linesOf}
-
--- an entry has at least two bytes
-two-bytes : (e : Entry) → 2 ≤ length (bytesOf e)
-two-bytes (Step c) = omega arith
-two-bytes (Take c) = omega arith
-two-bytes (Steal c t) = omega arith
-two-bytes (Enable t) = omega arith
 
 twice-as-many : (es : List Entry) → 2 * length es ≤ length (allBytes es)
 unfolding allBytes
@@ -92,12 +83,6 @@ same-number i s log h =
     let b : entryCount (scheduleOf s) ≤ length room = omega (arith, length-replicate {A = ℕ} (entryCount (scheduleOf s)) 0) in
     rw (le-ltb (length log) (entryCount (scheduleOf s)) a, le-ltb (length room) (entryCount (scheduleOf s)) b)
 
--- one log byte for each entry
-as-many : (j : Job) (x : State) (es : List Entry) → length (logsFrom j x es) ≡ length es
-unfolding logsFrom
-as-many j x [] = refl
-as-many j x (e ∷ es) = ap suc (as-many j (entryOf j x e .state) es)
-
 -- a run by entries has a line for each
 lines-played : (o : Outcome) (u : ℕ) (es : List Entry) → linesOf (answerOf o u) (entries es) ≡ length es
 unfolding linesOf
@@ -120,7 +105,7 @@ unfolding playedText
 lines-of-played i es log r memoryAfter logAfter p count h =
     let logs : List ℕ = logsFrom (jobIn i) (startIn i) es in
     let n : count ≡ length es = h ∙ ap (λ (a : RunAnswer). linesOf a (entries es)) (p .answer) ∙ lines-played (runFrom (jobIn i) (startIn i) es .outcome) (runFrom (jobIn i) (startIn i) es .units) es in
-    let k : length logs ≡ count = as-many (jobIn i) (startIn i) es ∙ sym n in
+    let k : length logs ≡ count = logs-many (jobIn i) (startIn i) es ∙ sym n in
     let t : take count logAfter ≡ logs = ap (take count) (p .log) ∙ take-at logs (drop (length logs) log) count k in
     ap (λ (l : List ℕ). entryLines 0 l ++ lastLine (r .answer)) t ∙ ap (λ (a : RunAnswer). entryLines 0 logs ++ lastLine a) (p .answer)
 

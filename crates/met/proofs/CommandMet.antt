@@ -26,15 +26,15 @@ use Rattle.window.specs.declared.Cut.{Cut}
 use Rattle.window.specs.declared.Cut.the-variants.{Parts, OutOfRange}
 use Rattle.window.specs.Rights.{cutAt}
 use Rattle.window.proofs.Laws.{cut-means}
 use Rattle.thread.specs.declared.Effect.{Effect}
 use Rattle.thread.specs.declared.Effect.the-variants.{Faults, Sets, Loads, Stores, Goes, Continues, Lforks, Forks, Joins, Suspends, Yields, Returns}
 use Rattle.thread.specs.Effect.{Own, anyPending, unlessPending, provided, forking, effectOf}
 use Rattle.thread.specs.View.{viewOf, mayCut, isCut}
 use Rattle.thread.specs.Job.{Job, GoodJob, offsetAt, byteAt}
 use Rattle.thread.proofs.Routines.{InRange}
-use Rattle.thread.proofs.Operands.{in-frame, in-range}
+use Rattle.met.proofs.Operands.{in-frame, in-range}
 use Rattle.thread.proofs.EffectFacts.{AllClear, all-clear, Guarded, guarded}
 use Rattle.thread.proofs.Widths.{Widened, decoded-wide}
 
 -- a cut that is allowed lies between the mark and hi
 pub cut-inside : (w : Window) (e : ℕ) → mayCut w e ≡ true → (w .mark ≤ e) × (e ≤ w .hi)
