@@ -2,7 +2,7 @@
 // written. The 1,024 words are lent by the caller; the tops are a small struct by value. A frame is known by its base, its first word's
 // number among all words, so that its stacklet is base / 64.
 ghost use mathlib.Core.Path.{_≡_};
-ghost use Prim.Native.Nat.{_<_, _≤_};
+ghost use Prim.Native.Nat.{_%_, _<_, _≤_};
 ghost use lib.ListN.{getD, set, replicate};
 ghost use Rattle.stacklets.specs.Tops.{topsOf, stackletsOf, topAt, fitsOn, isTopmost, baseOn, pushedTops, poppedTops};
 ghost use Rattle.stacklets.specs.Frames.{slotOf, withSlot, argumentsAt, framed, pushedWords};
@@ -137,6 +137,27 @@ pub fn set_top(tops: &mut [u8; 16], stacklet: u8, top: u8)
     ensures { λ r. ⌜ (stacklet < 16 → topsOf (stackletsOf (now (tops .exit))) ≡ set (topsOf (stackletsOf (now (tops .entry)))) stacklet top) ⌝ }
 {
     tops[(stacklet % 16) as usize] = top;
+}
+
+// A stacklet's top, among tops that stand in a part of other numbers; stacklets are taken by their remainder.
+pub fn read_top(tops: &[u8], stacklet: u8) -> u8
+    ensures { λ r. ⌜ r ≡ topAt (topsOf (stackletsOf (now (tops .entry)))) (stacklet % 16) ⌝ }
+{
+    let x = (stacklet % 16) as usize;
+    if x < tops.len() {
+        return tops[x];
+    }
+    0
+}
+
+// It becomes another, where there is one.
+pub fn write_top(tops: &mut [u8], stacklet: u8, top: u8)
+    ensures { λ _. ⌜ topsOf (stackletsOf (now (tops .exit))) ≡ set (topsOf (stackletsOf (now (tops .entry)))) (stacklet % 16) top ⌝ }
+{
+    let x = (stacklet % 16) as usize;
+    if x < tops.len() {
+        tops[x] = top;
+    }
 }
 
 // A new frame of `size` words at a base, its arguments the words from `from` on, as they stand before.

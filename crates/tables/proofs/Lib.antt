@@ -1,0 +1,5 @@
+pub mod Runs
+pub mod Meaning
+pub mod Stores
+pub mod Changes
+pub mod Framing

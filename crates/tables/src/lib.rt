@@ -1,0 +1,19 @@
+// The machine's tables in one lent slice of bytes: where each part stands, how it is read and how it is stored. This crate alone knows the
+// layout; those above know of the bytes what they mean (`meaning`). Nothing is asked of the caller: a number of a thread, core or stacklet is
+// taken by its remainder, and tables of another size are read as nothing and never changed.
+
+mod cells;
+pub mod frames;
+pub mod lines;
+pub mod marks;
+pub mod records;
+
+// How many bytes the tables have.
+pub const SIZE: usize = 712;
+
+// How the machine stands.
+pub enum Standing {
+    Open,
+    Finished(u32),
+    Faulted(u8, u8, u16),
+}
