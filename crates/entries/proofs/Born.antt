@@ -1,0 +1,138 @@
+-- A fork that is carried out, as a chain of stores, is the rule's. Assumes nothing.
+use mathlib.Core.Bool.{Bool, true, false, cond, _&&_}
+use mathlib.Core.List.{List, [], _∷_}
+use mathlib.Core.Path.{_≡_, refl, sym, ap, _∙_}
+use Prim.Native.Nat.{ℕ, _+_, _/_, _%_, _≤_, _<_}
+use Rattle.image.specs.Layout.{slotsOf, argumentsOf}
+use Rattle.queue.specs.declared.Front.{Front}
+use Rattle.queue.specs.declared.Front.the-variants.{Number, Nothing}
+use Rattle.queue.specs.Contents.{firstOf, restOf}
+use Rattle.queue.proofs.Laws.{nothing-empty, number-first}
+use Rattle.stacklets.specs.Tops.{isTopmost, fitsOn, baseOn, pushedTops}
+use Rattle.stacklets.specs.Frames.{pushedWords, argumentsAt}
+use Rattle.window.specs.Rights.{childOf, restOf as rest-of, cutAt}
+use Rattle.thread.specs.declared.Status.{Status}
+use Rattle.thread.specs.declared.Thread.{Thread}
+use Rattle.thread.specs.Thread.{newThread, behindFork}
+use Rattle.rules.specs.declared.ForkKind.{ForkKind}
+use Rattle.rules.specs.State.{Job, State}
+use Rattle.rules.specs.Update.{accepted, refused, setThread, setTops, setFreeThreads, setFreeStacklets, setWords, charge}
+use Rattle.rules.specs.Turn.{Turn}
+use Rattle.rules.specs.Fork.{placeOf, goesAbove, Asked, born, forkOn, forkWith, forkOf, childGoes, childStatus, parentStatus, isConnected}
+use Rattle.entries.specs.Given.{HeadBelow, placeBy}
+use native.Mathlib.Omega.{arith}
+use native.Mathlib.Nat.{mod-eq-of-lt}
+use lib.ListN.{length}
+use Rattle.window.specs.declared.Window.{Window}
+use Rattle.window.specs.declared.Cut.{Cut}
+use Rattle.window.specs.declared.Cut.the-variants.{Parts, OutOfRange}
+use Rattle.window.proofs.Laws.{cut-means, cut-made}
+use Rattle.tables.specs.Change.{Reads, Becomes, Pushes, pushes}
+use Rattle.entries.proofs.Chains.{head-below}
+use Rattle.tables.specs.Meaning.{size, meaning}
+
+-- other words
+pub with-words : (xs ws ws' ms : List ℕ) → meaning xs ws' ms ≡ setWords ws' (meaning xs ws ms)
+unfolding meaning
+with-words xs ws ws' ms = refl
+
+place-go : (above : Bool) (p : ℕ) (free : List ℕ) → placeBy (cond above (Number p) (firstOf free)) (cond above free (restOf free)) ≡ placeOf above p free
+unfolding placeOf
+place-go true p free = refl
+place-go false p [] = refl
+place-go false p (y ∷ ys) = refl
+
+-- the place by the first free stacklet, and the free stacklets that are left
+pub place-by : (above : Bool) (p : ℕ) (free : List ℕ) (first spot : Front) → first ≡ firstOf free → spot ≡ cond above (Number p) first
+    → placeBy spot (cond above free (restOf free)) ≡ placeOf above p free
+place-by above p free first spot e f = rw (f, e) (place-go above p free)
+
+module _ (j : Job) (s : State) (o : Turn) (f : Asked) where
+  -- "20: no free thread number"
+  pub no-number : (kind : ForkKind) (first : Front) → first ≡ firstOf (s .freeThreads) → first ≡ Nothing → refused 20 s ≡ forkOf j s kind o f
+  unfolding forkOf forkWith
+  no-number kind first e1 e2 = rw (nothing-empty (s .freeThreads) (sym e1 ∙ e2))
+
+  module _ (kind : ForkKind) (n sl size : ℕ) (above : Bool) (first spot : Front) (places tops : List ℕ) (e1 : first ≡ firstOf (s .freeThreads))
+      (e2 : first ≡ Number n) (e3 : sl ≡ slotsOf (j .image) (o .thread .routine)) (e4 : size ≡ slotsOf (j .image) (f .routine)) (e0 : tops ≡ s .tops)
+      (e5 : above ≡ (isConnected kind && (isTopmost tops (o .thread .base) sl && fitsOn tops (o .thread .base / 64) size)))
+      (e6 : placeBy spot places ≡ placeOf above (o .thread .base / 64) (s .freeStacklets)) where
+    place-found : placeOf (goesAbove j s kind (o .thread) (f .routine)) (o .thread .base / 64) (s .freeStacklets) ≡ placeBy spot places
+    unfolding goesAbove
+    place-found = rw (← e0, ← e4, ← e3, ← e5) (sym e6)
+
+    pub fork-found : forkOn j s kind o f n (restOf (s .freeThreads)) (placeBy spot places) ≡ forkOf j s kind o f
+    unfolding forkOf forkWith
+    fork-found = rw (← place-found, number-first (s .freeThreads) n (sym e1 ∙ e2))
+
+    -- "21: a stacklet is needed and none is free"
+    pub no-stacklet : spot ≡ Nothing → refused 21 s ≡ forkOf j s kind o f
+    unfolding forkOn
+    no-stacklet e7 = rw (← fork-found, e7)
+
+    -- the stores one after another
+    pub born-by : (x : ℕ) → spot ≡ Number x → (s0 s1 s2 s3 s4 s5 s6 s7 : State) (P C : Thread) (ws left ns : List ℕ) (base ar : ℕ)
+        → s0 ≡ setWords ws s → s1 ≡ setThread (o .number) P s0 → s2 ≡ setThread n C s1 → s3 ≡ charge (o .weight) s2
+        → s4 ≡ setTops (pushedTops (s3 .tops) x size) s3 → s5 ≡ setFreeStacklets (cond above (s4 .freeStacklets) left) s4
+        → s6 ≡ setFreeThreads ns s5 → s7 ≡ childGoes kind (o .core) n s6
+        → P ≡ behindFork (parentStatus kind) (o .next) (f .result) (rest-of (o .thread .window) (f .cut)) (o .thread)
+        → C ≡ newThread (childStatus kind) (isConnected kind) (f .routine) (o .number) (f .result) base (childOf (o .thread .window) (f .cut))
+        → base ≡ baseOn tops x → ar ≡ argumentsOf (j .image) (f .routine)
+        → ws ≡ pushedWords (s3 .tops) (s .words) x size (argumentsAt (s .words) (o .thread .base + f .first) ar)
+        → left ≡ restOf (s .freeStacklets) → ns ≡ restOf (s .freeThreads) → places ≡ cond above (s .freeStacklets) (restOf (s .freeStacklets))
+        → accepted s7 ≡ forkOf j s kind o f
+    unfolding forkOn born
+    born-by x e7 s0 s1 s2 s3 s4 s5 s6 s7 P C ws left ns base ar g0 g1 g2 g3 g4 g5 g6 g7 hP hC hb ha hw hl hn hp =
+        go ∙ fork-found
+      where
+        same : s3 .tops ≡ s .tops
+        same = rw (g3, g2, g1, g0)
+
+        g4' : s4 ≡ setTops (pushedTops (s .tops) x size) s3
+        g4' = g4 ∙ ap (λ (ts : List ℕ). setTops (pushedTops ts x size) s3) same
+
+        hw' : ws ≡ pushedWords (s .tops) (s .words) x size (argumentsAt (s .words) (o .thread .base + f .first) ar)
+        hw' = hw ∙ ap (λ (ts : List ℕ). pushedWords ts (s .words) x size (argumentsAt (s .words) (o .thread .base + f .first) ar)) same
+
+        go : accepted s7 ≡ forkOn j s kind o f n (restOf (s .freeThreads)) (placeBy spot places)
+        go = rw (g7, g6, g5, g4', g3, g2, g1, g0, hP, hC, hb, hw', ha, hl, hn, e0, e4, e7, hp)
+
+-- the stacklet that is found is one of 16
+pub spot-low : (above : Bool) (p x : ℕ) (free : List ℕ) (first spot : Front) → p < 16 → HeadBelow 16 free → first ≡ firstOf free
+    → spot ≡ cond above (Number p) first → spot ≡ Number x → x < 16
+spot-low true p x free first spot l h e f g = let z : p ≡ x = cc in omega arith
+spot-low false p x free first spot l h e f g = head-below free 16 x h (sym e ∙ sym f ∙ g)
+
+-- the two parts of a cut in range
+pub cut-parts : (w : Window) (e : ℕ) (c : Cut) (child rest : Window) → c ≡ cutAt w e → c ≡ Parts child rest → (child ≡ childOf w e) × (rest ≡ rest-of w e)
+cut-parts w e c child rest f g = let m = cut-means w e child rest (sym f ∙ g) in (m .is-child, m .is-rest)
+
+pub cut-never : (w : Window) (e : ℕ) (c : Cut) → w .mark ≤ e → e ≤ w .hi → c ≡ cutAt w e → c ≡ OutOfRange → ⊥
+cut-never w e c l h f g = let k = cut-made w e l h in let z : _≡_ {A = ℕ} 0 1 = cc in omega arith
+
+-- a new frame on a stacklet below 16
+module _ {xs : List ℕ} (l : length xs ≡ size) (x slots : ℕ) (low : x < 16) (words memory : List ℕ) where
+  pub frame-pushed : (ys : List ℕ) → Becomes xs ys (pushes (x % 16) slots)
+      → meaning ys words memory ≡ setTops (pushedTops (meaning xs words memory .tops) x slots) (meaning xs words memory)
+  frame-pushed ys b = b .means l words memory ∙ ap (λ (k : ℕ). pushes k slots (meaning xs words memory)) (mod-eq-of-lt low)
+
+  pub frame-laid : (before after arguments : List ℕ) → Pushes xs (x % 16) slots arguments before after
+      → after ≡ pushedWords (meaning xs words memory .tops) before x slots arguments
+  frame-laid before after arguments b =
+      b .means l words memory ∙ ap (λ (k : ℕ). pushedWords (meaning xs words memory .tops) before k slots arguments) (mod-eq-of-lt low)
+
+  pub base-found : (base : ℕ) → Reads xs base (λ s. baseOn (s .tops) (x % 16)) 0 → base ≡ baseOn (meaning xs words memory .tops) x
+  base-found base b = b .means l words memory ∙ ap (λ (k : ℕ). baseOn (meaning xs words memory .tops) k) (mod-eq-of-lt low)
+
+-- the records of both threads by their parts
+pub parent-is : (h th : Thread) (st st' : Status) (next d : ℕ) (w w' : Window) → h ≡ behindFork st next d w th → st ≡ st' → w ≡ w' → h ≡ behindFork st' next d w' th
+parent-is h th st st' next d w w' e f g = rw (e, f, g)
+
+pub child-is : (h : Thread) (st st' : Status) (b b' : Bool) (r t d base : ℕ) (w w' : Window) → h ≡ newThread st b r t d base w → st ≡ st' → b ≡ b' → w ≡ w'
+    → h ≡ newThread st' b' r t d base w'
+child-is h st st' b b' r t d base w w' e f g k = rw (e, f, g, k)
+
+-- a record that is stored leaves the units
+pub room-kept : (xs ys : List ℕ) (t w most : ℕ) (h : Thread) → meaning ys [] [] ≡ setThread t h (meaning xs [] []) → meaning xs [] [] .units + w < most
+    → meaning ys [] [] .units + w < most
+room-kept xs ys t w most h e l = rw e l

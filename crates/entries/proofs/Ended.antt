@@ -1,0 +1,42 @@
+-- A return, as a chain of stores, is the rule's. Assumes nothing.
+use mathlib.Core.Bool.{Bool, true, false, cond}
+use lib.Dec.{leb}
+use borrow.Author.Tests.{leb-false}
+use mathlib.Core.List.{List}
+use mathlib.Core.Path.{_≡_, sym, _∙_}
+use Prim.Native.Nat.{ℕ, _+_, _<_}
+use lib.ListN.{set}
+use Rattle.queue.specs.Contents.{appended, capacity}
+use Rattle.stacklets.specs.Tops.{poppedTops}
+use Rattle.thread.specs.declared.Thread.{Thread}
+use Rattle.thread.specs.declared.Status.{Status}
+use Rattle.thread.specs.Thread.{blankThread, withoutChild, isRoot, none}
+use Rattle.rules.specs.State.{State, threadAt, finished}
+use Rattle.rules.specs.Update.{setThread, setCore, setTops, setFreeThreads, setFreeStacklets, setReady, setWords, setOutcome, charge}
+use Rattle.rules.specs.Turn.{Turn}
+use Rattle.rules.specs.Return.{stackletsWithout, freed, statusAfter, readyAfter, returnToParent, returnOf}
+
+pub freed-by : (o : Turn) (s s1 s2 s3 s4 s5 : State) (b : Thread)
+    → s1 ≡ charge (o .weight) s → s2 ≡ setTops (poppedTops (s1 .tops) (o .thread .base)) s1
+    → s3 ≡ setFreeStacklets (stackletsWithout (o .thread .base) (s2 .freeStacklets)) s2
+    → s4 ≡ setFreeThreads (appended capacity (s3 .freeThreads) (o .number)) s3
+    → b ≡ blankThread → s5 ≡ setThread (o .number) b s4 → s5 ≡ freed o s
+freed-by o s s1 s2 s3 s4 s5 b g1 g2 g3 g4 hb g5 = rw (g5, hb, g4, g3, g2, g1)
+
+pub returned-by : (o : Turn) (p v : ℕ) (s sw s1 s2 s3 s4 : State) (q a : Thread) (st : Status) (words : List ℕ) (k : ℕ) (b : Bool)
+    → b ≡ isRoot (o .thread) → b ≡ false → p ≡ o .thread .parent
+    → q ≡ threadAt s p → sw ≡ setWords words s → s1 ≡ freed o sw → words ≡ set (s .words) (q .base + o .thread .result) v
+    → st ≡ statusAfter (o .thread .connected) q → a ≡ withoutChild st q → s2 ≡ setThread p a s1
+    → s3 ≡ setReady (readyAfter (o .thread .connected) q p (s2 .ready)) s2
+    → k ≡ cond (o .thread .connected) p none → s4 ≡ setCore (o .core) k s3
+    → s4 ≡ returnOf s o v
+unfolding returnOf returnToParent
+returned-by o p v s sw s1 s2 s3 s4 q a st words k b e f hp hq gw g1 hw hst ha g2 g3 hk g4 = rw (← e, f, ← hp, ← hq, g4, hk, g3, g2, ha, hst, g1, gw, hw)
+
+pub returned-root : (o : Turn) (v : ℕ) (s s1 s2 s3 : State) (b : Bool) → b ≡ isRoot (o .thread) → b ≡ true → s1 ≡ freed o s → s2 ≡ setCore (o .core) none s1 → s3 ≡ setOutcome (finished v) s2
+    → s3 ≡ returnOf s o v
+unfolding returnOf
+returned-root o v s s1 s2 s3 b e f g1 g2 g3 = rw (g3, g2, g1, ← e, f)
+
+pub has-parent : (p : ℕ) (b : Bool) → b ≡ leb 32 p → b ≡ false → p < 32
+has-parent p b e f = leb-false 32 p (sym e ∙ f)

@@ -1,0 +1,4 @@
+pub mod Able
+pub mod Chains
+pub mod Born
+pub mod Ended

@@ -1,0 +1,89 @@
+-- `entries::returning::free_thread` meets its contract. Assumes nothing.
+use Rattle.entries.proofs.Ended.{freed-by}
+use Rattle.entries.proofs.Chains.{charged, popped, behind-last}
+use Rattle.entries.specs.Given.{recordIn, turnWith}
+use Rattle.tables.proofs.Changes.{thread-seen, thread-stored}
+use Rattle.tables.specs.Meaning.{meaning}
+use Rattle.rules.specs.Return.{freed}
+use Rattle.thread.specs.declared.Thread.{Thread}
+use Rattle.rules.specs.Update.{setFreeThreads}
+use Prim.Native.Nat.{ℕ}
+use mathlib.Core.List.{List, []}
+use mathlib.Core.Path.{_≡_, ap, _∙_}
+use borrow.Author.Needs.{needs}
+use Rattle.entries.proofs.returning.free_thread.Statement.{statement}
+use Rattle.entries.proofs.returning.free_thread.Tie as tie
+
+thread-at-requires : tie.Need-thread-at-requires
+thread-at-requires c κs = search needs
+
+charge-requires : tie.Need-charge-requires
+charge-requires c κs = search needs
+
+pop-frame-requires : tie.Need-pop-frame-requires
+pop-frame-requires c κs = search needs
+
+give-back-requires : tie.Need-give-back-requires
+give-back-requires c κs = (
+  c .before .before .before .pop-frame .ensures .sized ∙ c .before .before .before .before .before .before .before .charge .ensures .sized ∙ c .before .before .before .before .before .before .before .before .before .before .before .before .pre .1 .sized,
+  rw (thread-seen (c .before .before .before .before .before .before .before .before .before .before .before .before .pre .1 .sized) [] [] (c .before .before .before .before .before .before .before .before .before .before .before .before .args .t) (c .before .before .before .before .before .before .before .before .before .thread-at .result) (c .before .before .before .before .before .before .before .before .before .before .before .before .pre .1 .number) (c .before .before .before .before .before .before .before .before .before .thread-at .ensures)) (c .before .before .before .before .before .before .before .before .before .before .before .before .pre .1 .base),
+)
+
+free-threads-requires : tie.Need-free-threads-requires
+free-threads-requires c κs = search needs
+
+enqueue-requires : tie.Need-enqueue-requires
+enqueue-requires c κs = search needs
+
+put-free-threads-requires : tie.Need-put-free-threads-requires
+put-free-threads-requires c κs = search needs
+
+blank-thread-requires : tie.Need-blank-thread-requires
+blank-thread-requires c κs = search needs
+
+put-thread-requires : tie.Need-put-thread-requires
+put-thread-requires c κs = search needs
+
+same-length : tie.Need-same-length
+same-length c =
+    c .before .before .put-thread .ensures .sized ∙ c .before .before .before .before .before .before .before .put-free-threads .ensures .sized ∙ c .before .before .before .before .before .before .before .before .before .before .before .before .before .before .give-back .ensures .sized ∙ c .before .before .before .before .before .before .before .before .before .before .before .before .before .before .before .before .before .before .pop-frame .ensures .sized ∙ c .before .before .before .before .before .before .before .before .before .before .before .before .before .before .before .before .before .before .before .before .before .before .charge .ensures .sized
+
+returns : tie.Need-returns
+returns c =
+    λ core next offset.
+    let th = c .before .before .before .before .before .before .before .before .before .before .before .before .before .before .before .before .before .before .before .before .before .before .before .before .thread-at .result in
+    let small = c .before .before .before .before .before .before .before .before .before .before .before .before .before .before .before .before .before .before .before .before .before .before .before .before .before .before .before .pre .1 .number in
+    let is : th ≡ recordIn (c .before .before .before .before .before .before .before .before .before .before .before .before .before .before .before .before .before .before .before .before .before .before .before .before .before .before .before .args .tables .now) (c .before .before .before .before .before .before .before .before .before .before .before .before .before .before .before .before .before .before .before .before .before .before .before .before .before .before .before .args .t) = thread-seen (c .before .before .before .before .before .before .before .before .before .before .before .before .before .before .before .before .before .before .before .before .before .before .before .before .before .before .before .pre .1 .sized) [] [] (c .before .before .before .before .before .before .before .before .before .before .before .before .before .before .before .before .before .before .before .before .before .before .before .before .before .before .before .args .t) th small (c .before .before .before .before .before .before .before .before .before .before .before .before .before .before .before .before .before .before .before .before .before .before .before .before .thread-at .ensures) in
+    record {
+      means = λ l words memory.
+          let l1 = c .before .before .before .before .before .before .before .before .before .before .before .before .before .before .before .before .before .before .before .before .before .before .charge .ensures .sized ∙ l in
+          let l2 = c .before .before .before .before .before .before .before .before .before .before .before .before .before .before .before .before .before .before .pop-frame .ensures .sized ∙ l1 in
+          let l3 = c .before .before .before .before .before .before .before .before .before .before .before .before .before .before .give-back .ensures .sized ∙ l2 in
+          let l4 = c .before .before .before .before .before .before .before .put-free-threads .ensures .sized ∙ l3 in
+          freed-by (turnWith core (c .before .before .before .before .before .before .before .before .before .before .before .before .before .before .before .before .before .before .before .before .before .before .before .before .before .before .before .args .t) th (c .before .before .before .before .before .before .before .before .before .before .before .before .before .before .before .before .before .before .before .before .before .before .before .before .before .before .before .args .weight) next offset) _ _ _ _ _ _ _
+          (charged (c .before .before .before .before .before .before .before .before .before .before .before .before .before .before .before .before .before .before .before .before .before .before .before .before .before .before .before .args .weight) l (c .before .before .before .before .before .before .before .before .before .before .before .before .before .before .before .before .before .before .before .before .before .before .before .before .before .before .before .pre .1 .units) (c .before .before .before .before .before .before .before .before .before .before .before .before .before .before .before .before .before .before .before .before .before .before .charge .ensures) words memory)
+          (popped (th .base) l1 (rw is (c .before .before .before .before .before .before .before .before .before .before .before .before .before .before .before .before .before .before .before .before .before .before .before .before .before .before .before .pre .1 .base)) (c .before .before .before .before .before .before .before .before .before .before .before .before .before .before .before .before .before .before .pop-frame .ensures) words memory)
+          (c .before .before .before .before .before .before .before .before .before .before .before .before .before .before .give-back .ensures .means l2 words memory)
+          (c .before .before .before .before .before .before .before .put-free-threads .ensures .means l3 words memory ∙ ap (λ (q : List ℕ). setFreeThreads q (meaning (c .before .before .before .before .before .before .before .before .before .before .before .before .before .before .give-back .last .0) words memory)) (behind-last _ _ _ _ (c .before .before .before .before .before .before .before .before .before .free-threads .ensures .means l3 words memory) (c .before .before .before .before .before .before .before .before .enqueue .ensures)))
+          (c .before .before .before .blank-thread .ensures)
+          (thread-stored l4 words memory (c .before .before .before .before .before .before .before .before .before .before .before .before .before .before .before .before .before .before .before .before .before .before .before .before .before .before .before .args .t) (c .before .before .before .blank-thread .result) small (c .before .before .put-thread .ensures))
+          ∙ ap (λ (h : Thread). freed (turnWith core (c .before .before .before .before .before .before .before .before .before .before .before .before .before .before .before .before .before .before .before .before .before .before .before .before .before .before .before .args .t) h (c .before .before .before .before .before .before .before .before .before .before .before .before .before .before .before .before .before .before .before .before .before .before .before .before .before .before .before .args .weight) next offset) (meaning (c .before .before .before .before .before .before .before .before .before .before .before .before .before .before .before .before .before .before .before .before .before .before .before .before .before .before .before .args .tables .now) words memory)) is;
+      sized = same-length c;
+      other = λ n. absurd (n (c .before .before .before .before .before .before .before .before .before .before .before .before .before .before .before .before .before .before .before .before .before .before .before .before .before .before .before .pre .1 .sized));
+    }
+
+pub free-thread-spec : {M : Type 1} → statement M
+free-thread-spec =
+    tie.close
+    (tie.spec
+    thread-at-requires
+    charge-requires
+    pop-frame-requires
+    give-back-requires
+    free-threads-requires
+    enqueue-requires
+    put-free-threads-requires
+    blank-thread-requires
+    put-thread-requires
+    same-length
+    returns)

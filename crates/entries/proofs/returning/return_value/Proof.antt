@@ -1,0 +1,128 @@
+-- `entries::returning::return_value` meets its contract. Assumes nothing.
+use Rattle.entries.proofs.Ended.{returned-by, returned-root, has-parent}
+use Rattle.entries.proofs.Born.{with-words}
+use Rattle.entries.specs.Given.{recordIn, turnWith}
+use Rattle.tables.proofs.Changes.{thread-seen, thread-stored, core-stored}
+use Rattle.tables.specs.Meaning.{meaning}
+use Rattle.rules.specs.Return.{freed, returnOf}
+use Rattle.thread.specs.declared.Thread.{Thread}
+use Prim.Native.Nat.{_<_}
+use mathlib.Core.List.{[]}
+use mathlib.Core.Path.{_≡_, refl, sym, ap, _∙_}
+use borrow.Author.Needs.{needs}
+use Rattle.entries.proofs.returning.return_value.Statement.{statement}
+use Rattle.entries.proofs.returning.return_value.Tie as tie
+
+thread-at-requires : tie.Need-thread-at-requires
+thread-at-requires c κs = search needs
+
+is-root-requires : tie.Need-is-root-requires
+is-root-requires c κs = search needs
+
+free-thread-requires : tie.Need-free-thread-requires
+free-thread-requires c κs = search needs
+
+put-core-requires : tie.Need-put-core-requires
+put-core-requires c κs = search needs
+
+finish-requires : tie.Need-finish-requires
+finish-requires c κs = search needs
+
+same-length : tie.Need-same-length
+same-length c = search needs
+
+returns : tie.Need-returns
+returns c =
+    let l = c .before .before .before .before .before .before .before .before .before .before .before .before .before .before .before .before .before .before .pre .sized in
+    let th = c .before .before .before .before .before .before .before .before .before .before .before .before .before .before .thread-at .result in
+    let same : th ≡ recordIn (c .before .before .before .before .before .before .before .before .before .before .before .before .before .before .before .before .before .before .args .tables .now) (c .before .before .before .before .before .before .before .before .before .before .before .before .before .before .before .before .before .before .args .t) = thread-seen l [] [] (c .before .before .before .before .before .before .before .before .before .before .before .before .before .before .before .before .before .before .args .t) th (c .before .before .before .before .before .before .before .before .before .before .before .before .before .before .before .before .before .before .pre .number) (c .before .before .before .before .before .before .before .before .before .before .before .before .before .before .thread-at .ensures) in
+    let ws = c .before .before .before .before .before .before .before .before .before .before .before .before .before .before .before .before .before .before .args .words .now in
+    λ memory next offset.
+    let l1 = c .before .before .before .before .before .before .before .before .before .before .free-thread .ensures 0 0 0 .sized ∙ l in
+    let l2 = c .before .before .before .before .before .before .put-core .ensures .sized ∙ l1 in
+    returned-root (turnWith (c .before .before .before .before .before .before .before .before .before .before .before .before .before .before .before .before .before .before .args .c) (c .before .before .before .before .before .before .before .before .before .before .before .before .before .before .before .before .before .before .args .t) th (c .before .before .before .before .before .before .before .before .before .before .before .before .before .before .before .before .before .before .args .weight) next offset) (c .before .before .before .before .before .before .before .before .before .before .before .before .before .before .before .before .before .before .args .v) (meaning (c .before .before .before .before .before .before .before .before .before .before .before .before .before .before .before .before .before .before .args .tables .now) ws memory) _ _ _ (c .before .before .before .before .before .before .before .before .before .before .before .before .before .is-root .result) (c .before .before .before .before .before .before .before .before .before .before .before .before .before .is-root .ensures) (c .before .before .before .before .before .before .before .before .before .before .before .before .if1 .taken)
+    (c .before .before .before .before .before .before .before .before .before .before .free-thread .ensures (c .before .before .before .before .before .before .before .before .before .before .before .before .before .before .before .before .before .before .args .c) next offset .means l ws memory
+    ∙ ap (λ (h : Thread). freed (turnWith (c .before .before .before .before .before .before .before .before .before .before .before .before .before .before .before .before .before .before .args .c) (c .before .before .before .before .before .before .before .before .before .before .before .before .before .before .before .before .before .before .args .t) h (c .before .before .before .before .before .before .before .before .before .before .before .before .before .before .before .before .before .before .args .weight) next offset) (meaning (c .before .before .before .before .before .before .before .before .before .before .before .before .before .before .before .before .before .before .args .tables .now) ws memory)) (sym same))
+    (core-stored l1 ws memory (c .before .before .before .before .before .before .before .before .before .before .before .before .before .before .before .before .before .before .args .c) 32 (c .before .before .before .before .before .before .before .before .before .before .before .before .before .before .before .before .before .before .pre .core) (c .before .before .before .before .before .before .put-core .ensures)) (c .before .before .finish .ensures .means l2 ws memory)
+    ∙ ap (λ (h : Thread). returnOf (meaning (c .before .before .before .before .before .before .before .before .before .before .before .before .before .before .before .before .before .before .args .tables .now) ws memory) (turnWith (c .before .before .before .before .before .before .before .before .before .before .before .before .before .before .before .before .before .before .args .c) (c .before .before .before .before .before .before .before .before .before .before .before .before .before .before .before .before .before .before .args .t) h (c .before .before .before .before .before .before .before .before .before .before .before .before .before .before .before .before .before .before .args .weight) next offset) (c .before .before .before .before .before .before .before .before .before .before .before .before .before .before .before .before .before .before .args .v)) same
+
+thread-at-requires-2 : tie.Need-thread-at-requires-2
+thread-at-requires-2 c κs = search needs
+
+free-thread-requires-2 : tie.Need-free-thread-requires-2
+free-thread-requires-2 c κs = search needs
+
+set-slot-requires : tie.Need-set-slot-requires
+set-slot-requires c κs = search needs
+
+status-after-requires : tie.Need-status-after-requires
+status-after-requires c κs = search needs
+
+without-child-requires : tie.Need-without-child-requires
+without-child-requires c κs = search needs
+
+put-thread-requires : tie.Need-put-thread-requires
+put-thread-requires c κs = search needs
+
+wake-requires : tie.Need-wake-requires
+wake-requires c κs =
+    c .before .before .before .put-thread .ensures .sized ∙ c .before .before .before .before .before .before .before .before .before .before .before .before .before .free-thread2 .ensures 0 0 0 .sized ∙ c .before .before .before .before .before .before .before .before .before .before .before .before .before .before .before .before .before .before .before .before .before .before .before .pre .sized
+
+core-after-requires : tie.Need-core-after-requires
+core-after-requires c κs = search needs
+
+put-core-requires-2 : tie.Need-put-core-requires-2
+put-core-requires-2 c κs = search needs
+
+same-length-2 : tie.Need-same-length-2
+same-length-2 c = search needs
+
+same-length-3 : tie.Need-same-length-3
+same-length-3 c = search needs
+
+returns-2 : tie.Need-returns-2
+unfolding meaning
+returns-2 c =
+    let l = c .before .before .before .before .before .before .before .before .before .before .before .before .before .before .before .before .before .before .before .before .before .before .before .before .before .before .before .before .before .before .before .pre .sized in
+    let th = c .before .before .before .before .before .before .before .before .before .before .before .before .before .before .before .before .before .before .before .before .before .before .before .before .before .before .before .thread-at .result in
+    let same : th ≡ recordIn (c .before .before .before .before .before .before .before .before .before .before .before .before .before .before .before .before .before .before .before .before .before .before .before .before .before .before .before .before .before .before .before .args .tables .now) (c .before .before .before .before .before .before .before .before .before .before .before .before .before .before .before .before .before .before .before .before .before .before .before .before .before .before .before .before .before .before .before .args .t) = thread-seen l [] [] (c .before .before .before .before .before .before .before .before .before .before .before .before .before .before .before .before .before .before .before .before .before .before .before .before .before .before .before .before .before .before .before .args .t) th (c .before .before .before .before .before .before .before .before .before .before .before .before .before .before .before .before .before .before .before .before .before .before .before .before .before .before .before .before .before .before .before .pre .number) (c .before .before .before .before .before .before .before .before .before .before .before .before .before .before .before .before .before .before .before .before .before .before .before .before .before .before .before .thread-at .ensures) in
+    let low : th .parent < 32 = has-parent _ _ (c .before .before .before .before .before .before .before .before .before .before .before .before .before .before .before .before .before .before .before .before .before .before .before .before .before .before .is-root .ensures) (c .before .before .before .before .before .before .before .before .before .before .before .before .before .before .before .before .before .before .before .before .before .before .before .before .before .if1 .left) in
+    let ws = c .before .before .before .before .before .before .before .before .before .before .before .before .before .before .before .before .before .before .before .before .before .before .before .before .before .before .before .before .before .before .before .args .words .now in
+    let vs = c .before .before .before .before .before .before .before .before .before .before .before .before .before .before .before .before .before .set-slot .last .0 in
+    λ memory next offset.
+    let l1 = c .before .before .before .before .before .before .before .before .before .before .before .before .before .before .before .before .before .before .before .before .before .free-thread2 .ensures 0 0 0 .sized ∙ l in
+    let l2 = c .before .before .before .before .before .before .before .before .before .before .before .put-thread .ensures .sized ∙ l1 in
+    let l3 = c .before .before .before .before .before .before .before .wake .ensures .sized ∙ l2 in
+    returned-by (turnWith (c .before .before .before .before .before .before .before .before .before .before .before .before .before .before .before .before .before .before .before .before .before .before .before .before .before .before .before .before .before .before .before .args .c) (c .before .before .before .before .before .before .before .before .before .before .before .before .before .before .before .before .before .before .before .before .before .before .before .before .before .before .before .before .before .before .before .args .t) th (c .before .before .before .before .before .before .before .before .before .before .before .before .before .before .before .before .before .before .before .before .before .before .before .before .before .before .before .before .before .before .before .args .weight) next offset) (th .parent) (c .before .before .before .before .before .before .before .before .before .before .before .before .before .before .before .before .before .before .before .before .before .before .before .before .before .before .before .before .before .before .before .args .v) (meaning (c .before .before .before .before .before .before .before .before .before .before .before .before .before .before .before .before .before .before .before .before .before .before .before .before .before .before .before .before .before .before .before .args .tables .now) ws memory) _ _ _ _ _ (c .before .before .before .before .before .before .before .before .before .before .before .before .before .before .before .before .before .before .before .before .before .before .before .thread-at2 .result) _ _ vs _ (c .before .before .before .before .before .before .before .before .before .before .before .before .before .before .before .before .before .before .before .before .before .before .before .before .before .before .is-root .result)
+    (c .before .before .before .before .before .before .before .before .before .before .before .before .before .before .before .before .before .before .before .before .before .before .before .before .before .before .is-root .ensures) (c .before .before .before .before .before .before .before .before .before .before .before .before .before .before .before .before .before .before .before .before .before .before .before .before .before .if1 .left) refl (thread-seen l ws memory (th .parent) (c .before .before .before .before .before .before .before .before .before .before .before .before .before .before .before .before .before .before .before .before .before .before .before .thread-at2 .result) low (c .before .before .before .before .before .before .before .before .before .before .before .before .before .before .before .before .before .before .before .before .before .before .before .thread-at2 .ensures))
+    (with-words (c .before .before .before .before .before .before .before .before .before .before .before .before .before .before .before .before .before .before .before .before .before .before .before .before .before .before .before .before .before .before .before .args .tables .now) ws vs memory)
+    (c .before .before .before .before .before .before .before .before .before .before .before .before .before .before .before .before .before .before .before .before .before .free-thread2 .ensures (c .before .before .before .before .before .before .before .before .before .before .before .before .before .before .before .before .before .before .before .before .before .before .before .before .before .before .before .before .before .before .before .args .c) next offset .means l vs memory
+    ∙ ap (λ (h : Thread). freed (turnWith (c .before .before .before .before .before .before .before .before .before .before .before .before .before .before .before .before .before .before .before .before .before .before .before .before .before .before .before .before .before .before .before .args .c) (c .before .before .before .before .before .before .before .before .before .before .before .before .before .before .before .before .before .before .before .before .before .before .before .before .before .before .before .before .before .before .before .args .t) h (c .before .before .before .before .before .before .before .before .before .before .before .before .before .before .before .before .before .before .before .before .before .before .before .before .before .before .before .before .before .before .before .args .weight) next offset) (meaning (c .before .before .before .before .before .before .before .before .before .before .before .before .before .before .before .before .before .before .before .before .before .before .before .before .before .before .before .before .before .before .before .args .tables .now) vs memory)) (sym same))
+    (c .before .before .before .before .before .before .before .before .before .before .before .before .before .before .before .before .before .set-slot .ensures) (c .before .before .before .before .before .before .before .before .before .before .before .before .before .status-after .ensures) (c .before .before .before .before .before .before .before .before .before .before .before .before .without-child .ensures)
+    (thread-stored l1 vs memory (th .parent) (c .before .before .before .before .before .before .before .before .before .before .before .before .without-child .result) low (c .before .before .before .before .before .before .before .before .before .before .before .put-thread .ensures)) (c .before .before .before .before .before .before .before .wake .ensures .means l2 vs memory)
+    (c .before .before .before .core-after .ensures) (core-stored l3 vs memory (c .before .before .before .before .before .before .before .before .before .before .before .before .before .before .before .before .before .before .before .before .before .before .before .before .before .before .before .before .before .before .before .args .c) (c .before .before .before .core-after .result) (c .before .before .before .before .before .before .before .before .before .before .before .before .before .before .before .before .before .before .before .before .before .before .before .before .before .before .before .before .before .before .before .pre .core) (c .before .before .put-core2 .ensures))
+    ∙ ap (λ (h : Thread). returnOf (meaning (c .before .before .before .before .before .before .before .before .before .before .before .before .before .before .before .before .before .before .before .before .before .before .before .before .before .before .before .before .before .before .before .args .tables .now) ws memory) (turnWith (c .before .before .before .before .before .before .before .before .before .before .before .before .before .before .before .before .before .before .before .before .before .before .before .before .before .before .before .before .before .before .before .args .c) (c .before .before .before .before .before .before .before .before .before .before .before .before .before .before .before .before .before .before .before .before .before .before .before .before .before .before .before .before .before .before .before .args .t) h (c .before .before .before .before .before .before .before .before .before .before .before .before .before .before .before .before .before .before .before .before .before .before .before .before .before .before .before .before .before .before .before .args .weight) next offset) (c .before .before .before .before .before .before .before .before .before .before .before .before .before .before .before .before .before .before .before .before .before .before .before .before .before .before .before .before .before .before .before .args .v)) same
+
+pub return-value-spec : {M : Type 1} → statement M
+return-value-spec =
+    tie.close
+    (tie.spec
+    thread-at-requires
+    is-root-requires
+    free-thread-requires
+    put-core-requires
+    finish-requires
+    same-length
+    returns
+    thread-at-requires-2
+    free-thread-requires-2
+    set-slot-requires
+    status-after-requires
+    without-child-requires
+    put-thread-requires
+    wake-requires
+    core-after-requires
+    put-core-requires-2
+    same-length-2
+    same-length-3
+    returns-2)

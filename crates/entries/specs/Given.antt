@@ -1,0 +1,87 @@
+-- What an entry gives, the command that is met as the code holds it, and what carrying it out relies on. A sound state gives all of it.
+use mathlib.Core.Bool.{Bool, true, cond}
+use mathlib.Core.List.{List, [], _∷_}
+use mathlib.Core.Path.{_≡_}
+use Prim.Native.Nat.{ℕ, _+_, _≤_, _<_, _^_}
+use lib.ListN.{length}
+use Rattle.queue.specs.declared.Front.{Front}
+use Rattle.queue.specs.declared.Front.the-variants.{Number, Nothing}
+use Rattle.thread.specs.declared.Thread.{Thread}
+use Rattle.rules.specs.State.{Job, State, After, threadAt}
+use Rattle.rules.specs.Update.{setFreeStacklets, setReady}
+use Rattle.rules.specs.Turn.{Turn}
+use Rattle.rules.specs.Return.{stackletsWithout, readyAfter}
+use Rattle.rules.specs.Fork.{Place, onStacklet, nowhere}
+use Rattle.rules.specs.Sound.{Sound}
+use Rattle.tables.specs.Meaning.{size, meaning}
+
+-- what the tables mean behind an entry, with its log byte
+abbrev pub after : ℕ → List ℕ → List ℕ → List ℕ → After
+after log xs words memory = record { state = meaning xs words memory; log = log }
+
+-- tables that mean a sound state, with some job and some words
+pub record Orderly (xs : List ℕ) : Type 0 where
+  pub sized : length xs ≡ size
+  pub job : Job
+  pub words : List ℕ
+  pub memory : List ℕ
+  pub sound : Sound job (meaning xs words memory)
+
+-- thread t's record, which no word has a part in
+abbrev pub recordIn : List ℕ → ℕ → Thread
+recordIn xs t = threadAt (meaning xs [] []) t
+
+-- the command of thread t, with record h, met by core c
+abbrev pub turnWith : ℕ → ℕ → Thread → ℕ → ℕ → ℕ → Turn
+turnWith c t h weight next offset = record { core = c; number = t; thread = h; weight = weight; next = next; offset = offset }
+
+-- with its record as the tables have it
+abbrev pub turnIn : List ℕ → ℕ → ℕ → ℕ → ℕ → ℕ → Turn
+turnIn xs c t weight next offset = turnWith c t (recordIn xs t) weight next offset
+
+-- a thread that leaves its core: a connected one has a parent
+pub record Leaving (xs : List ℕ) (c t : ℕ) : Type 0 where
+  pub sized : length xs ≡ size
+  pub core : c < 4
+  pub number : t < 32
+  pub linked : recordIn xs t .connected ≡ true → recordIn xs t .parent < 32
+
+-- a turn whose thread is in the tables, with room for its weight
+pub record Seated (xs : List ℕ) (c t weight : ℕ) : Type 0 where
+  pub sized : length xs ≡ size
+  pub core : c < 4
+  pub number : t < 32
+  pub units : meaning xs [] [] .units + weight < 2 ^ 32
+  pub base : recordIn xs t .base < 1024
+
+-- the first number, if there is one, is below n
+abbrev pub HeadBelow : ℕ → List ℕ → Type 0
+HeadBelow n [] = Unit {0}
+HeadBelow n (x ∷ xs) = x < n
+
+-- a fork with its result slot and its cut
+pub record Forking (xs : List ℕ) (c t weight d e : ℕ) : Type 0 where
+  pub seated : Seated xs c t weight
+  pub children : recordIn xs t .children < 255
+  pub numbers : HeadBelow 32 (meaning xs [] [] .freeThreads)
+  pub stacklets : HeadBelow 16 (meaning xs [] [] .freeStacklets)
+  pub result : d < 16
+  pub low : recordIn xs t .window .mark ≤ e
+  pub high : e ≤ recordIn xs t .window .hi
+
+-- the free stacklets that are left by a new frame, unless it goes above its parent's
+abbrev pub leftBy : Bool → List ℕ → State → State
+leftBy above rest s = setFreeStacklets (cond above (s .freeStacklets) rest) s
+
+-- a stacklet is given back when its last frame goes
+abbrev pub givesBack : ℕ → State → State
+givesBack base s = setFreeStacklets (stackletsWithout base (s .freeStacklets)) s
+
+-- thread p, whose record is q, joins the ready queue if a child's end wakes it
+abbrev pub wakesUp : Bool → Thread → ℕ → State → State
+wakesUp connected q p s = setReady (readyAfter connected q p (s .ready)) s
+
+-- a place, as the number taken from a queue with the queue that is left
+abbrev pub placeBy : Front → List ℕ → Place
+placeBy (Number x) xs = onStacklet x xs
+placeBy Nothing xs = nowhere

@@ -1,0 +1,8 @@
+// The machine's entries, carried out in place in lent tables, words and memory. Each is its rule (crate `rules`).
+
+pub mod enable;
+mod fork;
+mod leave;
+mod parts;
+mod returning;
+pub mod take;

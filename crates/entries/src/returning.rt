@@ -1,0 +1,86 @@
+// A thread returns a value and ends.
+use crate::parts::core_after;
+use crate::parts::does_wake;
+use crate::parts::status_after;
+use stacklets::set_slot;
+use tables::frames::pop_frame;
+use tables::lines::free_stacklets;
+use tables::lines::free_threads;
+use tables::lines::put_free_stacklets;
+use tables::lines::put_free_threads;
+use tables::lines::put_ready;
+use tables::lines::ready;
+use tables::marks::charge;
+use tables::marks::finish;
+use tables::marks::put_core;
+use tables::records::put_thread;
+use tables::records::thread_at;
+use thread::Thread;
+use thread::record::blank_thread;
+use thread::record::is_root;
+use thread::record::without_child;
+ghost use mathlib.Core.List.{List};
+ghost use mathlib.Core.Path.{_≡_};
+ghost use Prim.Native.Nat.{ℕ, _<_};
+ghost use lib.ListN.{length};
+ghost use Rattle.rules.specs.Return.{freed, returnOf};
+ghost use Rattle.tables.specs.Meaning.{size, meaning};
+ghost use Rattle.tables.specs.Change.{Becomes};
+ghost use Rattle.entries.specs.Given.{Seated, turnIn, givesBack, wakesUp};
+
+// A stacklet is free once the frame at its first word has gone.
+fn give_back(tables: &mut [u8], base: u16)
+    requires { ⌜ (length (now tables) ≡ size) × (base < 1024) ⌝ }
+    ensures { λ _. ⌜ Becomes (now (tables .entry)) (now (tables .exit)) (givesBack base) ⌝ }
+{
+    if base % 64 != 0 {
+        return;
+    }
+    put_free_stacklets(tables, free_stacklets(tables).enqueue((base / 64) as u8));
+}
+
+// A parent p, whose record is q, joins the ready queue if the end of a child wakes it.
+fn wake(tables: &mut [u8], connected: bool, q: Thread, p: u8)
+    requires { ⌜ length (now tables) ≡ size ⌝ }
+    ensures { λ _. ⌜ Becomes (now (tables .entry)) (now (tables .exit)) (wakesUp connected q p) ⌝ }
+{
+    if does_wake(connected, q) {
+        put_ready(tables, ready(tables).enqueue(p));
+    }
+}
+
+// The frame, number and record of thread t are freed, and a weight is charged.
+fn free_thread(tables: &mut [u8], t: u8, weight: u8)
+    requires { ⌜ ((c : ℕ) × Seated (now tables) c t weight) ⌝ }
+    ensures { λ _. ⌜ ((c next offset : ℕ) → Becomes (now (tables .entry)) (now (tables .exit)) (freed (turnIn (now (tables .entry)) c t weight next offset))) ⌝ }
+{
+    let th = thread_at(tables, t);
+    let base = th.base;
+    charge(tables, weight);
+    pop_frame(tables, base);
+    give_back(tables, base);
+    put_free_threads(tables, free_threads(tables).enqueue(t));
+    put_thread(tables, t, blank_thread());
+}
+
+// Thread t, met by core c, returns v: its frame, number and record are freed, and v goes to its parent, or is the result.
+pub fn return_value(tables: &mut [u8], words: &mut [u32], c: u8, t: u8, weight: u8, v: u32)
+    requires { ⌜ Seated (now tables) c t weight ⌝ }
+    ensures { λ _. ⌜ ((memory : List ℕ) (next offset : ℕ) → meaning (now (tables .exit)) (now (words .exit)) memory ≡ returnOf (meaning (now (tables .entry)) (now (words .entry)) memory) (turnIn (now (tables .entry)) c t weight next offset) v) ⌝ }
+{
+    let th = thread_at(tables, t);
+    if is_root(th) {
+        free_thread(tables, t, weight);
+        put_core(tables, c, 32);
+        finish(tables, v);
+        return;
+    }
+    let p = th.parent;
+    let connected = th.connected;
+    let q = thread_at(tables, p);
+    free_thread(tables, t, weight);
+    set_slot(words, q.base, th.result, v);
+    put_thread(tables, p, without_child(q, status_after(connected, q)));
+    wake(tables, connected, q, p);
+    put_core(tables, c, core_after(connected, p));
+}
