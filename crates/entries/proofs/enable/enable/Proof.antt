@@ -19,14 +19,16 @@ same-length c = search needs
 
 returns : tie.Need-returns
 returns c =
-    λ words memory. enable-over (meaning (c .before .before .before .before .args .tables .now) words memory) (c .before .before .before .before .args .t) (c .before .is-over .result) (c .before .is-over .ensures .means (c .before .before .before .before .pre) words memory) (c .if1 .taken)
+    let args' = c .before .before .before .before .args in
+    λ words memory. enable-over (meaning (args' .tables .now) words memory) (args' .t) (c .before .is-over .result) (c .before .is-over .ensures .means (c .before .before .before .before .pre) words memory) (c .if1 .taken)
 
 same-length-2 : tie.Need-same-length-2
 same-length-2 c = search needs
 
 returns-2 : tie.Need-returns-2
 returns-2 c =
-    λ words memory. enable-none (meaning (c .before .before .before .before .before .args .tables .now) words memory) (c .before .before .before .before .before .args .t) (c .before .before .is-over .result) (c .before .before .is-over .ensures .means (c .before .before .before .before .before .pre) words memory) (c .before .if1 .left) (c .if2 .taken)
+    let args' = c .before .before .before .before .before .args in
+    λ words memory. enable-none (meaning (args' .tables .now) words memory) (args' .t) (c .before .before .is-over .result) (c .before .before .is-over .ensures .means (c .before .before .before .before .before .pre) words memory) (c .before .if1 .left) (c .if2 .taken)
 
 thread-at-requires : tie.Need-thread-at-requires
 thread-at-requires c κs = search needs
@@ -39,7 +41,11 @@ same-length-3 c = search needs
 
 returns-3 : tie.Need-returns-3
 returns-3 c =
-    λ words memory. enable-awake (meaning (c .before .before .before .before .before .before .before .before .before .args .tables .now) words memory) (c .before .before .before .before .before .before .before .before .before .args .t) (c .before .before .before .before .before .before .is-over .result) (c .before .before .before .before .before .before .is-over .ensures .means (c .before .before .before .before .before .before .before .before .before .pre) words memory) (c .before .before .before .before .before .if1 .left) (c .before .before .before .before .if2 .left) (c .before .before .thread-at .result) (thread-seen (c .before .before .before .before .before .before .before .before .before .pre) words memory (c .before .before .before .before .before .before .before .before .before .args .t) (c .before .before .thread-at .result) (c .before .before .before .before .if2 .left) (c .before .before .thread-at .ensures)) (c .before .same-status .result) (c .before .same-status .ensures) (not-true _ (c .if3 .taken))
+    let args' = c .before .before .before .before .before .before .before .before .before .args in
+    let pre' = c .before .before .before .before .before .before .before .before .before .pre in
+    let is-over' = c .before .before .before .before .before .before .is-over in
+    let if2' = c .before .before .before .before .if2 in
+    λ words memory. enable-awake (meaning (args' .tables .now) words memory) (args' .t) (is-over' .result) (is-over' .ensures .means (pre') words memory) (c .before .before .before .before .before .if1 .left) (if2' .left) (c .before .before .thread-at .result) (thread-seen (pre') words memory (args' .t) (c .before .before .thread-at .result) (if2' .left) (c .before .before .thread-at .ensures)) (c .before .same-status .result) (c .before .same-status .ensures) (not-true _ (c .if3 .taken))
 
 with-status-requires : tie.Need-with-status-requires
 with-status-requires c κs = search needs
@@ -61,11 +67,19 @@ same-length-4 c = search needs
 
 returns-4 : tie.Need-returns-4
 returns-4 c =
+    let args' = c .before .before .before .before .before .before .before .before .before .before .before .before .before .before .before .before .before .before .before .before .before .args in
+    let pre' = c .before .before .before .before .before .before .before .before .before .before .before .before .before .before .before .before .before .before .before .before .before .pre in
+    let is-over' = c .before .before .before .before .before .before .before .before .before .before .before .before .before .before .before .before .before .before .is-over in
+    let if2' = c .before .before .before .before .before .before .before .before .before .before .before .before .before .before .before .before .if2 in
+    let thread-at' = c .before .before .before .before .before .before .before .before .before .before .before .before .before .before .thread-at in
+    let same-status' = c .before .before .before .before .before .before .before .before .before .before .before .before .before .same-status in
+    let with-status' = c .before .before .before .before .before .before .before .before .before .before .with-status in
+    let put-thread' = c .before .before .before .before .before .before .before .before .before .put-thread in
     λ words memory.
-    let l1 = c .before .before .before .before .before .before .before .before .before .put-thread .ensures .sized ∙ (c .before .before .before .before .before .before .before .before .before .before .before .before .before .before .before .before .before .before .before .before .before .pre) in
-    enabled (meaning (c .before .before .before .before .before .before .before .before .before .before .before .before .before .before .before .before .before .before .before .before .before .args .tables .now) words memory) (c .before .before .before .before .before .before .before .before .before .before .before .before .before .before .before .before .before .before .before .before .before .args .t) (c .before .before .before .before .before .before .before .before .before .before .before .before .before .before .before .before .before .before .is-over .result) (c .before .before .before .before .before .before .before .before .before .before .before .before .before .before .before .before .before .before .is-over .ensures .means (c .before .before .before .before .before .before .before .before .before .before .before .before .before .before .before .before .before .before .before .before .before .pre) words memory) (c .before .before .before .before .before .before .before .before .before .before .before .before .before .before .before .before .before .if1 .left) (c .before .before .before .before .before .before .before .before .before .before .before .before .before .before .before .before .if2 .left) (c .before .before .before .before .before .before .before .before .before .before .before .before .before .before .thread-at .result) (thread-seen (c .before .before .before .before .before .before .before .before .before .before .before .before .before .before .before .before .before .before .before .before .before .pre) words memory (c .before .before .before .before .before .before .before .before .before .before .before .before .before .before .before .before .before .before .before .before .before .args .t) (c .before .before .before .before .before .before .before .before .before .before .before .before .before .before .thread-at .result) (c .before .before .before .before .before .before .before .before .before .before .before .before .before .before .before .before .if2 .left) (c .before .before .before .before .before .before .before .before .before .before .before .before .before .before .thread-at .ensures)) (c .before .before .before .before .before .before .before .before .before .before .before .before .before .same-status .result) (c .before .before .before .before .before .before .before .before .before .before .before .before .before .same-status .ensures) _ _ _ (not-false _ (c .before .before .before .before .before .before .before .before .before .before .before .before .if3 .left)) (c .before .before .before .before .before .before .before .before .before .before .with-status .ensures)
-    (thread-stored (c .before .before .before .before .before .before .before .before .before .before .before .before .before .before .before .before .before .before .before .before .before .pre) words memory (c .before .before .before .before .before .before .before .before .before .before .before .before .before .before .before .before .before .before .before .before .before .args .t) (c .before .before .before .before .before .before .before .before .before .before .with-status .result) (c .before .before .before .before .before .before .before .before .before .before .before .before .before .before .before .before .if2 .left) (c .before .before .before .before .before .before .before .before .before .put-thread .ensures))
-    (c .before .before .put-ready .ensures .means l1 words memory ∙ ap (λ (q : List ℕ). setReady q (meaning (c .before .before .before .before .before .before .before .before .before .put-thread .last .0) words memory)) (behind-last _ _ _ _ (c .before .before .before .before .ready .ensures .means l1 words memory) (c .before .before .before .enqueue .ensures)))
+    let l1 = put-thread' .ensures .sized ∙ (pre') in
+    enabled (meaning (args' .tables .now) words memory) (args' .t) (is-over' .result) (is-over' .ensures .means (pre') words memory) (c .before .before .before .before .before .before .before .before .before .before .before .before .before .before .before .before .before .if1 .left) (if2' .left) (thread-at' .result) (thread-seen (pre') words memory (args' .t) (thread-at' .result) (if2' .left) (thread-at' .ensures)) (same-status' .result) (same-status' .ensures) _ _ _ (not-false _ (c .before .before .before .before .before .before .before .before .before .before .before .before .if3 .left)) (with-status' .ensures)
+    (thread-stored (pre') words memory (args' .t) (with-status' .result) (if2' .left) (put-thread' .ensures))
+    (c .before .before .put-ready .ensures .means l1 words memory ∙ ap (λ (q : List ℕ). setReady q (meaning (put-thread' .last .0) words memory)) (behind-last _ _ _ _ (c .before .before .before .before .ready .ensures .means l1 words memory) (c .before .before .before .enqueue .ensures)))
 
 pub enable-spec : {M : Type 1} → statement M
 enable-spec =

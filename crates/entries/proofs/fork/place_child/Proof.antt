@@ -40,21 +40,24 @@ same-length c = search needs
 
 returns : tie.Need-returns
 returns c =
-    rw (c .before .before .before .before .enum-told .given .1) (here (λ l words memory. ap (λ (k : ℕ). setCore k (c .before .before .before .before .before .before .before .args .n) (meaning (c .before .before .before .before .before .before .before .args .tables .now) words memory)) (mod-eq-of-lt (c .before .before .before .before .before .before .before .pre .1))) (c .before .before .put-core .ensures))
+    let args' = c .before .before .before .before .before .before .before .args in
+    rw (c .before .before .before .before .enum-told .given .1) (here (λ l words memory. ap (λ (k : ℕ). setCore k (args' .n) (meaning (args' .tables .now) words memory)) (mod-eq-of-lt (c .before .before .before .before .before .before .before .pre .1))) (c .before .before .put-core .ensures))
 
 same-length-2 : tie.Need-same-length-2
 same-length-2 c = search needs
 
 returns-2 : tie.Need-returns-2
 returns-2 c =
-    rw (c .before .before .before .before .before .before .before .enum-told2 .given .1) (here (λ l words memory. ap (λ (q : List ℕ). setReady q (meaning (c .before .before .before .before .before .before .before .before .before .before .args .tables .now) words memory)) (behind-last _ _ (c .before .before .before .before .before .before .before .before .before .before .args .n) _ (c .before .before .before .before .ready .ensures .means l words memory) (c .before .before .before .enqueue .ensures))) (c .before .before .put-ready .ensures))
+    let args' = c .before .before .before .before .before .before .before .before .before .before .args in
+    rw (c .before .before .before .before .before .before .before .enum-told2 .given .1) (here (λ l words memory. ap (λ (q : List ℕ). setReady q (meaning (args' .tables .now) words memory)) (behind-last _ _ (args' .n) _ (c .before .before .before .before .ready .ensures .means l words memory) (c .before .before .before .enqueue .ensures))) (c .before .before .put-ready .ensures))
 
 same-length-3 : tie.Need-same-length-3
 same-length-3 c = search needs
 
 returns-3 : tie.Need-returns-3
 returns-3 c =
-    rw (c .before .before .before .before .enum-told3 .given .1) (here (λ l words memory. ap (λ (k : ℕ). setCore k (c .before .before .before .before .before .before .before .args .n) (meaning (c .before .before .before .before .before .before .before .args .tables .now) words memory)) (mod-eq-of-lt (c .before .before .before .before .before .before .before .pre .1))) (c .before .before .put-core2 .ensures))
+    let args' = c .before .before .before .before .before .before .before .args in
+    rw (c .before .before .before .before .enum-told3 .given .1) (here (λ l words memory. ap (λ (k : ℕ). setCore k (args' .n) (meaning (args' .tables .now) words memory)) (mod-eq-of-lt (c .before .before .before .before .before .before .before .pre .1))) (c .before .before .put-core2 .ensures))
 
 pub place-child-spec : {M : Type 1} → statement M
 place-child-spec =

@@ -35,21 +35,30 @@ same-length c = search needs
 
 returns : tie.Need-returns
 returns c =
-    let th = c .before .before .before .before .before .before .before .before .before .before .before .before .before .before .before .before .before .thread-at .result in
-    let is : th ≡ recordIn (c .before .before .before .before .before .before .before .before .before .before .before .before .before .before .before .before .before .before .before .before .args .tables .now) (c .before .before .before .before .before .before .before .before .before .before .before .before .before .before .before .before .before .before .before .before .args .t) = thread-seen (c .before .before .before .before .before .before .before .before .before .before .before .before .before .before .before .before .before .before .before .before .pre .sized) [] [] (c .before .before .before .before .before .before .before .before .before .before .before .before .before .before .before .before .before .before .before .before .args .t) th (c .before .before .before .before .before .before .before .before .before .before .before .before .before .before .before .before .before .before .before .before .pre .number) (c .before .before .before .before .before .before .before .before .before .before .before .before .before .before .before .before .before .thread-at .ensures) in
-    let low : th .parent < 32 = rw is (c .before .before .before .before .before .before .before .before .before .before .before .before .before .before .before .before .before .before .before .before .pre .linked (rw is at (c .before .before .before .before .before .before .before .before .before .before .before .if1 .taken))) in
+    let args' = c .before .before .before .before .before .before .before .before .before .before .before .before .before .before .before .before .before .before .before .before .args in
+    let pre' = c .before .before .before .before .before .before .before .before .before .before .before .before .before .before .before .before .before .before .before .before .pre in
+    let thread-at' = c .before .before .before .before .before .before .before .before .before .before .before .before .before .before .before .before .before .thread-at in
+    let disconnected' = c .before .before .before .before .before .before .before .before .before .before .before .before .before .before .before .disconnected in
+    let put-thread' = c .before .before .before .before .before .before .before .before .before .before .before .before .before .before .put-thread in
+    let if1' = c .before .before .before .before .before .before .before .before .before .before .before .if1 in
+    let thread-at2' = c .before .before .before .before .before .before .before .before .before .thread-at2 in
+    let with-status' = c .before .before .before .before .before .before .before .with-status in
+    let put-thread2' = c .before .before .before .before .before .before .put-thread2 in
+    let th = thread-at' .result in
+    let is : th ≡ recordIn (args' .tables .now) (args' .t) = thread-seen (pre' .sized) [] [] (args' .t) th (pre' .number) (thread-at' .ensures) in
+    let low : th .parent < 32 = rw is (pre' .linked (rw is at (if1' .taken))) in
     record {
       means = λ l words memory.
-          let l1 = c .before .before .before .before .before .before .before .before .before .before .before .before .before .before .put-thread .ensures .sized ∙ l in
-          let l2 = c .before .before .before .before .before .before .put-thread2 .ensures .sized ∙ l1 in
-          leaves-lent (c .before .before .before .before .before .before .before .before .before .before .before .before .before .before .before .before .before .before .before .before .args .c) (c .before .before .before .before .before .before .before .before .before .before .before .before .before .before .before .before .before .before .before .before .args .t) (c .before .before .before .before .before .before .before .before .before .before .before .before .before .before .before .before .before .before .before .before .args .status) _ _ _ _ th _ _ _
-          (thread-seen l words memory (c .before .before .before .before .before .before .before .before .before .before .before .before .before .before .before .before .before .before .before .before .args .t) th (c .before .before .before .before .before .before .before .before .before .before .before .before .before .before .before .before .before .before .before .before .pre .number) (c .before .before .before .before .before .before .before .before .before .before .before .before .before .before .before .before .before .thread-at .ensures)) (c .before .before .before .before .before .before .before .before .before .before .before .if1 .taken) (c .before .before .before .before .before .before .before .before .before .before .before .before .before .before .before .disconnected .ensures)
-          (thread-stored l words memory (c .before .before .before .before .before .before .before .before .before .before .before .before .before .before .before .before .before .before .before .before .args .t) (c .before .before .before .before .before .before .before .before .before .before .before .before .before .before .before .disconnected .result) (c .before .before .before .before .before .before .before .before .before .before .before .before .before .before .before .before .before .before .before .before .pre .number) (c .before .before .before .before .before .before .before .before .before .before .before .before .before .before .put-thread .ensures))
-          (thread-seen l1 words memory (th .parent) (c .before .before .before .before .before .before .before .before .before .thread-at2 .result) low (c .before .before .before .before .before .before .before .before .before .thread-at2 .ensures)) (c .before .before .before .before .before .before .before .with-status .ensures)
-          (thread-stored l1 words memory (th .parent) (c .before .before .before .before .before .before .before .with-status .result) low (c .before .before .before .before .before .before .put-thread2 .ensures))
-          (core-stored l2 words memory (c .before .before .before .before .before .before .before .before .before .before .before .before .before .before .before .before .before .before .before .before .args .c) (th .parent) (c .before .before .before .before .before .before .before .before .before .before .before .before .before .before .before .before .before .before .before .before .pre .core) (c .before .before .put-core .ensures));
-      sized = c .before .before .put-core .ensures .sized ∙ c .before .before .before .before .before .before .put-thread2 .ensures .sized ∙ c .before .before .before .before .before .before .before .before .before .before .before .before .before .before .put-thread .ensures .sized;
-      other = λ n. absurd (n (c .before .before .before .before .before .before .before .before .before .before .before .before .before .before .before .before .before .before .before .before .pre .sized));
+          let l1 = put-thread' .ensures .sized ∙ l in
+          let l2 = put-thread2' .ensures .sized ∙ l1 in
+          leaves-lent (args' .c) (args' .t) (args' .status) _ _ _ _ th _ _ _
+          (thread-seen l words memory (args' .t) th (pre' .number) (thread-at' .ensures)) (if1' .taken) (disconnected' .ensures)
+          (thread-stored l words memory (args' .t) (disconnected' .result) (pre' .number) (put-thread' .ensures))
+          (thread-seen l1 words memory (th .parent) (thread-at2' .result) low (thread-at2' .ensures)) (with-status' .ensures)
+          (thread-stored l1 words memory (th .parent) (with-status' .result) low (put-thread2' .ensures))
+          (core-stored l2 words memory (args' .c) (th .parent) (pre' .core) (c .before .before .put-core .ensures));
+      sized = c .before .before .put-core .ensures .sized ∙ put-thread2' .ensures .sized ∙ put-thread' .ensures .sized;
+      other = λ n. absurd (n (pre' .sized));
     }
 
 put-core-requires-2 : tie.Need-put-core-requires-2
@@ -60,16 +69,21 @@ same-length-2 c = search needs
 
 returns-2 : tie.Need-returns-2
 returns-2 c =
-    let th = c .before .before .before .before .before .before .before .before .before .before .thread-at .result in
+    let args' = c .before .before .before .before .before .before .before .before .before .before .before .before .before .args in
+    let pre' = c .before .before .before .before .before .before .before .before .before .before .before .before .before .pre in
+    let thread-at' = c .before .before .before .before .before .before .before .before .before .before .thread-at in
+    let disconnected' = c .before .before .before .before .before .before .before .before .disconnected in
+    let put-thread' = c .before .before .before .before .before .before .before .put-thread in
+    let th = thread-at' .result in
     record {
       means = λ l words memory.
-          let l1 = c .before .before .before .before .before .before .before .put-thread .ensures .sized ∙ l in
-          leaves-idle (c .before .before .before .before .before .before .before .before .before .before .before .before .before .args .c) (c .before .before .before .before .before .before .before .before .before .before .before .before .before .args .t) (c .before .before .before .before .before .before .before .before .before .before .before .before .before .args .status) _ _ _ th _
-          (thread-seen l words memory (c .before .before .before .before .before .before .before .before .before .before .before .before .before .args .t) th (c .before .before .before .before .before .before .before .before .before .before .before .before .before .pre .number) (c .before .before .before .before .before .before .before .before .before .before .thread-at .ensures)) (c .before .before .before .before .if1 .left) (c .before .before .before .before .before .before .before .before .disconnected .ensures)
-          (thread-stored l words memory (c .before .before .before .before .before .before .before .before .before .before .before .before .before .args .t) (c .before .before .before .before .before .before .before .before .disconnected .result) (c .before .before .before .before .before .before .before .before .before .before .before .before .before .pre .number) (c .before .before .before .before .before .before .before .put-thread .ensures))
-          (core-stored l1 words memory (c .before .before .before .before .before .before .before .before .before .before .before .before .before .args .c) 32 (c .before .before .before .before .before .before .before .before .before .before .before .before .before .pre .core) (c .before .before .put-core2 .ensures));
-      sized = c .before .before .put-core2 .ensures .sized ∙ c .before .before .before .before .before .before .before .put-thread .ensures .sized;
-      other = λ n. absurd (n (c .before .before .before .before .before .before .before .before .before .before .before .before .before .pre .sized));
+          let l1 = put-thread' .ensures .sized ∙ l in
+          leaves-idle (args' .c) (args' .t) (args' .status) _ _ _ th _
+          (thread-seen l words memory (args' .t) th (pre' .number) (thread-at' .ensures)) (c .before .before .before .before .if1 .left) (disconnected' .ensures)
+          (thread-stored l words memory (args' .t) (disconnected' .result) (pre' .number) (put-thread' .ensures))
+          (core-stored l1 words memory (args' .c) 32 (pre' .core) (c .before .before .put-core2 .ensures));
+      sized = c .before .before .put-core2 .ensures .sized ∙ put-thread' .ensures .sized;
+      other = λ n. absurd (n (pre' .sized));
     }
 
 pub leave-spec : {M : Type 1} → statement M

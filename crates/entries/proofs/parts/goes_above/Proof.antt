@@ -22,7 +22,9 @@ is-topmost-requires c κs = search needs
 
 returns-2 : tie.Need-returns-2
 returns-2 c =
-    λ words memory. rw (sym (c .before .before .before .is-connected .ensures) ∙ not-false _ (c .before .before .if1 .left), sym (c .before .is-topmost .ensures .means (c .before .before .before .before .before .pre .0) words memory ∙ ap (λ (k : ℕ). isTopmost (meaning (c .before .before .before .before .before .args .tables .now) words memory .tops) k (c .before .before .before .before .before .args .slots)) (mod-eq-of-lt (c .before .before .before .before .before .pre .1))) ∙ not-true _ (c .if2 .taken))
+    let args' = c .before .before .before .before .before .args in
+    let pre' = c .before .before .before .before .before .pre in
+    λ words memory. rw (sym (c .before .before .before .is-connected .ensures) ∙ not-false _ (c .before .before .if1 .left), sym (c .before .is-topmost .ensures .means (pre' .0) words memory ∙ ap (λ (k : ℕ). isTopmost (meaning (args' .tables .now) words memory .tops) k (args' .slots)) (mod-eq-of-lt (pre' .1))) ∙ not-true _ (c .if2 .taken))
 
 cast-fits : tie.Need-cast-fits
 cast-fits c = search needs
@@ -32,8 +34,10 @@ fits-requires c κs = search needs
 
 returns-3 : tie.Need-returns-3
 returns-3 c =
-    λ words memory. rw (sym (c .before .before .before .before .is-connected .ensures) ∙ not-false _ (c .before .before .before .if1 .left), sym (c .before .before .is-topmost .ensures .means (c .before .before .before .before .before .before .pre .0) words memory ∙ ap (λ (k : ℕ). isTopmost (meaning (c .before .before .before .before .before .before .args .tables .now) words memory .tops) k (c .before .before .before .before .before .before .args .slots)) (mod-eq-of-lt (c .before .before .before .before .before .before .pre .1))) ∙ not-false _ (c .before .if2 .left))
-    (c .fits2 .ensures .means (c .before .before .before .before .before .before .pre .0) words memory ∙ ap (λ (k : ℕ). fitsOn (meaning (c .before .before .before .before .before .before .args .tables .now) words memory .tops) k (c .before .before .before .before .before .before .args .wide)) (omega arith))
+    let args' = c .before .before .before .before .before .before .args in
+    let pre' = c .before .before .before .before .before .before .pre in
+    λ words memory. rw (sym (c .before .before .before .before .is-connected .ensures) ∙ not-false _ (c .before .before .before .if1 .left), sym (c .before .before .is-topmost .ensures .means (pre' .0) words memory ∙ ap (λ (k : ℕ). isTopmost (meaning (args' .tables .now) words memory .tops) k (args' .slots)) (mod-eq-of-lt (pre' .1))) ∙ not-false _ (c .before .if2 .left))
+    (c .fits2 .ensures .means (pre' .0) words memory ∙ ap (λ (k : ℕ). fitsOn (meaning (args' .tables .now) words memory .tops) k (args' .wide)) (omega arith))
 
 pub goes-above-spec : {M : Type 1} → statement M
 goes-above-spec =

@@ -24,10 +24,12 @@ pop-frame-requires : tie.Need-pop-frame-requires
 pop-frame-requires c κs = search needs
 
 give-back-requires : tie.Need-give-back-requires
-give-back-requires c κs = (
-  c .before .before .before .pop-frame .ensures .sized ∙ c .before .before .before .before .before .before .before .charge .ensures .sized ∙ c .before .before .before .before .before .before .before .before .before .before .before .before .pre .1 .sized,
-  rw (thread-seen (c .before .before .before .before .before .before .before .before .before .before .before .before .pre .1 .sized) [] [] (c .before .before .before .before .before .before .before .before .before .before .before .before .args .t) (c .before .before .before .before .before .before .before .before .before .thread-at .result) (c .before .before .before .before .before .before .before .before .before .before .before .before .pre .1 .number) (c .before .before .before .before .before .before .before .before .before .thread-at .ensures)) (c .before .before .before .before .before .before .before .before .before .before .before .before .pre .1 .base),
-)
+give-back-requires c κs =
+    let pre' = c .before .before .before .before .before .before .before .before .before .before .before .before .pre in
+    let thread-at' = c .before .before .before .before .before .before .before .before .before .thread-at in (
+      c .before .before .before .pop-frame .ensures .sized ∙ c .before .before .before .before .before .before .before .charge .ensures .sized ∙ pre' .1 .sized,
+      rw (thread-seen (pre' .1 .sized) [] [] (c .before .before .before .before .before .before .before .before .before .before .before .before .args .t) (thread-at' .result) (pre' .1 .number) (thread-at' .ensures)) (pre' .1 .base),
+    )
 
 free-threads-requires : tie.Need-free-threads-requires
 free-threads-requires c κs = search needs
@@ -50,26 +52,34 @@ same-length c =
 
 returns : tie.Need-returns
 returns c =
+    let args' = c .before .before .before .before .before .before .before .before .before .before .before .before .before .before .before .before .before .before .before .before .before .before .before .before .before .before .before .args in
+    let pre' = c .before .before .before .before .before .before .before .before .before .before .before .before .before .before .before .before .before .before .before .before .before .before .before .before .before .before .before .pre in
+    let thread-at' = c .before .before .before .before .before .before .before .before .before .before .before .before .before .before .before .before .before .before .before .before .before .before .before .before .thread-at in
+    let charge' = c .before .before .before .before .before .before .before .before .before .before .before .before .before .before .before .before .before .before .before .before .before .before .charge in
+    let pop-frame' = c .before .before .before .before .before .before .before .before .before .before .before .before .before .before .before .before .before .before .pop-frame in
+    let give-back' = c .before .before .before .before .before .before .before .before .before .before .before .before .before .before .give-back in
+    let put-free-threads' = c .before .before .before .before .before .before .before .put-free-threads in
+    let blank-thread' = c .before .before .before .blank-thread in
     λ core next offset.
-    let th = c .before .before .before .before .before .before .before .before .before .before .before .before .before .before .before .before .before .before .before .before .before .before .before .before .thread-at .result in
-    let small = c .before .before .before .before .before .before .before .before .before .before .before .before .before .before .before .before .before .before .before .before .before .before .before .before .before .before .before .pre .1 .number in
-    let is : th ≡ recordIn (c .before .before .before .before .before .before .before .before .before .before .before .before .before .before .before .before .before .before .before .before .before .before .before .before .before .before .before .args .tables .now) (c .before .before .before .before .before .before .before .before .before .before .before .before .before .before .before .before .before .before .before .before .before .before .before .before .before .before .before .args .t) = thread-seen (c .before .before .before .before .before .before .before .before .before .before .before .before .before .before .before .before .before .before .before .before .before .before .before .before .before .before .before .pre .1 .sized) [] [] (c .before .before .before .before .before .before .before .before .before .before .before .before .before .before .before .before .before .before .before .before .before .before .before .before .before .before .before .args .t) th small (c .before .before .before .before .before .before .before .before .before .before .before .before .before .before .before .before .before .before .before .before .before .before .before .before .thread-at .ensures) in
+    let th = thread-at' .result in
+    let small = pre' .1 .number in
+    let is : th ≡ recordIn (args' .tables .now) (args' .t) = thread-seen (pre' .1 .sized) [] [] (args' .t) th small (thread-at' .ensures) in
     record {
       means = λ l words memory.
-          let l1 = c .before .before .before .before .before .before .before .before .before .before .before .before .before .before .before .before .before .before .before .before .before .before .charge .ensures .sized ∙ l in
-          let l2 = c .before .before .before .before .before .before .before .before .before .before .before .before .before .before .before .before .before .before .pop-frame .ensures .sized ∙ l1 in
-          let l3 = c .before .before .before .before .before .before .before .before .before .before .before .before .before .before .give-back .ensures .sized ∙ l2 in
-          let l4 = c .before .before .before .before .before .before .before .put-free-threads .ensures .sized ∙ l3 in
-          freed-by (turnWith core (c .before .before .before .before .before .before .before .before .before .before .before .before .before .before .before .before .before .before .before .before .before .before .before .before .before .before .before .args .t) th (c .before .before .before .before .before .before .before .before .before .before .before .before .before .before .before .before .before .before .before .before .before .before .before .before .before .before .before .args .weight) next offset) _ _ _ _ _ _ _
-          (charged (c .before .before .before .before .before .before .before .before .before .before .before .before .before .before .before .before .before .before .before .before .before .before .before .before .before .before .before .args .weight) l (c .before .before .before .before .before .before .before .before .before .before .before .before .before .before .before .before .before .before .before .before .before .before .before .before .before .before .before .pre .1 .units) (c .before .before .before .before .before .before .before .before .before .before .before .before .before .before .before .before .before .before .before .before .before .before .charge .ensures) words memory)
-          (popped (th .base) l1 (rw is (c .before .before .before .before .before .before .before .before .before .before .before .before .before .before .before .before .before .before .before .before .before .before .before .before .before .before .before .pre .1 .base)) (c .before .before .before .before .before .before .before .before .before .before .before .before .before .before .before .before .before .before .pop-frame .ensures) words memory)
-          (c .before .before .before .before .before .before .before .before .before .before .before .before .before .before .give-back .ensures .means l2 words memory)
-          (c .before .before .before .before .before .before .before .put-free-threads .ensures .means l3 words memory ∙ ap (λ (q : List ℕ). setFreeThreads q (meaning (c .before .before .before .before .before .before .before .before .before .before .before .before .before .before .give-back .last .0) words memory)) (behind-last _ _ _ _ (c .before .before .before .before .before .before .before .before .before .free-threads .ensures .means l3 words memory) (c .before .before .before .before .before .before .before .before .enqueue .ensures)))
-          (c .before .before .before .blank-thread .ensures)
-          (thread-stored l4 words memory (c .before .before .before .before .before .before .before .before .before .before .before .before .before .before .before .before .before .before .before .before .before .before .before .before .before .before .before .args .t) (c .before .before .before .blank-thread .result) small (c .before .before .put-thread .ensures))
-          ∙ ap (λ (h : Thread). freed (turnWith core (c .before .before .before .before .before .before .before .before .before .before .before .before .before .before .before .before .before .before .before .before .before .before .before .before .before .before .before .args .t) h (c .before .before .before .before .before .before .before .before .before .before .before .before .before .before .before .before .before .before .before .before .before .before .before .before .before .before .before .args .weight) next offset) (meaning (c .before .before .before .before .before .before .before .before .before .before .before .before .before .before .before .before .before .before .before .before .before .before .before .before .before .before .before .args .tables .now) words memory)) is;
+          let l1 = charge' .ensures .sized ∙ l in
+          let l2 = pop-frame' .ensures .sized ∙ l1 in
+          let l3 = give-back' .ensures .sized ∙ l2 in
+          let l4 = put-free-threads' .ensures .sized ∙ l3 in
+          freed-by (turnWith core (args' .t) th (args' .weight) next offset) _ _ _ _ _ _ _
+          (charged (args' .weight) l (pre' .1 .units) (charge' .ensures) words memory)
+          (popped (th .base) l1 (rw is (pre' .1 .base)) (pop-frame' .ensures) words memory)
+          (give-back' .ensures .means l2 words memory)
+          (put-free-threads' .ensures .means l3 words memory ∙ ap (λ (q : List ℕ). setFreeThreads q (meaning (give-back' .last .0) words memory)) (behind-last _ _ _ _ (c .before .before .before .before .before .before .before .before .before .free-threads .ensures .means l3 words memory) (c .before .before .before .before .before .before .before .before .enqueue .ensures)))
+          (blank-thread' .ensures)
+          (thread-stored l4 words memory (args' .t) (blank-thread' .result) small (c .before .before .put-thread .ensures))
+          ∙ ap (λ (h : Thread). freed (turnWith core (args' .t) h (args' .weight) next offset) (meaning (args' .tables .now) words memory)) is;
       sized = same-length c;
-      other = λ n. absurd (n (c .before .before .before .before .before .before .before .before .before .before .before .before .before .before .before .before .before .before .before .before .before .before .before .before .before .before .before .pre .1 .sized));
+      other = λ n. absurd (n (pre' .1 .sized));
     }
 
 pub free-thread-spec : {M : Type 1} → statement M

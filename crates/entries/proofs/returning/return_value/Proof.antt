@@ -33,18 +33,24 @@ same-length c = search needs
 
 returns : tie.Need-returns
 returns c =
-    let l = c .before .before .before .before .before .before .before .before .before .before .before .before .before .before .before .before .before .before .pre .sized in
-    let th = c .before .before .before .before .before .before .before .before .before .before .before .before .before .before .thread-at .result in
-    let same : th ≡ recordIn (c .before .before .before .before .before .before .before .before .before .before .before .before .before .before .before .before .before .before .args .tables .now) (c .before .before .before .before .before .before .before .before .before .before .before .before .before .before .before .before .before .before .args .t) = thread-seen l [] [] (c .before .before .before .before .before .before .before .before .before .before .before .before .before .before .before .before .before .before .args .t) th (c .before .before .before .before .before .before .before .before .before .before .before .before .before .before .before .before .before .before .pre .number) (c .before .before .before .before .before .before .before .before .before .before .before .before .before .before .thread-at .ensures) in
-    let ws = c .before .before .before .before .before .before .before .before .before .before .before .before .before .before .before .before .before .before .args .words .now in
+    let args' = c .before .before .before .before .before .before .before .before .before .before .before .before .before .before .before .before .before .before .args in
+    let pre' = c .before .before .before .before .before .before .before .before .before .before .before .before .before .before .before .before .before .before .pre in
+    let thread-at' = c .before .before .before .before .before .before .before .before .before .before .before .before .before .before .thread-at in
+    let is-root' = c .before .before .before .before .before .before .before .before .before .before .before .before .before .is-root in
+    let free-thread' = c .before .before .before .before .before .before .before .before .before .before .free-thread in
+    let put-core' = c .before .before .before .before .before .before .put-core in
+    let l = pre' .sized in
+    let th = thread-at' .result in
+    let same : th ≡ recordIn (args' .tables .now) (args' .t) = thread-seen l [] [] (args' .t) th (pre' .number) (thread-at' .ensures) in
+    let ws = args' .words .now in
     λ memory next offset.
-    let l1 = c .before .before .before .before .before .before .before .before .before .before .free-thread .ensures 0 0 0 .sized ∙ l in
-    let l2 = c .before .before .before .before .before .before .put-core .ensures .sized ∙ l1 in
-    returned-root (turnWith (c .before .before .before .before .before .before .before .before .before .before .before .before .before .before .before .before .before .before .args .c) (c .before .before .before .before .before .before .before .before .before .before .before .before .before .before .before .before .before .before .args .t) th (c .before .before .before .before .before .before .before .before .before .before .before .before .before .before .before .before .before .before .args .weight) next offset) (c .before .before .before .before .before .before .before .before .before .before .before .before .before .before .before .before .before .before .args .v) (meaning (c .before .before .before .before .before .before .before .before .before .before .before .before .before .before .before .before .before .before .args .tables .now) ws memory) _ _ _ (c .before .before .before .before .before .before .before .before .before .before .before .before .before .is-root .result) (c .before .before .before .before .before .before .before .before .before .before .before .before .before .is-root .ensures) (c .before .before .before .before .before .before .before .before .before .before .before .before .if1 .taken)
-    (c .before .before .before .before .before .before .before .before .before .before .free-thread .ensures (c .before .before .before .before .before .before .before .before .before .before .before .before .before .before .before .before .before .before .args .c) next offset .means l ws memory
-    ∙ ap (λ (h : Thread). freed (turnWith (c .before .before .before .before .before .before .before .before .before .before .before .before .before .before .before .before .before .before .args .c) (c .before .before .before .before .before .before .before .before .before .before .before .before .before .before .before .before .before .before .args .t) h (c .before .before .before .before .before .before .before .before .before .before .before .before .before .before .before .before .before .before .args .weight) next offset) (meaning (c .before .before .before .before .before .before .before .before .before .before .before .before .before .before .before .before .before .before .args .tables .now) ws memory)) (sym same))
-    (core-stored l1 ws memory (c .before .before .before .before .before .before .before .before .before .before .before .before .before .before .before .before .before .before .args .c) 32 (c .before .before .before .before .before .before .before .before .before .before .before .before .before .before .before .before .before .before .pre .core) (c .before .before .before .before .before .before .put-core .ensures)) (c .before .before .finish .ensures .means l2 ws memory)
-    ∙ ap (λ (h : Thread). returnOf (meaning (c .before .before .before .before .before .before .before .before .before .before .before .before .before .before .before .before .before .before .args .tables .now) ws memory) (turnWith (c .before .before .before .before .before .before .before .before .before .before .before .before .before .before .before .before .before .before .args .c) (c .before .before .before .before .before .before .before .before .before .before .before .before .before .before .before .before .before .before .args .t) h (c .before .before .before .before .before .before .before .before .before .before .before .before .before .before .before .before .before .before .args .weight) next offset) (c .before .before .before .before .before .before .before .before .before .before .before .before .before .before .before .before .before .before .args .v)) same
+    let l1 = free-thread' .ensures 0 0 0 .sized ∙ l in
+    let l2 = put-core' .ensures .sized ∙ l1 in
+    returned-root (turnWith (args' .c) (args' .t) th (args' .weight) next offset) (args' .v) (meaning (args' .tables .now) ws memory) _ _ _ (is-root' .result) (is-root' .ensures) (c .before .before .before .before .before .before .before .before .before .before .before .before .if1 .taken)
+    (free-thread' .ensures (args' .c) next offset .means l ws memory
+    ∙ ap (λ (h : Thread). freed (turnWith (args' .c) (args' .t) h (args' .weight) next offset) (meaning (args' .tables .now) ws memory)) (sym same))
+    (core-stored l1 ws memory (args' .c) 32 (pre' .core) (put-core' .ensures)) (c .before .before .finish .ensures .means l2 ws memory)
+    ∙ ap (λ (h : Thread). returnOf (meaning (args' .tables .now) ws memory) (turnWith (args' .c) (args' .t) h (args' .weight) next offset) (args' .v)) same
 
 thread-at-requires-2 : tie.Need-thread-at-requires-2
 thread-at-requires-2 c κs = search needs
@@ -83,25 +89,37 @@ same-length-3 c = search needs
 returns-2 : tie.Need-returns-2
 unfolding meaning
 returns-2 c =
-    let l = c .before .before .before .before .before .before .before .before .before .before .before .before .before .before .before .before .before .before .before .before .before .before .before .before .before .before .before .before .before .before .before .pre .sized in
-    let th = c .before .before .before .before .before .before .before .before .before .before .before .before .before .before .before .before .before .before .before .before .before .before .before .before .before .before .before .thread-at .result in
-    let same : th ≡ recordIn (c .before .before .before .before .before .before .before .before .before .before .before .before .before .before .before .before .before .before .before .before .before .before .before .before .before .before .before .before .before .before .before .args .tables .now) (c .before .before .before .before .before .before .before .before .before .before .before .before .before .before .before .before .before .before .before .before .before .before .before .before .before .before .before .before .before .before .before .args .t) = thread-seen l [] [] (c .before .before .before .before .before .before .before .before .before .before .before .before .before .before .before .before .before .before .before .before .before .before .before .before .before .before .before .before .before .before .before .args .t) th (c .before .before .before .before .before .before .before .before .before .before .before .before .before .before .before .before .before .before .before .before .before .before .before .before .before .before .before .before .before .before .before .pre .number) (c .before .before .before .before .before .before .before .before .before .before .before .before .before .before .before .before .before .before .before .before .before .before .before .before .before .before .before .thread-at .ensures) in
-    let low : th .parent < 32 = has-parent _ _ (c .before .before .before .before .before .before .before .before .before .before .before .before .before .before .before .before .before .before .before .before .before .before .before .before .before .before .is-root .ensures) (c .before .before .before .before .before .before .before .before .before .before .before .before .before .before .before .before .before .before .before .before .before .before .before .before .before .if1 .left) in
-    let ws = c .before .before .before .before .before .before .before .before .before .before .before .before .before .before .before .before .before .before .before .before .before .before .before .before .before .before .before .before .before .before .before .args .words .now in
-    let vs = c .before .before .before .before .before .before .before .before .before .before .before .before .before .before .before .before .before .set-slot .last .0 in
+    let args' = c .before .before .before .before .before .before .before .before .before .before .before .before .before .before .before .before .before .before .before .before .before .before .before .before .before .before .before .before .before .before .before .args in
+    let pre' = c .before .before .before .before .before .before .before .before .before .before .before .before .before .before .before .before .before .before .before .before .before .before .before .before .before .before .before .before .before .before .before .pre in
+    let thread-at' = c .before .before .before .before .before .before .before .before .before .before .before .before .before .before .before .before .before .before .before .before .before .before .before .before .before .before .before .thread-at in
+    let is-root' = c .before .before .before .before .before .before .before .before .before .before .before .before .before .before .before .before .before .before .before .before .before .before .before .before .before .before .is-root in
+    let if1' = c .before .before .before .before .before .before .before .before .before .before .before .before .before .before .before .before .before .before .before .before .before .before .before .before .before .if1 in
+    let thread-at2' = c .before .before .before .before .before .before .before .before .before .before .before .before .before .before .before .before .before .before .before .before .before .before .before .thread-at2 in
+    let free-thread2' = c .before .before .before .before .before .before .before .before .before .before .before .before .before .before .before .before .before .before .before .before .before .free-thread2 in
+    let set-slot' = c .before .before .before .before .before .before .before .before .before .before .before .before .before .before .before .before .before .set-slot in
+    let without-child' = c .before .before .before .before .before .before .before .before .before .before .before .before .without-child in
+    let put-thread' = c .before .before .before .before .before .before .before .before .before .before .before .put-thread in
+    let wake' = c .before .before .before .before .before .before .before .wake in
+    let core-after' = c .before .before .before .core-after in
+    let l = pre' .sized in
+    let th = thread-at' .result in
+    let same : th ≡ recordIn (args' .tables .now) (args' .t) = thread-seen l [] [] (args' .t) th (pre' .number) (thread-at' .ensures) in
+    let low : th .parent < 32 = has-parent _ _ (is-root' .ensures) (if1' .left) in
+    let ws = args' .words .now in
+    let vs = set-slot' .last .0 in
     λ memory next offset.
-    let l1 = c .before .before .before .before .before .before .before .before .before .before .before .before .before .before .before .before .before .before .before .before .before .free-thread2 .ensures 0 0 0 .sized ∙ l in
-    let l2 = c .before .before .before .before .before .before .before .before .before .before .before .put-thread .ensures .sized ∙ l1 in
-    let l3 = c .before .before .before .before .before .before .before .wake .ensures .sized ∙ l2 in
-    returned-by (turnWith (c .before .before .before .before .before .before .before .before .before .before .before .before .before .before .before .before .before .before .before .before .before .before .before .before .before .before .before .before .before .before .before .args .c) (c .before .before .before .before .before .before .before .before .before .before .before .before .before .before .before .before .before .before .before .before .before .before .before .before .before .before .before .before .before .before .before .args .t) th (c .before .before .before .before .before .before .before .before .before .before .before .before .before .before .before .before .before .before .before .before .before .before .before .before .before .before .before .before .before .before .before .args .weight) next offset) (th .parent) (c .before .before .before .before .before .before .before .before .before .before .before .before .before .before .before .before .before .before .before .before .before .before .before .before .before .before .before .before .before .before .before .args .v) (meaning (c .before .before .before .before .before .before .before .before .before .before .before .before .before .before .before .before .before .before .before .before .before .before .before .before .before .before .before .before .before .before .before .args .tables .now) ws memory) _ _ _ _ _ (c .before .before .before .before .before .before .before .before .before .before .before .before .before .before .before .before .before .before .before .before .before .before .before .thread-at2 .result) _ _ vs _ (c .before .before .before .before .before .before .before .before .before .before .before .before .before .before .before .before .before .before .before .before .before .before .before .before .before .before .is-root .result)
-    (c .before .before .before .before .before .before .before .before .before .before .before .before .before .before .before .before .before .before .before .before .before .before .before .before .before .before .is-root .ensures) (c .before .before .before .before .before .before .before .before .before .before .before .before .before .before .before .before .before .before .before .before .before .before .before .before .before .if1 .left) refl (thread-seen l ws memory (th .parent) (c .before .before .before .before .before .before .before .before .before .before .before .before .before .before .before .before .before .before .before .before .before .before .before .thread-at2 .result) low (c .before .before .before .before .before .before .before .before .before .before .before .before .before .before .before .before .before .before .before .before .before .before .before .thread-at2 .ensures))
-    (with-words (c .before .before .before .before .before .before .before .before .before .before .before .before .before .before .before .before .before .before .before .before .before .before .before .before .before .before .before .before .before .before .before .args .tables .now) ws vs memory)
-    (c .before .before .before .before .before .before .before .before .before .before .before .before .before .before .before .before .before .before .before .before .before .free-thread2 .ensures (c .before .before .before .before .before .before .before .before .before .before .before .before .before .before .before .before .before .before .before .before .before .before .before .before .before .before .before .before .before .before .before .args .c) next offset .means l vs memory
-    ∙ ap (λ (h : Thread). freed (turnWith (c .before .before .before .before .before .before .before .before .before .before .before .before .before .before .before .before .before .before .before .before .before .before .before .before .before .before .before .before .before .before .before .args .c) (c .before .before .before .before .before .before .before .before .before .before .before .before .before .before .before .before .before .before .before .before .before .before .before .before .before .before .before .before .before .before .before .args .t) h (c .before .before .before .before .before .before .before .before .before .before .before .before .before .before .before .before .before .before .before .before .before .before .before .before .before .before .before .before .before .before .before .args .weight) next offset) (meaning (c .before .before .before .before .before .before .before .before .before .before .before .before .before .before .before .before .before .before .before .before .before .before .before .before .before .before .before .before .before .before .before .args .tables .now) vs memory)) (sym same))
-    (c .before .before .before .before .before .before .before .before .before .before .before .before .before .before .before .before .before .set-slot .ensures) (c .before .before .before .before .before .before .before .before .before .before .before .before .before .status-after .ensures) (c .before .before .before .before .before .before .before .before .before .before .before .before .without-child .ensures)
-    (thread-stored l1 vs memory (th .parent) (c .before .before .before .before .before .before .before .before .before .before .before .before .without-child .result) low (c .before .before .before .before .before .before .before .before .before .before .before .put-thread .ensures)) (c .before .before .before .before .before .before .before .wake .ensures .means l2 vs memory)
-    (c .before .before .before .core-after .ensures) (core-stored l3 vs memory (c .before .before .before .before .before .before .before .before .before .before .before .before .before .before .before .before .before .before .before .before .before .before .before .before .before .before .before .before .before .before .before .args .c) (c .before .before .before .core-after .result) (c .before .before .before .before .before .before .before .before .before .before .before .before .before .before .before .before .before .before .before .before .before .before .before .before .before .before .before .before .before .before .before .pre .core) (c .before .before .put-core2 .ensures))
-    ∙ ap (λ (h : Thread). returnOf (meaning (c .before .before .before .before .before .before .before .before .before .before .before .before .before .before .before .before .before .before .before .before .before .before .before .before .before .before .before .before .before .before .before .args .tables .now) ws memory) (turnWith (c .before .before .before .before .before .before .before .before .before .before .before .before .before .before .before .before .before .before .before .before .before .before .before .before .before .before .before .before .before .before .before .args .c) (c .before .before .before .before .before .before .before .before .before .before .before .before .before .before .before .before .before .before .before .before .before .before .before .before .before .before .before .before .before .before .before .args .t) h (c .before .before .before .before .before .before .before .before .before .before .before .before .before .before .before .before .before .before .before .before .before .before .before .before .before .before .before .before .before .before .before .args .weight) next offset) (c .before .before .before .before .before .before .before .before .before .before .before .before .before .before .before .before .before .before .before .before .before .before .before .before .before .before .before .before .before .before .before .args .v)) same
+    let l1 = free-thread2' .ensures 0 0 0 .sized ∙ l in
+    let l2 = put-thread' .ensures .sized ∙ l1 in
+    let l3 = wake' .ensures .sized ∙ l2 in
+    returned-by (turnWith (args' .c) (args' .t) th (args' .weight) next offset) (th .parent) (args' .v) (meaning (args' .tables .now) ws memory) _ _ _ _ _ (thread-at2' .result) _ _ vs _ (is-root' .result)
+    (is-root' .ensures) (if1' .left) refl (thread-seen l ws memory (th .parent) (thread-at2' .result) low (thread-at2' .ensures))
+    (with-words (args' .tables .now) ws vs memory)
+    (free-thread2' .ensures (args' .c) next offset .means l vs memory
+    ∙ ap (λ (h : Thread). freed (turnWith (args' .c) (args' .t) h (args' .weight) next offset) (meaning (args' .tables .now) vs memory)) (sym same))
+    (set-slot' .ensures) (c .before .before .before .before .before .before .before .before .before .before .before .before .before .status-after .ensures) (without-child' .ensures)
+    (thread-stored l1 vs memory (th .parent) (without-child' .result) low (put-thread' .ensures)) (wake' .ensures .means l2 vs memory)
+    (core-after' .ensures) (core-stored l3 vs memory (args' .c) (core-after' .result) (pre' .core) (c .before .before .put-core2 .ensures))
+    ∙ ap (λ (h : Thread). returnOf (meaning (args' .tables .now) ws memory) (turnWith (args' .c) (args' .t) h (args' .weight) next offset) (args' .v)) same
 
 pub return-value-spec : {M : Type 1} → statement M
 return-value-spec =

@@ -26,7 +26,8 @@ add-result c = search needs
 returns-2 : tie.Need-returns-2
 unfolding fitsOn
 returns-2 c =
-    read (c .before .before .before .args .tables .now) _ _ _ (c .before .if1 .left) (λ words memory. rw (c .top-at .ensures .means (c .before .if1 .left) words memory, lt-ltb (c .before .before .before .args .x % 16) 16 (mod-lt _ (omega arith))))
+    let args' = c .before .before .before .args in
+    read (args' .tables .now) _ _ _ (c .before .if1 .left) (λ words memory. rw (c .top-at .ensures .means (c .before .if1 .left) words memory, lt-ltb (args' .x % 16) 16 (mod-lt _ (omega arith))))
 
 pub fits-spec : {M : Type 1} → statement M
 fits-spec = tie.close (tie.spec returns top-at-requires cast-result add-result returns-2)

@@ -27,9 +27,10 @@ cast-result c = search needs
 
 returns-2 : tie.Need-returns-2
 returns-2 c =
-    let e : c .before .before .before .args .base % 1024 / 64 % 16 ≡ c .before .before .before .args .base % 1024 / 64 = omega arith in
-    let f : c .before .before .before .args .base % 1024 % 64 ≡ c .before .before .before .args .base % 64 = omega arith in
-    read (c .before .before .before .args .tables .now) _ _ _ (c .before .if1 .left) (λ words memory. rw (c .top-at .ensures .means (c .before .if1 .left) words memory, e, f))
+    let args' = c .before .before .before .args in
+    let e : args' .base % 1024 / 64 % 16 ≡ args' .base % 1024 / 64 = omega arith in
+    let f : args' .base % 1024 % 64 ≡ args' .base % 64 = omega arith in
+    read (args' .tables .now) _ _ _ (c .before .if1 .left) (λ words memory. rw (c .top-at .ensures .means (c .before .if1 .left) words memory, e, f))
 
 pub is-topmost-spec : {M : Type 1} → statement M
 is-topmost-spec =

@@ -26,7 +26,8 @@ add-result c = search needs
 
 returns-2 : tie.Need-returns-2
 returns-2 c =
-    read (c .before .before .before .args .tables .now) _ _ _ (c .before .if1 .left) (λ words memory. ap (λ (k : ℕ). 64 * (c .before .before .before .args .x % 16) + k) (c .top-at .ensures .means (c .before .if1 .left) words memory))
+    let args' = c .before .before .before .args in
+    read (args' .tables .now) _ _ _ (c .before .if1 .left) (λ words memory. ap (λ (k : ℕ). 64 * (args' .x % 16) + k) (c .top-at .ensures .means (c .before .if1 .left) words memory))
 
 pub next-base-spec : {M : Type 1} → statement M
 next-base-spec =

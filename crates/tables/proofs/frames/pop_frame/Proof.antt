@@ -21,8 +21,9 @@ same-length c = search needs
 
 returns : tie.Need-returns
 returns c =
-    let e : c .before .before .before .before .before .args .base % 1024 / 64 % 16 ≡ c .before .before .before .before .before .args .base % 1024 / 64 = omega arith in
-    let f : c .before .before .before .before .before .args .base % 1024 % 64 ≡ c .before .before .before .before .before .args .base % 64 = omega arith in
+    let args' = c .before .before .before .before .before .args in
+    let e : args' .base % 1024 / 64 % 16 ≡ args' .base % 1024 / 64 = omega arith in
+    let f : args' .base % 1024 % 64 ≡ args' .base % 64 = omega arith in
     likewise (λ s. rw (e, f)) (c .before .before .put-top .ensures)
 
 pub pop-frame-spec : {M : Type 1} → statement M

@@ -26,7 +26,8 @@ top-at-requires c κs = search needs
 
 add-put-top : tie.Need-add-put-top
 add-put-top c =
-    record { fits = let r = room (c .before .before .before .before .before .before .before .before .before .before .before .before .before .before .before .args .tables .now) (c .before .before .before .before .before .before .before .before .before .before .before .before .before .before .before .args .x % 16) (c .before .before .before .before .before .before .before .before .before .before .before .before .before .before .before .args .slots) (c .before .before .before .before .before .before .before .before .before .before .before .before .if1 .left) (rw (c .before .before .before .before .before .before .before .before .before .if2 .taken) at (c .before .before .before .before .before .before .before .before .before .before .fits2 .ensures)) (c .before .top-at .result) (c .before .top-at .ensures) in omega arith }
+    let args' = c .before .before .before .before .before .before .before .before .before .before .before .before .before .before .before .args in
+    record { fits = let r = room (args' .tables .now) (args' .x % 16) (args' .slots) (c .before .before .before .before .before .before .before .before .before .before .before .before .if1 .left) (rw (c .before .before .before .before .before .before .before .before .before .if2 .taken) at (c .before .before .before .before .before .before .before .before .before .before .fits2 .ensures)) (c .before .top-at .result) (c .before .top-at .ensures) in omega arith }
 
 put-top-requires : tie.Need-put-top-requires
 put-top-requires c κs = search needs
@@ -39,9 +40,13 @@ same-length-2 c = search needs
 
 returns-2 : tie.Need-returns-2
 returns-2 c =
+    let args' = c .before .before .before .before .before .before .before .before .before .before .before .before .before .before .before .before .before .before .args in
+    let if1' = c .before .before .before .before .before .before .before .before .before .before .before .before .before .before .before .if1 in
+    let next-base' = c .before .before .before .before .before .before .before .before .before .before .next-base in
+    let top-at' = c .before .before .before .before .top-at in
     let fit = rw (c .before .before .before .before .before .before .before .before .before .before .before .before .if2 .taken) at (c .before .before .before .before .before .before .before .before .before .before .before .before .before .fits2 .ensures) in (
-      pushed (c .before .before .before .before .before .before .before .before .before .before .before .before .before .before .before .before .before .before .args .tables .now) (c .before .before .before .before .before .before .before .before .before .before .before .before .before .before .before .before .before .before .args .x % 16) (c .before .before .before .before .before .before .before .before .before .before .before .before .before .before .before .before .before .before .args .slots) (c .before .before .before .before .before .before .before .before .before .before .before .before .before .before .before .if1 .left) fit _ (c .before .before .before .before .top-at .result) (c .before .before .before .before .top-at .ensures) (c .before .before .put-top .ensures),
-      laid (c .before .before .before .before .before .before .before .before .before .before .before .before .before .before .before .before .before .before .args .tables .now) (c .before .before .before .before .before .before .before .before .before .before .before .before .before .before .before .before .before .before .args .x % 16) (c .before .before .before .before .before .before .before .before .before .before .before .before .before .before .before .before .before .before .args .slots) (c .before .before .before .before .before .before .before .before .before .before .before .before .before .before .before .if1 .left) fit _ _ _ (c .before .before .before .before .before .before .before .before .before .before .next-base .result) (c .before .before .before .before .before .before .before .before .before .before .next-base .ensures) (c .before .before .before .before .before .before .before .before .lay-frame .ensures),
+      pushed (args' .tables .now) (args' .x % 16) (args' .slots) (if1' .left) fit _ (top-at' .result) (top-at' .ensures) (c .before .before .put-top .ensures),
+      laid (args' .tables .now) (args' .x % 16) (args' .slots) (if1' .left) fit _ _ _ (next-base' .result) (next-base' .ensures) (c .before .before .before .before .before .before .before .before .lay-frame .ensures),
     )
 
 same-length-3 : tie.Need-same-length-3
@@ -49,8 +54,10 @@ same-length-3 c = search needs
 
 returns-3 : tie.Need-returns-3
 returns-3 c =
+    let args' = c .before .before .before .before .before .before .args in
+    let if1' = c .before .before .before .if1 in
     let full = rw (c .if2 .left) at (c .before .fits2 .ensures) in
-    (not-pushed (c .before .before .before .before .before .before .args .tables .now) (c .before .before .before .before .before .before .args .x % 16) (c .before .before .before .before .before .before .args .slots) (c .before .before .before .if1 .left) full, not-laid (c .before .before .before .before .before .before .args .tables .now) (c .before .before .before .before .before .before .args .x % 16) (c .before .before .before .before .before .before .args .slots) (c .before .before .before .if1 .left) full _ _)
+    (not-pushed (args' .tables .now) (args' .x % 16) (args' .slots) (if1' .left) full, not-laid (args' .tables .now) (args' .x % 16) (args' .slots) (if1' .left) full _ _)
 
 pub push-frame-spec : {M : Type 1} → statement M
 push-frame-spec =

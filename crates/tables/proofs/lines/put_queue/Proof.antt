@@ -30,10 +30,11 @@ same-length c = search needs
 
 returns : tie.Need-returns
 returns c =
-    let long : length (c .before .before .before .before .before .before .before .args .q .places) ≡ 32 = search needs in
+    let args' = c .before .before .before .before .before .before .before .args in
+    let long : length (args' .q .places) ≡ 32 = search needs in
     rw (c .before .before .write-cells .ensures) (
-      queue-in (c .before .before .before .before .before .before .before .args .tables .now) (c .before .before .before .before .before .before .before .args .at) (c .before .before .before .before .before .before .before .args .q) (omega arith) long,
-      queue-out (c .before .before .before .before .before .before .before .args .tables .now) (c .before .before .before .before .before .before .before .args .at) (c .before .before .before .before .before .before .before .args .q) (omega arith) long,
+      queue-in (args' .tables .now) (args' .at) (args' .q) (omega arith) long,
+      queue-out (args' .tables .now) (args' .at) (args' .q) (omega arith) long,
     )
 
 pub put-queue-spec : {M : Type 1} → statement M

@@ -30,7 +30,9 @@ same-length c = search needs
 
 returns-2 : tie.Need-returns-2
 returns-2 c =
-    changed (c .before .before .before .before .before .before .args .tables .now) _ _ (c .before .before .before .before .if1 .left) (same-length c) (λ words memory. top-store (c .before .before .before .before .before .before .args .tables .now) words memory (c .before .before .before .before .if1 .left) _ (c .before .before .before .before .before .before .args .x % 16) (c .before .before .before .before .before .before .args .top) (c .before .before .write-top .kept .0 ∙ simp (length-take, length-drop) (omega arith)) (c .before .before .write-top .ensures))
+    let args' = c .before .before .before .before .before .before .args in
+    let if1' = c .before .before .before .before .if1 in
+    changed (args' .tables .now) _ _ (if1' .left) (same-length c) (λ words memory. top-store (args' .tables .now) words memory (if1' .left) _ (args' .x % 16) (args' .top) (c .before .before .write-top .kept .0 ∙ simp (length-take, length-drop) (omega arith)) (c .before .before .write-top .ensures))
 
 pub put-top-spec : {M : Type 1} → statement M
 put-top-spec =

@@ -33,11 +33,12 @@ loop-less : tie.Need-loop-less Inv-loop μ-loop
 loop-less c = search needs
 
 loop-again : tie.Need-loop-again Inv-loop μ-loop
-loop-again c = (
-  omega arith,
-  simp length-set (c .before .before .loop .inv .1),
-  fill-more (c .before .before .before .args .tables .now) (c .before .before .loop .places) (c .before .before .before .args .at) (c .before .before .loop .i) _ (omega arith) refl (c .before .before .loop .inv .2),
-)
+loop-again c =
+    let args' = c .before .before .before .args in (
+      omega arith,
+      simp length-set (c .before .before .loop .inv .1),
+      fill-more (args' .tables .now) (c .before .before .loop .places) (args' .at) (c .before .before .loop .i) _ (omega arith) refl (c .before .before .loop .inv .2),
+    )
 
 returns : tie.Need-returns Inv-loop μ-loop
 returns c =

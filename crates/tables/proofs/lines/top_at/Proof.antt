@@ -26,7 +26,8 @@ read-top-requires c κs = search needs
 
 returns-2 : tie.Need-returns-2
 returns-2 c =
-    read (c .before .before .before .before .args .tables .now) _ _ _ (c .before .before .if1 .left) (λ words memory. c .read-top .ensures ∙ ap (λ (tops : List ℕ). topAt tops (c .before .before .before .before .args .x % 16)) (tops-are (c .before .before .before .before .args .tables .now) words memory (c .before .before .if1 .left)))
+    let args' = c .before .before .before .before .args in
+    read (args' .tables .now) _ _ _ (c .before .before .if1 .left) (λ words memory. c .read-top .ensures ∙ ap (λ (tops : List ℕ). topAt tops (args' .x % 16)) (tops-are (args' .tables .now) words memory (c .before .before .if1 .left)))
 
 pub top-at-spec : {M : Type 1} → statement M
 top-at-spec =

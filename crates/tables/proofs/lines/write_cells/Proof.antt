@@ -35,11 +35,12 @@ loop-less : tie.Need-loop-less Inv-loop μ-loop
 loop-less c = search needs
 
 loop-again : tie.Need-loop-again Inv-loop μ-loop
-loop-again c = (
-  omega arith,
-  simp length-set (c .before .before .loop .inv .1),
-  sets-more (c .before .before .loop .tables) (c .before .before .before .args .cells .now) (c .before .before .before .args .at) (c .before .before .loop .i) (omega arith) ∙ c .before .before .loop .inv .2,
-)
+loop-again c =
+    let args' = c .before .before .before .args in (
+      omega arith,
+      simp length-set (c .before .before .loop .inv .1),
+      sets-more (c .before .before .loop .tables) (args' .cells .now) (args' .at) (c .before .before .loop .i) (omega arith) ∙ c .before .before .loop .inv .2,
+    )
 
 same-length : tie.Need-same-length Inv-loop μ-loop
 same-length c = search needs

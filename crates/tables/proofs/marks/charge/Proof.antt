@@ -21,9 +21,10 @@ same-length c = search needs
 
 returns : tie.Need-returns
 returns c =
+    let args' = c .before .before .before .before .before .before .before .before .args in
     record {
       means = λ l words memory. c .before .before .put-units .ensures .means l words memory
-          ∙ ap (λ (u : ℕ). setUnits u (meaning (c .before .before .before .before .before .before .before .before .args .tables .now) words memory)) (c .before .before .before .wrapping-add-u32 .ensures ∙ ap (λ (u : ℕ). (u + c .before .before .before .before .before .before .before .before .args .weight) % 2 ^ 32) (c .before .before .before .before .before .units .ensures .means l words memory));
+          ∙ ap (λ (u : ℕ). setUnits u (meaning (args' .tables .now) words memory)) (c .before .before .before .wrapping-add-u32 .ensures ∙ ap (λ (u : ℕ). (u + args' .weight) % 2 ^ 32) (c .before .before .before .before .before .units .ensures .means l words memory));
       sized = c .before .before .put-units .ensures .sized;
       other = c .before .before .put-units .ensures .other;
     }

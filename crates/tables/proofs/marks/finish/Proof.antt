@@ -23,7 +23,9 @@ same-length c =
 
 returns-2 : tie.Need-returns-2
 returns-2 c =
-    changed (c .before .before .before .before .before .before .args .tables .now) _ _ (c .before .before .before .before .if1 .left) (c .before .before .put-four .kept .0 ∙ simp length-set) (λ words memory. rw (c .before .before .put-four .ensures) (finished-store (c .before .before .before .before .before .before .args .tables .now) words memory (c .before .before .before .before .before .before .args .v) (c .before .before .before .before .if1 .left)))
+    let args' = c .before .before .before .before .before .before .args in
+    let if1' = c .before .before .before .before .if1 in
+    changed (args' .tables .now) _ _ (if1' .left) (c .before .before .put-four .kept .0 ∙ simp length-set) (λ words memory. rw (c .before .before .put-four .ensures) (finished-store (args' .tables .now) words memory (args' .v) (if1' .left)))
 
 pub finish-spec : {M : Type 1} → statement M
 finish-spec =

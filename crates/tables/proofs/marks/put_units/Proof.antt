@@ -17,7 +17,9 @@ same-length c = search needs
 
 returns-2 : tie.Need-returns-2
 returns-2 c =
-    changed (c .before .before .before .before .before .before .args .tables .now) _ _ (c .before .before .before .before .if1 .left) (c .before .before .put-four .kept .0) (λ words memory. rw (c .before .before .put-four .ensures) (units-store (c .before .before .before .before .before .before .args .tables .now) words memory (c .before .before .before .before .before .before .args .n) (c .before .before .before .before .if1 .left)))
+    let args' = c .before .before .before .before .before .before .args in
+    let if1' = c .before .before .before .before .if1 in
+    changed (args' .tables .now) _ _ (if1' .left) (c .before .before .put-four .kept .0) (λ words memory. rw (c .before .before .put-four .ensures) (units-store (args' .tables .now) words memory (args' .n) (if1' .left)))
 
 pub put-units-spec : {M : Type 1} → statement M
 put-units-spec = tie.close (tie.spec returns put-four-requires same-length returns-2)

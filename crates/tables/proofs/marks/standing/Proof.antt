@@ -20,7 +20,8 @@ shared-slice-read-if2 c = search needs
 returns-2 : tie.Need-returns-2
 unfolding meaning
 returns-2 c =
-    read (c .before .before .before .before .args .tables .now) (λ s. s .outcome) going _ (c .before .before .if1 .left) (λ words memory. sym (standing-is (c .before .before .before .before .args .tables .now) .0 (c .if2 .taken)))
+    let args' = c .before .before .before .before .args in
+    read (args' .tables .now) (λ s. s .outcome) going _ (c .before .before .if1 .left) (λ words memory. sym (standing-is (args' .tables .now) .0 (c .if2 .taken)))
 
 shared-slice-read-if3 : tie.Need-shared-slice-read-if3
 shared-slice-read-if3 c = search needs
@@ -31,7 +32,8 @@ four-at-requires c κs = search needs
 returns-3 : tie.Need-returns-3
 unfolding meaning
 returns-3 c =
-    read (c .before .before .before .before .before .before .before .args .tables .now) (λ s. s .outcome) going _ (c .before .before .before .before .before .if1 .left) (λ words memory. ap finished (c .four-at .ensures) ∙ sym (standing-is (c .before .before .before .before .before .before .before .args .tables .now) .1 (c .before .before .before .if2 .left) (c .before .if3 .taken)))
+    let args' = c .before .before .before .before .before .before .before .args in
+    read (args' .tables .now) (λ s. s .outcome) going _ (c .before .before .before .before .before .if1 .left) (λ words memory. ap finished (c .four-at .ensures) ∙ sym (standing-is (args' .tables .now) .1 (c .before .before .before .if2 .left) (c .before .if3 .taken)))
 
 shared-slice-read-t5 : tie.Need-shared-slice-read-t5
 shared-slice-read-t5 c = search needs
@@ -45,7 +47,8 @@ two-at-requires c κs = search needs
 returns-4 : tie.Need-returns-4
 unfolding meaning
 returns-4 c =
-    read (c .before .before .before .before .before .before .before .before .before .args .tables .now) (λ s. s .outcome) going _ (c .before .before .before .before .before .before .before .if1 .left) (λ words memory. ap (λ (o : ℕ). faulted (getD (c .before .before .before .before .before .before .before .before .before .args .tables .now) 586 0) (getD (c .before .before .before .before .before .before .before .before .before .args .tables .now) 587 0) o) (c .two-at .ensures) ∙ sym (standing-is (c .before .before .before .before .before .before .before .before .before .args .tables .now) .2 (c .before .before .before .before .before .if2 .left) (c .before .before .before .if3 .left)))
+    let args' = c .before .before .before .before .before .before .before .before .before .args in
+    read (args' .tables .now) (λ s. s .outcome) going _ (c .before .before .before .before .before .before .before .if1 .left) (λ words memory. ap (λ (o : ℕ). faulted (getD (args' .tables .now) 586 0) (getD (args' .tables .now) 587 0) o) (c .two-at .ensures) ∙ sym (standing-is (args' .tables .now) .2 (c .before .before .before .before .before .if2 .left) (c .before .before .before .if3 .left)))
 
 pub standing-spec : {M : Type 1} → statement M
 standing-spec =

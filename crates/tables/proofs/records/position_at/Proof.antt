@@ -20,7 +20,8 @@ two-at-requires c κs = search needs
 
 returns-2 : tie.Need-returns-2
 returns-2 c =
-    read (c .before .before .before .before .args .tables .now) _ _ _ (c .before .before .if1 .left) (λ words memory. c .two-at .ensures ∙ position-is (c .before .before .before .before .args .tables .now) words memory (c .before .place-of .result) (c .before .before .before .before .args .t % 32) (c .before .place-of .ensures .0) (mod-lt _ (omega arith)))
+    let args' = c .before .before .before .before .args in
+    read (args' .tables .now) _ _ _ (c .before .before .if1 .left) (λ words memory. c .two-at .ensures ∙ position-is (args' .tables .now) words memory (c .before .place-of .result) (args' .t % 32) (c .before .place-of .ensures .0) (mod-lt _ (omega arith)))
 
 pub position-at-spec : {M : Type 1} → statement M
 position-at-spec = tie.close (tie.spec returns place-of-requires two-at-requires returns-2)

@@ -23,7 +23,10 @@ same-length c = search needs
 
 returns-2 : tie.Need-returns-2
 returns-2 c =
-    changed (c .before .before .before .before .before .before .before .args .tables .now) _ _ (c .before .before .before .before .before .if1 .left) (c .before .before .put-two .kept .0) (λ words memory. rw (c .before .before .put-two .ensures) (position-store (c .before .before .before .before .before .before .before .args .tables .now) words memory (c .before .before .before .place-of .result) (c .before .before .before .before .before .before .before .args .t % 32) (c .before .before .before .place-of .ensures .0) (mod-lt _ (omega arith)) (c .before .before .before .before .before .before .before .args .p) (c .before .before .before .before .before .if1 .left)))
+    let args' = c .before .before .before .before .before .before .before .args in
+    let if1' = c .before .before .before .before .before .if1 in
+    let place-of' = c .before .before .before .place-of in
+    changed (args' .tables .now) _ _ (if1' .left) (c .before .before .put-two .kept .0) (λ words memory. rw (c .before .before .put-two .ensures) (position-store (args' .tables .now) words memory (place-of' .result) (args' .t % 32) (place-of' .ensures .0) (mod-lt _ (omega arith)) (args' .p) (if1' .left)))
 
 pub put-position-spec : {M : Type 1} → statement M
 put-position-spec =

@@ -35,7 +35,10 @@ same-length c = search needs
 
 returns-2 : tie.Need-returns-2
 returns-2 c =
-    changed (c .before .before .before .before .before .before .before .args .tables .now) _ _ (c .before .before .before .before .before .if1 .left) (same-length c) (λ words memory. record-store (c .before .before .before .before .before .before .before .args .tables .now) words memory (c .before .before .before .before .place-of .result) (c .before .before .before .before .before .before .before .args .t % 32) (c .before .before .before .before .place-of .ensures .0) (mod-lt _ (omega arith)) _ (c .before .before .before .before .before .before .before .args .th) (c .before .before .before .before .before .if1 .left) (c .before .before .write-record .ensures))
+    let args' = c .before .before .before .before .before .before .before .args in
+    let if1' = c .before .before .before .before .before .if1 in
+    let place-of' = c .before .before .before .before .place-of in
+    changed (args' .tables .now) _ _ (if1' .left) (same-length c) (λ words memory. record-store (args' .tables .now) words memory (place-of' .result) (args' .t % 32) (place-of' .ensures .0) (mod-lt _ (omega arith)) _ (args' .th) (if1' .left) (c .before .before .write-record .ensures))
 
 pub put-thread-spec : {M : Type 1} → statement M
 put-thread-spec =

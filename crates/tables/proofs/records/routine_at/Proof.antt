@@ -22,7 +22,8 @@ shared-slice-read-result c = search needs
 
 returns-2 : tie.Need-returns-2
 returns-2 c =
-    read (c .before .before .before .before .args .tables .now) _ _ _ (c .before .before .if1 .left) (λ words memory. routine-is (c .before .before .before .before .args .tables .now) words memory (c .before .place-of .result) (c .before .before .before .before .args .t % 32) (c .before .place-of .ensures .0) (mod-lt _ (omega arith)))
+    let args' = c .before .before .before .before .args in
+    read (args' .tables .now) _ _ _ (c .before .before .if1 .left) (λ words memory. routine-is (args' .tables .now) words memory (c .before .place-of .result) (args' .t % 32) (c .before .place-of .ensures .0) (mod-lt _ (omega arith)))
 
 pub routine-at-spec : {M : Type 1} → statement M
 routine-at-spec =

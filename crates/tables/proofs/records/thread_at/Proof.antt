@@ -16,7 +16,8 @@ blank-thread-requires c κs = search needs
 
 returns : tie.Need-returns
 returns c =
-    rw (c .blank-thread .ensures) (unread (c .before .before .before .args .tables .now) (λ s. threadAt s (c .before .before .before .args .t % 32)) blankThread (c .before .if1 .taken))
+    let args' = c .before .before .before .args in
+    rw (c .blank-thread .ensures) (unread (args' .tables .now) (λ s. threadAt s (args' .t % 32)) blankThread (c .before .if1 .taken))
 
 place-of-requires : tie.Need-place-of-requires
 place-of-requires c κs = search needs
@@ -38,7 +39,8 @@ read-record-requires c κs = search needs
 
 returns-2 : tie.Need-returns-2
 returns-2 c =
-    read (c .before .before .before .before .before .args .tables .now) _ _ _ (c .before .before .before .if1 .left) (λ words memory. c .read-record .ensures ∙ record-read (c .before .before .before .before .before .args .tables .now) words memory (c .before .before .place-of .result) (c .before .before .before .before .before .args .t % 32) (c .before .before .place-of .ensures .0) (mod-lt _ (omega arith)))
+    let args' = c .before .before .before .before .before .args in
+    read (args' .tables .now) _ _ _ (c .before .before .before .if1 .left) (λ words memory. c .read-record .ensures ∙ record-read (args' .tables .now) words memory (c .before .before .place-of .result) (args' .t % 32) (c .before .before .place-of .ensures .0) (mod-lt _ (omega arith)))
 
 pub thread-at-spec : {M : Type 1} → statement M
 thread-at-spec =

@@ -38,11 +38,13 @@ two-at-requires-3 c κs = search needs
 
 returns-2 : tie.Need-returns-2
 returns-2 c =
-    read (c .before .before .before .before .before .before .args .tables .now) _ _ _ (c .before .before .before .before .if1 .left)
+    let args' = c .before .before .before .before .before .before .args in
+    let place-of' = c .before .before .before .place-of in
+    read (args' .tables .now) _ _ _ (c .before .before .before .before .if1 .left)
     (λ words memory. rw (
-      c .before .before .two-at .ensures ∙ lo-is (c .before .before .before .before .before .before .args .tables .now) words memory (c .before .before .before .place-of .result) (c .before .before .before .before .before .before .args .t % 32) (c .before .before .before .place-of .ensures .0) (mod-lt _ (omega arith)),
-      c .before .two-at2 .ensures ∙ mark-is (c .before .before .before .before .before .before .args .tables .now) words memory (c .before .before .before .place-of .result) (c .before .before .before .before .before .before .args .t % 32) (c .before .before .before .place-of .ensures .0) (mod-lt _ (omega arith)),
-      c .two-at3 .ensures ∙ hi-is (c .before .before .before .before .before .before .args .tables .now) words memory (c .before .before .before .place-of .result) (c .before .before .before .before .before .before .args .t % 32) (c .before .before .before .place-of .ensures .0) (mod-lt _ (omega arith)),
+      c .before .before .two-at .ensures ∙ lo-is (args' .tables .now) words memory (place-of' .result) (args' .t % 32) (place-of' .ensures .0) (mod-lt _ (omega arith)),
+      c .before .two-at2 .ensures ∙ mark-is (args' .tables .now) words memory (place-of' .result) (args' .t % 32) (place-of' .ensures .0) (mod-lt _ (omega arith)),
+      c .two-at3 .ensures ∙ hi-is (args' .tables .now) words memory (place-of' .result) (args' .t % 32) (place-of' .ensures .0) (mod-lt _ (omega arith)),
     ))
 
 pub window-at-spec : {M : Type 1} → statement M
