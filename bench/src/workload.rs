@@ -105,6 +105,30 @@ pub fn steals() -> (Case, Vec<u8>) {
     (case, schedule)
 }
 
+/// Two 09s with a yield between them, a join and a go to, over and over; each child yields once. With two cores every core's thread leaves
+/// it again and again, and takes follow.
+pub fn yields() -> (Case, Vec<u8>) {
+    let mut root = Code::default();
+    root.set(0, 32);
+    let again = root.here();
+    root.fork(FORK, 1, 1, 0, 0);
+    root.yields();
+    root.fork(FORK, 1, 2, 0, 0);
+    root.join();
+    root.go(again);
+    let mut child = Code::default();
+    child.yields();
+    child.set(1, 3);
+    child.returns(0);
+    let routines = [
+        Routine { slots: 6, arguments: 0, code: root.bytes },
+        Routine { slots: 4, arguments: 1, code: child.bytes },
+    ];
+    let case = case(image(&routines), 2, vec![]);
+    let schedule = scheduled(&case);
+    (case, schedule)
+}
+
 /// The entries that the house run writes.
 pub fn scheduled(case: &Case) -> Vec<u8> {
     let mut buffer = vec![0; 32_768];
