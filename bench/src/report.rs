@@ -4,18 +4,23 @@ use crate::stack::Stack;
 use std::fmt::Write;
 use std::process::Command;
 
-/// A time of both implementations, in nanoseconds.
-pub struct Row {
+/// A row of the table: nanoseconds and instructions of the second implementation and of the proved crates.
+pub struct Measured {
     pub what: String,
-    pub unit: &'static str,
-    pub peer: f64,
-    pub ours: f64,
-    pub aim: Option<f64>,
+    pub each: &'static str,
+    pub times: [f64; 2],
+    pub counts: Option<[f64; 2]>,
+    pub aim: f64,
 }
 
-impl Row {
-    fn ratio(&self) -> f64 {
-        self.ours / self.peer
+impl Measured {
+    pub fn time_ratio(&self) -> f64 {
+        self.times[1] / self.times[0]
+    }
+
+    /// The ratio of the instructions, where they were counted.
+    pub fn count_ratio(&self) -> Option<f64> {
+        self.counts.map(|[second, proved]| proved / second)
     }
 }
 
@@ -31,7 +36,7 @@ pub struct Over {
 }
 
 pub struct Report {
-    pub rows: Vec<Row>,
+    pub rows: Vec<Measured>,
     pub over: Vec<Over>,
     pub stacks: Vec<Stack>,
     pub undefined: Vec<String>,
@@ -119,11 +124,8 @@ fn processor() -> String {
 }
 
 fn number(x: f64) -> String {
-    if x >= 100.0 {
-        format!("{x:.0}")
-    } else {
-        format!("{x:.1}")
-    }
+    let digits = if x >= 100.0 { 0 } else if x >= 10.0 { 1 } else { 2 };
+    format!("{x:.digits$}")
 }
 
 impl Report {
@@ -131,24 +133,32 @@ impl Report {
         let mut out = String::new();
         out += HEAD;
         let _ = writeln!(out, "Processor: {}.\n", processor());
-        out += "| what | unit | second implementation | proved crates | ratio | aim |\n|---|---|---|---|---|---|\n";
-        for row in &self.rows {
-            let aim = row.aim.map_or(String::new(), |aim| format!("at most {aim:.1}"));
-            let (peer, ours) = (number(row.peer), number(row.ours));
-            let _ = writeln!(out, "| {} | {} | {peer} | {ours} | {:.2} | {aim} |", row.what, row.unit, row.ratio());
-        }
+        self.rows_text(&mut out);
         out += "\n![Ratios of the table](benchmarks.svg)\n";
         self.over_text(&mut out);
         self.stack_text(&mut out);
         out
     }
 
+    fn rows_text(&self, out: &mut String) {
+        *out += "| what | for | second implementation, ns | proved crates, ns | ratio of times | aim | second implementation, instructions | proved crates, instructions | ratio of instructions |\n";
+        *out += "|---|---|---|---|---|---|---|---|---|\n";
+        for row in &self.rows {
+            let [peer, ours] = row.times.map(number);
+            let ratio = row.time_ratio();
+            let _ = write!(out, "| {} | {} | {peer} | {ours} | {ratio:.2} | at most {:.1} |", row.what, row.each, row.aim);
+            match (row.counts, row.count_ratio()) {
+                (Some(counts), Some(ratio)) => {
+                    let [peer, ours] = counts.map(number);
+                    let _ = writeln!(out, " {peer} | {ours} | {ratio:.2} |");
+                }
+                _ => *out += " no valgrind | no valgrind | |\n",
+            }
+        }
+    }
+
     fn over_text(&self, out: &mut String) {
         *out += OVER;
-        if self.over.is_empty() {
-            *out += "The static library has no built-in scheduler.\n";
-            return;
-        }
         *out += "| job | commands | forks | serial, ns a command (second, proved) | scheduler, ns a command (second, proved) | scheduler over serial, second | proved | aim |\n";
         *out += "|---|---|---|---|---|---|---|---|\n";
         for over in &self.over {
@@ -190,7 +200,7 @@ impl Report {
     /// The ratios as bars, with the aims as ticks.
     pub fn plot(&self) -> String {
         let mut bars: Vec<(String, f64, Option<f64>)> =
-            self.rows.iter().map(|row| (row.what.clone(), row.ratio(), row.aim)).collect();
+            self.rows.iter().map(|row| (row.what.clone(), row.time_ratio(), Some(row.aim))).collect();
         for over in &self.over {
             bars.push((format!("scheduler over serial, {}", over.what), over.scheduled / over.serial, Some(3.0)));
         }
@@ -240,7 +250,11 @@ const HEAD: &str = "# Benchmarks
 Written by `bench/run.sh measure`, which proves and builds the static libraries (`crates/abi*`), builds `bench/` and measures both
 implementations in one run, on the same machine and input, batch by batch in turn; each time is the least mean of 40 batches. The second
 implementation (`bench/src/peer`) is Rust with `&mut` state, no `unsafe` and nothing allocated, and steps one core's commands in bursts.
-Times are of whole calls, with the image check, divided by the entries or commands.
+Times are of whole calls, those of runs with the image check, divided by the entries, commands or bytes; the aims are for their ratio.
+
+Instructions are of one such call alone, counted by valgrind's callgrind in the function that is called and in all that it calls, and divided
+as the times are. They repeat, whatever else the machine does. Copies and fills are counted as loops of vector instructions (`GLIBC_TUNABLES`),
+for callgrind counts every round of a `rep`.
 
 ";
 

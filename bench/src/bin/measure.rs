@@ -1,19 +1,22 @@
 //! Benchmarks of the proved crates against the second implementation, as ratios in one run, and what a run takes of the stack.
 //!
-//!     measure [DOCS]        writes BENCHMARKS.md and benchmarks.svg into the folder DOCS (docs)
+//!     measure [DOCS]                     writes BENCHMARKS.md and benchmarks.svg into the folder DOCS (docs)
+//!     measure count ROW SIDE CALLS       makes a row's call so often, by one side (second or proved), for callgrind
+#[path = "../counts.rs"]
+mod counts;
 #[path = "../library.rs"]
 mod library;
 #[path = "../report.rs"]
 mod report;
+#[path = "../rows.rs"]
+mod rows;
 #[path = "../stack.rs"]
 mod stack;
 
 use bench::generate::Case;
-use bench::peer;
-use bench::peer::command::{ADD, GO, JOIN, LFORK};
 use bench::workload;
-use report::{Report, Row};
-use std::hint::black_box;
+use report::{Measured, Over, Report};
+use rows::{Row, Side};
 use std::time::Instant;
 
 /// Nanoseconds of one call: the least mean of a batch.
@@ -53,122 +56,72 @@ fn times<const N: usize>(mut calls: [&mut dyn FnMut(); N]) -> [f64; N] {
     std::array::from_fn(|i| clocks[i].least)
 }
 
-/// A run by schedule, by both; the time is told for each of `per`.
-fn run_row(what: &str, unit: &'static str, case: &Case, schedule: &[u8], per: usize, aim: Option<f64>) -> Row {
-    let mut memory = case.memory.clone();
-    let mut other = case.memory.clone();
-    let (mut log, mut log_too) = (vec![0; 16_384], vec![0; 16_384]);
-    let [peer, ours] = times([
-        &mut || {
-            black_box(peer::run::run(black_box(case.fed()), &mut memory, schedule, &mut log));
-        },
-        &mut || {
-            black_box(library::run(black_box(case.fed()), &mut other, schedule, &mut log_too));
-        },
+fn timed(row: &Row) -> [f64; 2] {
+    let (mut a, mut b) = (row.written(), row.written());
+    let times = times([&mut *row.call(Side::Second, &mut a), &mut *row.call(Side::Proved, &mut b)]);
+    assert!(a == b, "both write the same: {}", row.name);
+    times.map(|time| time / row.count as f64)
+}
+
+fn measured(row: Row) -> Measured {
+    let (times, counts) = (timed(&row), counts::counts(&row));
+    Measured { what: row.what, each: row.each, times, counts, aim: row.aim }
+}
+
+/// A job by the built-in scheduler on one core over the serial run.
+fn over_serial(what: String, case: Case) -> Over {
+    let (commands, forks) = workload::commands(&case);
+    let serial = rows::serial("serial", &what, case.clone());
+    let scheduled = rows::scheduled("scheduled", &what, case);
+    let (mut a, mut b, mut c, mut d) = (serial.written(), serial.written(), scheduled.written(), scheduled.written());
+    let [peer_serial, peer_scheduled, ours_serial, ours_scheduled] = times([
+        &mut *serial.call(Side::Second, &mut a),
+        &mut *scheduled.call(Side::Second, &mut c),
+        &mut *serial.call(Side::Proved, &mut b),
+        &mut *scheduled.call(Side::Proved, &mut d),
     ]);
-    assert!(log == log_too && memory == other, "both runs agree");
-    Row { what: what.to_string(), unit, peer: peer / per as f64, ours: ours / per as f64, aim }
+    assert!(a == b && c == d, "both write the same: {what}");
+    Over { what, commands, forks, peer_serial, peer_scheduled, serial: ours_serial, scheduled: ours_scheduled }
 }
 
-fn serial_row(what: &str, case: &Case, aim: Option<f64>) -> Row {
-    let per = workload::commands(case).0 as f64;
-    let mut memory = case.memory.clone();
-    let mut other = case.memory.clone();
-    let [peer, ours] = times([
-        &mut || {
-            black_box(peer::plain::plain(black_box(case.fed()), &mut memory));
-        },
-        &mut || {
-            black_box(library::serial(black_box(case.fed()), &mut other));
-        },
-    ]);
-    Row { what: what.to_string(), unit: "ns a command", peer: peer / per, ours: ours / per, aim }
-}
-
-fn check_row(what: &str, image: &[u8]) -> Row {
-    let [peer, ours] = times([
-        &mut || {
-            black_box(peer::image::number(black_box(image)));
-        },
-        &mut || {
-            black_box(library::check(black_box(image)));
-        },
-    ]);
-    Row { what: what.to_string(), unit: "ns an image", peer, ours, aim: None }
-}
-
-fn rows() -> Vec<Row> {
-    let steps = workload::steps();
-    let (four, in_turn) = workload::hot_on_four();
-    let (thieves, stolen) = workload::steals();
-    let entries = |schedule: &[u8]| peer::run::entries(schedule).expect("a schedule");
-    let steals = workload::entries_of(&stolen, 3);
-    let mut start_up = workload::hot();
-    start_up.image = workload::smallest();
-    let mut large_start = workload::hot();
-    large_start.image = workload::large(ADD);
-    vec![
-        run_row("hot steps, one core", "ns an entry", &workload::hot(), &steps, steps.len() / 2, Some(1.5)),
-        run_row("hot steps, four cores in turn", "ns an entry", &four, &in_turn, entries(&in_turn), Some(1.5)),
-        run_row("lfork, return, join, go to", "ns an entry", &workload::calls(), &steps, steps.len() / 2, Some(3.0)),
-        run_row(
-            &format!("four cores, one steal in {:.1} entries", entries(&stolen) as f64 / steals as f64),
-            "ns an entry",
-            &thieves,
-            &stolen,
-            entries(&stolen),
-            None,
-        ),
-        serial_row("serial run, loop", &workload::counted(2000), Some(1.5)),
-        serial_row("serial run, Fibonacci 15", &workload::fibonacci(15), Some(1.5)),
-        check_row("image of 4,096 bytes, 02", &workload::large(ADD)),
-        check_row("image of 4,096 bytes, 08", &workload::large(LFORK)),
-        check_row("image of 4,096 bytes, 07", &workload::large(GO)),
-        check_row("image of 4,096 bytes, 0A", &workload::large(JOIN)),
-        check_row("smallest image", &workload::smallest()),
-        run_row("start-up, smallest image, no entry", "ns a run", &start_up, &[], 1, None),
-        run_row("start-up, image of 4,096 bytes", "ns a run", &large_start, &[], 1, None),
-    ]
-}
-
-/// The built-in scheduler on one core over the serial run.
-fn over_serial() -> Vec<report::Over> {
+fn jobs_over_serial() -> Vec<Over> {
     let mut jobs = vec![("Fibonacci 15".to_string(), workload::fibonacci(15))];
     for size in [8, 14, 68, 608] {
         let rounds = (16_000 / (size + 5)) as u16;
         jobs.push((format!("leaves of {size} commands"), workload::leaves(size, rounds)));
     }
-    jobs.into_iter()
-        .map(|(what, case)| {
-            let (commands, forks) = workload::commands(&case);
-            let mut memory: [Vec<u32>; 4] = std::array::from_fn(|_| case.memory.clone());
-            let [a, b, c, d] = &mut memory;
-            let (mut buffer, mut buffer_too) = (vec![0; 32_768], vec![0; 32_768]);
-            let [peer_serial, peer_scheduled, serial, scheduled] = times([
-                &mut || {
-                    black_box(peer::plain::plain(black_box(case.fed()), a));
-                },
-                &mut || {
-                    black_box(peer::house::house(black_box(case.fed()), b, &mut buffer));
-                },
-                &mut || {
-                    black_box(library::serial(black_box(case.fed()), c));
-                },
-                &mut || {
-                    black_box(library::scheduled(black_box(case.fed()), d, &mut buffer_too));
-                },
-            ]);
-            assert!(buffer == buffer_too, "both write the same entries");
-            report::Over { what, commands, forks, peer_serial, peer_scheduled, serial, scheduled }
-        })
-        .collect()
+    jobs.into_iter().map(|(what, case)| over_serial(what, case)).collect()
 }
 
-fn main() {
-    let docs = std::env::args().nth(1).unwrap_or_else(|| "docs".to_string());
-    let report = Report { rows: rows(), over: over_serial(), stacks: stack::measured(), undefined: report::undefined() };
+fn write(docs: &str) {
+    let rows = rows::rows().into_iter().map(measured).collect();
+    let report = Report { rows, over: jobs_over_serial(), stacks: stack::measured(), undefined: report::undefined() };
     let text = report.text();
     std::fs::write(format!("{docs}/BENCHMARKS.md"), &text).expect("BENCHMARKS.md written");
     std::fs::write(format!("{docs}/benchmarks.svg"), report.plot()).expect("benchmarks.svg written");
     print!("{text}");
+}
+
+/// A row's calls by one side and nothing else.
+fn count(name: &str, side: &str, calls: &str) {
+    let row = rows::rows().into_iter().find(|row| row.name == name).expect("a row's name");
+    let side = Side::BOTH.into_iter().find(|one| one.name() == side).expect("second or proved");
+    let mut written = row.written();
+    let mut call = row.call(side, &mut written);
+    for _ in 0..calls.parse::<u32>().expect("a number of calls") {
+        call();
+    }
+}
+
+fn main() {
+    let words: Vec<String> = std::env::args().skip(1).collect();
+    match words.iter().map(String::as_str).collect::<Vec<_>>()[..] {
+        [] => write("docs"),
+        [docs] => write(docs),
+        // on a thread of its own, whose stack and heap begin at a page, whatever the environment
+        ["count", row, side, calls] => std::thread::scope(|scope| {
+            scope.spawn(|| count(row, side, calls));
+        }),
+        _ => panic!("usage: measure [DOCS] | measure count ROW SIDE CALLS"),
+    }
 }
