@@ -1,4 +1,4 @@
-//! The benchmarks' page and plot.
+//! The benchmarks' page.
 
 use crate::stack::Stack;
 use std::fmt::Write;
@@ -195,53 +195,6 @@ impl Report {
              they can call nothing else (`nm -u target/staticlib/*.a`): {}.\n",
             self.undefined.iter().map(|name| format!("`{name}`")).collect::<Vec<_>>().join(", "),
         );
-    }
-
-    /// The ratios as bars, with the aims as ticks.
-    pub fn plot(&self) -> String {
-        let mut bars: Vec<(String, f64, Option<f64>)> =
-            self.rows.iter().map(|row| (row.what.clone(), row.time_ratio(), Some(row.aim))).collect();
-        for over in &self.over {
-            bars.push((format!("scheduler over serial, {}", over.what), over.scheduled / over.serial, Some(3.0)));
-        }
-        let most = bars.iter().map(|bar| bar.1.max(bar.2.unwrap_or(0.0))).fold(1.0, f64::max).ceil();
-        let (left, width, step) = (300.0, 420.0, 24.0);
-        let height = 70.0 + step * bars.len() as f64;
-        let x = |ratio: f64| left + width * ratio / most;
-        let mut out = format!(
-            "<svg xmlns=\"http://www.w3.org/2000/svg\" width=\"800\" height=\"{height}\" viewBox=\"0 0 800 {height}\" \
-             font-family=\"sans-serif\" font-size=\"12\">\n\
-             <rect width=\"800\" height=\"{height}\" fill=\"white\"/>\n\
-             <text x=\"10\" y=\"20\" font-size=\"14\">Time of the proved crates over the second implementation's (red: the aim)</text>\n"
-        );
-        let bottom = 40.0 + step * bars.len() as f64;
-        let apart = [1, 2, 5, 10].into_iter().find(|apart| most <= 12.0 * *apart as f64).unwrap_or(50);
-        for tick in (0..=most as usize).filter(|tick| *tick == 1 || tick % apart == 0) {
-            let at = x(tick as f64);
-            let colour = if tick == 1 { "#555" } else { "#ddd" };
-            let _ = writeln!(out, "<line x1=\"{at:.1}\" y1=\"34\" x2=\"{at:.1}\" y2=\"{bottom}\" stroke=\"{colour}\"/>");
-            let _ = writeln!(out, "<text x=\"{at:.1}\" y=\"{:.1}\" text-anchor=\"middle\">{tick}</text>", bottom + 16.0);
-        }
-        for (i, (what, ratio, aim)) in bars.iter().enumerate() {
-            let y = 40.0 + step * i as f64;
-            let _ = writeln!(out, "<text x=\"{:.1}\" y=\"{:.1}\" text-anchor=\"end\">{what}</text>", left - 8.0, y + 13.0);
-            let _ = writeln!(
-                out,
-                "<rect x=\"{left}\" y=\"{y:.1}\" width=\"{:.1}\" height=\"16\" fill=\"#4a7ebb\"/>",
-                x(*ratio) - left
-            );
-            let _ = writeln!(out, "<text x=\"{:.1}\" y=\"{:.1}\">{ratio:.2}</text>", x(*ratio) + 5.0, y + 13.0);
-            if let Some(aim) = aim {
-                let at = x(*aim);
-                let _ = writeln!(
-                    out,
-                    "<line x1=\"{at:.1}\" y1=\"{:.1}\" x2=\"{at:.1}\" y2=\"{:.1}\" stroke=\"#c33\" stroke-width=\"2\"/>",
-                    y - 2.0,
-                    y + 18.0
-                );
-            }
-        }
-        out + "</svg>\n"
     }
 }
 

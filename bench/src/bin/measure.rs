@@ -6,6 +6,8 @@
 mod counts;
 #[path = "../library.rs"]
 mod library;
+#[path = "../plot.rs"]
+mod plot;
 #[path = "../report.rs"]
 mod report;
 #[path = "../rows.rs"]
@@ -98,7 +100,7 @@ fn write(docs: &str) {
     let report = Report { rows, over: jobs_over_serial(), stacks: stack::measured(), undefined: report::undefined() };
     let text = report.text();
     std::fs::write(format!("{docs}/BENCHMARKS.md"), &text).expect("BENCHMARKS.md written");
-    std::fs::write(format!("{docs}/benchmarks.svg"), report.plot()).expect("benchmarks.svg written");
+    std::fs::write(format!("{docs}/benchmarks.svg"), plot::plot(&report)).expect("benchmarks.svg written");
     print!("{text}");
 }
 
