@@ -4,7 +4,7 @@
 #   bench/run.sh test [CASES] [SEED]   the same, so many cases from a seed
 #   bench/run.sh print [CASES] [SEED]  the print program on random inputs against the second implementation's lines
 #   bench/run.sh measure               benchmarks; writes docs/BENCHMARKS.md and docs/benchmarks.svg
-# It needs rt and cargo, and no network. It is no part of the gate.
+# It needs rt and cargo, and no network; measure counts instructions where valgrind is there. It is no part of the gate.
 set -eu
 cd "$(dirname "$0")/.."
 what=${1:-test}
