@@ -43,17 +43,16 @@ impl Program {
     }
 }
 
-/// One bit for each offset of a routine.
-struct Starts([u64; MOST / 64]);
+/// Where commands begin, a byte for each of the image's first N, and where targets stand, a bit for each.
+struct Found<const N: usize> {
+    starts: [bool; N],
+    targets: [u64; MOST / 64],
+}
 
-impl Starts {
+impl<const N: usize> Found<N> {
     #[inline(always)]
-    fn mark(&mut self, at: usize) {
-        self.0[(at / 64) & 63] |= 1 << (at % 64);
-    }
-    #[inline(always)]
-    fn has(&self, at: usize) -> bool {
-        at < MOST && self.0[(at / 64) & 63] >> (at % 64) & 1 == 1
+    fn target(&mut self, place: usize) {
+        self.targets[(place / 64) & 63] |= 1 << (place % 64);
     }
 }
 
@@ -90,80 +89,74 @@ fn rows_of(image: &[u8]) -> Result<([Row; 32], u8), u8> {
     Ok((rows, count as u8))
 }
 
-/// A command's length, and whether its slots, argument run and routine are in range (6 otherwise); 4 for an unknown byte. Each kind has
-/// its own arm, so that the next command's place is known by prediction and not by a load.
-#[inline(always)]
-fn measure(word: Word, slots: u8, rows: &[Row; 32], count: u8) -> Result<(usize, bool), u8> {
-    let (a, b, c, d) = (word.byte(1), word.byte(2), word.byte(3), word.byte(4));
-    Ok(match word.op() {
-        SET | IF_ZERO => (4, a < slots),
-        ADD | SUBTRACT => (4, a < slots && b < slots && c < slots),
-        LOAD | STORE => (3, a < slots && b < slots),
-        GO => (3, true),
-        LFORK | FORK => {
-            let run = c as u32 + rows[a as usize & 31].arguments as u32;
-            (5, a < count && b < slots && d < slots && run <= slots as u32)
-        }
-        JOIN | SUSPEND | YIELD => (1, true),
-        RETURN => (2, a < slots),
-        _ => return Err(4),
-    })
-}
-
-/// Targets of a routine's code, as places of their bytes in the image.
-struct Targets {
-    places: [u16; MOST / 3],
-    count: usize,
-}
-
-impl Targets {
-    #[inline(always)]
-    fn push(&mut self, place: usize) {
-        if let Some(next) = self.places.get_mut(self.count) {
-            *next = place as u16;
-            self.count += 1;
-        }
-    }
-}
-
-/// A routine's code: 4, 5 and 6 command by command, then 7, then 8.
-fn check_code(program: &mut Program, row: Row, targets: &mut Targets) -> Result<(), u8> {
-    let (start, length) = (row.start as usize, row.length as usize);
-    let mut starts = Starts([0; MOST / 64]);
-    let mut at = 0;
+/// A routine's code command by command: 4, 5 and 6, then 7. Each kind has its own arm, so that the next command's place is known by
+/// prediction and not by a load. A last command that is too long is seen at the end, or where it is not good.
+fn walk<const N: usize>(program: &Program, row: Row, found: &mut Found<N>) -> Result<(), u8> {
+    let (slots, end) = (row.slots, row.start as usize + row.length as usize);
+    let mut at = row.start as usize;
     let mut last = 0;
-    targets.count = 0;
-    while at < length {
-        starts.mark(at);
-        let word = program.word((start + at) as u16);
-        let (size, good) = measure(word, row.slots, &program.rows, program.count)?;
-        if at + size > length {
-            return Err(5);
-        }
-        if !good {
-            return Err(6);
-        }
+    while at < end {
+        found.starts[at & (N - 1)] = true;
+        let word = program.word(at as u16);
+        let (a, b, c, d) = (word.byte(1), word.byte(2), word.byte(3), word.byte(4));
         last = word.op();
-        if last == IF_ZERO {
-            targets.push(start + at + 2);
-        }
-        if last == GO {
-            targets.push(start + at + 1);
-        }
+        let (size, good) = match last {
+            JOIN | SUSPEND | YIELD => (1, true),
+            SET => (4, a < slots),
+            IF_ZERO => {
+                found.target(at + 2);
+                (4, a < slots)
+            }
+            ADD | SUBTRACT => (4, a < slots && b < slots && c < slots),
+            LOAD | STORE => (3, a < slots && b < slots),
+            GO => {
+                found.target(at + 1);
+                (3, true)
+            }
+            LFORK | FORK => {
+                let run = c as u32 + program.row(a).arguments as u32;
+                (5, a < program.count && b < slots && d < slots && run <= slots as u32)
+            }
+            RETURN => (2, a < slots),
+            _ => return Err(4),
+        };
         at += size;
-    }
-    if last != GO && last != RETURN {
-        return Err(7);
-    }
-    for place in targets.places.iter().take(targets.count) {
-        let place = *place as usize & (MOST - 1);
-        let target = u16::from_le_bytes([program.bytes[place], program.bytes[place + 1]]);
-        if !starts.has(target as usize) {
-            return Err(8);
+        if !good {
+            return Err(if at > end { 5 } else { 6 });
         }
-        let to = (target + row.start).to_le_bytes();
-        program.bytes[place] = to[0];
-        program.bytes[place + 1] = to[1];
+    }
+    if at > end {
+        return Err(5);
+    }
+    if last != GO && last != RETURN { Err(7) } else { Ok(()) }
+}
+
+/// A routine's targets, which become offsets of the image: 8.
+fn land<const N: usize>(program: &mut Program, row: Row, found: &mut Found<N>) -> Result<(), u8> {
+    let (first, last) = (row.start as usize / 64, (row.start + row.length - 1) as usize / 64);
+    for i in first..=last {
+        let mut bits = std::mem::take(&mut found.targets[i & 63]);
+        while bits != 0 {
+            let place = 64 * i + bits.trailing_zeros() as usize;
+            bits &= bits - 1;
+            let target = u16::from_le_bytes([program.bytes[place], program.bytes[place + 1]]);
+            let to = row.start.wrapping_add(target);
+            if target >= row.length || !found.starts[to as usize & (N - 1)] {
+                return Err(8);
+            }
+            program.bytes[place..place + 2].copy_from_slice(&to.to_le_bytes());
+        }
+    }
+    Ok(())
+}
+
+/// All routines of an image of at most N bytes.
+fn check_code<const N: usize>(program: &mut Program) -> Result<(), u8> {
+    let mut found = Found { starts: [false; N], targets: [0; MOST / 64] };
+    for r in 0..program.count {
+        let row = program.row(r);
+        walk(program, row, &mut found)?;
+        land(program, row, &mut found)?;
     }
     Ok(())
 }
@@ -173,12 +166,7 @@ fn check_code(program: &mut Program, row: Row, targets: &mut Targets) -> Result<
 pub fn read(image: &[u8], program: &mut Program) -> Result<(), u8> {
     (program.rows, program.count) = rows_of(image)?;
     program.bytes[..image.len()].copy_from_slice(image);
-    let mut targets = Targets { places: [0; MOST / 3], count: 0 };
-    for r in 0..program.count {
-        let row = program.row(r);
-        check_code(program, row, &mut targets)?;
-    }
-    Ok(())
+    if image.len() <= 512 { check_code::<512>(program) } else { check_code::<MOST>(program) }
 }
 
 /// An image's program, or the number of the first test that it meets.
