@@ -645,8 +645,8 @@ pub fn schedule(random: &mut Random, case: &Case, length: usize) -> Vec<u8> {
         return bytes;
     };
     let mut memory: [u32; 992] = memory;
-    let job = Job { program: &program, parameters, allowance: case.allowance };
-    let mut m = Machine::start(&program, case.cores, &case.arguments);
+    let job = Job { program: &program, parameters };
+    let mut m = Machine::start(&program, case.cores, &case.arguments, case.allowance);
     let mut core = 0;
     let mut in_vain = 0;
     // any entries at all are mostly refused: a few hundred are enough

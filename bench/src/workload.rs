@@ -219,8 +219,8 @@ pub fn commands(case: &Case) -> (u64, u64) {
     let program = check(&case.image).expect("a good image");
     let parameters = case.parameters[..].try_into().expect("32 parameter words");
     let mut memory: [u32; 992] = case.memory[..].try_into().expect("992 memory words");
-    let job = Job { program: &program, parameters, allowance: case.allowance };
-    let mut m = Machine::start(&program, 1, &case.arguments);
+    let job = Job { program: &program, parameters };
+    let mut m = Machine::start(&program, 1, &case.arguments, case.allowance);
     let (mut commands, mut forks) = (0, 0);
     while !m.over {
         let at = m.threads[m.cores[0] as usize & 31].at;

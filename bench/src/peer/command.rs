@@ -43,3 +43,9 @@ impl Word {
 pub fn bit(s: u8) -> u32 {
     1 << (s & 15)
 }
+
+/// Whether a slot that is asked for is pending; most threads have none that is.
+#[inline(always)]
+pub fn waits<const N: usize>(pending: u32, asked: [u8; N]) -> bool {
+    pending != 0 && asked.iter().any(|s| pending >> (s & 31) & 1 == 1)
+}

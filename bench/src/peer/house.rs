@@ -31,8 +31,8 @@ pub fn house(fed: Fed, memory: &mut [u32], buffer: &mut [u8]) -> Housed {
     let (Ok(parameters), Ok(memory)) = (fed.parameters.try_into(), memory.try_into()) else {
         return Housed::refused(25);
     };
-    let job = Job { program: &program, parameters, allowance: fed.allowance };
-    let mut m = Machine::start(&program, fed.cores, fed.arguments);
+    let job = Job { program: &program, parameters };
+    let mut m = Machine::start(&program, fed.cores, fed.arguments, fed.allowance);
     let most = buffer.len().min(LONGEST);
     let mut written = Written { buffer: &mut buffer[..most], used: 0 };
     if fed.cores == 1 {
@@ -53,6 +53,19 @@ impl Written<'_> {
     #[inline(always)]
     fn room(&self) -> bool {
         self.buffer.len() - self.used >= 3
+    }
+
+    /// How many steps in a row may be tried.
+    fn steps(&self) -> usize {
+        (self.buffer.len() - self.used).saturating_sub(1) / 2
+    }
+
+    /// Entries `01 00`, so many of them.
+    fn put_steps(&mut self, count: usize) {
+        for entry in self.buffer[self.used..].chunks_exact_mut(2).take(count) {
+            entry.copy_from_slice(&[1, 0]);
+        }
+        self.used += 2 * count;
     }
 
     #[inline(always)]
@@ -147,16 +160,10 @@ fn alone(m: &mut Machine, job: &Job, memory: &mut [u32; 992], written: &mut Writ
             if !written.room() {
                 return;
             }
-            let mut refused = false;
-            m.steps(job, memory, 0, |number| {
-                if stands(number) {
-                    written.put([1, 0]);
-                }
-                refused = number != 0;
-                // an idle core is told 15, which ends the burst as any refusal does
-                !refused && written.room()
-            });
-            if refused && !m.over && m.cores[0] != IDLE && !enable_lowest(m, written) {
+            // an idle core is told 15, which ends the burst as any refusal does
+            let (accepted, number) = m.steps(job, memory, 0, written.steps());
+            written.put_steps(accepted + (number != 0 && stands(number)) as usize);
+            if number != 0 && !m.over && m.cores[0] != IDLE && !enable_lowest(m, written) {
                 return;
             }
         } else if !m.ready.is_empty() {

@@ -6,6 +6,8 @@ use super::Answer;
 
 pub const IDLE: u8 = 32;
 pub const NOBODY: u8 = 32;
+/// The stacklets' 1,024 words, and room for sixteen from any of them.
+pub const WORDS: usize = 1024 + 16;
 
 #[derive(Clone, Copy, Debug, Default, PartialEq, Eq)]
 #[repr(u8)]
@@ -45,12 +47,13 @@ pub struct Line {
 }
 
 impl Line {
-    fn ascending(from: u8, count: u8) -> Line {
-        let mut line = Line { places: [0; 32], head: 0, length: 0 };
-        for n in from..count {
-            line.give(n);
+    #[inline(always)]
+    fn ascending(from: u8, to: u8) -> Line {
+        let mut places = [0; 32];
+        for (place, n) in places.iter_mut().zip(from..to) {
+            *place = n;
         }
-        line
+        Line { places, head: 0, length: to - from }
     }
     #[inline(always)]
     pub fn is_empty(&self) -> bool {
@@ -77,7 +80,6 @@ impl Line {
 pub struct Job<'a> {
     pub program: &'a Program,
     pub parameters: &'a [u32; 32],
-    pub allowance: u32,
 }
 
 #[derive(Clone)]
@@ -87,12 +89,14 @@ pub struct Machine {
     pub count: u8,
     pub over: bool,
     pub answer: Answer,
-    pub units: u32,
+    pub allowance: u32,
+    /// units of the allowance that are left
+    pub left: u32,
     pub free_threads: Line,
     pub free_stacklets: Line,
     pub ready: Line,
     pub tops: [u8; 16],
-    pub words: [u32; 1024],
+    pub words: [u32; WORDS],
 }
 
 /// How a fork's child is placed.
@@ -104,7 +108,7 @@ enum Placed {
 }
 
 impl Machine {
-    pub fn start(program: &Program, cores: u8, arguments: &[u32]) -> Machine {
+    pub fn start(program: &Program, cores: u8, arguments: &[u32], allowance: u32) -> Machine {
         let row = program.row(0);
         let mut m = Machine {
             threads: [Thread { parent: NOBODY, ..Thread::default() }; 32],
@@ -112,12 +116,13 @@ impl Machine {
             count: cores,
             over: false,
             answer: Answer::Open { units: 0 },
-            units: 0,
+            allowance,
+            left: allowance,
             free_threads: Line::ascending(1, 32),
             free_stacklets: Line::ascending(1, 16),
             ready: Line::ascending(0, 0),
             tops: [0; 16],
-            words: [0; 1024],
+            words: [0; WORDS],
         };
         m.threads[0] = Thread {
             at: row.start,
@@ -137,7 +142,11 @@ impl Machine {
     }
 
     pub fn answer(&self) -> Answer {
-        if self.over { self.answer } else { Answer::Open { units: self.units } }
+        if self.over { self.answer } else { Answer::Open { units: self.units() } }
+    }
+
+    fn units(&self) -> u32 {
+        self.allowance - self.left
     }
 
     #[inline(always)]
@@ -159,35 +168,47 @@ impl Machine {
     }
 
     /// An entry `01 c`.
-    #[inline]
+    #[inline(always)]
     pub fn step(&mut self, job: &Job, memory: &mut [u32; 992], core: u8) -> u8 {
+        match self.on(core) {
+            Ok(t) => self.carry(job, memory, core, t),
+            Err(number) => number,
+        }
+    }
+
+    /// The thread that a core runs: 19, then 14, then 15.
+    #[inline(always)]
+    fn on(&self, core: u8) -> Result<u8, u8> {
         if self.over {
-            return 19;
+            return Err(19);
         }
         if core >= self.count {
-            return 14;
+            return Err(14);
         }
         let t = self.cores[core as usize & 3];
         if t == IDLE {
-            return 15;
+            return Err(15);
         }
-        self.carry(job, memory, core, t)
+        Ok(t)
     }
 
     /// Thread t's next command, carried out on its core.
-    #[inline]
+    #[inline(always)]
     pub fn carry(&mut self, job: &Job, memory: &mut [u32; 992], core: u8, t: u8) -> u8 {
-        let mut hot = Hot::of(self.thread(t));
-        let word = job.program.word(hot.at);
-        match hot.carry(job, &mut self.words, memory, &mut self.units, word) {
-            Carried::Done => {
-                let thread = self.thread(t);
-                thread.at = hot.at;
-                0
-            }
-            Carried::Met(22) => 22,
-            Carried::Met(number) => self.fault(number, t),
-            Carried::Other => self.carry_other(job, core, t, word),
+        let thread = &mut self.threads[t as usize & 31];
+        match carry_hot(job, thread, slots(&mut self.words, thread.base), memory, &mut self.left) {
+            Ok(()) => 0,
+            Err(undone) => self.carry_undone(job, core, t, undone),
+        }
+    }
+
+    /// The log byte of a command that was not done as one of 01 to 07.
+    #[inline(always)]
+    fn carry_undone(&mut self, job: &Job, core: u8, t: u8, undone: Undone) -> u8 {
+        match undone {
+            Undone::Met(22) => 22,
+            Undone::Met(number) => self.fault(number, t),
+            Undone::Other(word) => self.carry_other(job, core, t, word),
         }
     }
 
@@ -201,28 +222,28 @@ impl Machine {
             return 0;
         }
         let weight = WEIGHTS[op as usize & 15];
-        if weight > job.allowance - self.units {
+        if weight > self.left {
             return 22;
         }
         match op {
             LFORK => return self.fork(job, t, word, Placed::Called, core),
             FORK => return self.fork(job, t, word, Placed::Queued, core),
             JOIN => {
-                self.units += weight;
+                self.left -= weight;
                 let thread = self.thread(t);
                 thread.at += 1;
                 thread.mark = thread.lo;
                 thread.pending = 0;
             }
             SUSPEND => {
-                self.units += weight;
+                self.left -= weight;
                 let thread = self.thread(t);
                 thread.at += 1;
                 thread.status = Status::Suspended;
                 self.leave(core, t);
             }
             YIELD => {
-                self.units += weight;
+                self.left -= weight;
                 let thread = self.thread(t);
                 thread.at += 1;
                 thread.status = Status::Ready;
@@ -233,7 +254,7 @@ impl Machine {
                 if thread.pending != 0 {
                     return self.fault(12, t);
                 }
-                self.units += weight;
+                self.left -= weight;
                 self.give_back(core, t, thread, self.slot(thread.base, word.byte(1)));
             }
         }
@@ -265,7 +286,7 @@ impl Machine {
         if thread.parent == NOBODY {
             self.cores[core as usize & 3] = IDLE;
             self.over = true;
-            self.answer = Answer::Finished { result: value, units: self.units };
+            self.answer = Answer::Finished { result: value, units: self.units() };
             return;
         }
         let parent = &mut self.threads[thread.parent as usize & 31];
@@ -284,7 +305,7 @@ impl Machine {
     }
 
     /// A fork by thread t, whose weight fits: 9, 11, 20, 21, and then the child.
-    #[inline]
+    #[inline(always)]
     fn fork(&mut self, job: &Job, t: u8, word: Word, placed: Placed, core: u8) -> u8 {
         let (routine, d, a, w) = (word.byte(1), word.byte(2), word.byte(3), word.byte(4));
         let parent = *self.thread(t);
@@ -304,7 +325,7 @@ impl Machine {
             return 21;
         };
         self.frame(row, base, parent.base + a as u16);
-        self.units += WEIGHTS[word.op() as usize & 15];
+        self.left -= WEIGHTS[word.op() as usize & 15];
         let child = self.free_threads.take();
         let status = match placed {
             Placed::Queued => Status::Ready,
@@ -408,7 +429,7 @@ impl Machine {
             return 18;
         }
         let word = job.program.word(self.thread(t).at);
-        if WEIGHTS[word.op() as usize & 15] > job.allowance - self.units {
+        if WEIGHTS[word.op() as usize & 15] > self.left {
             return 22;
         }
         self.fork(job, t, word, Placed::Stolen(core), core)
@@ -437,188 +458,123 @@ impl Machine {
     }
 }
 
-/// What commands 01 to 07 need of a thread; they change only its position.
-#[derive(Clone, Copy)]
-pub struct Hot {
-    pub at: u16,
-    base: u16,
-    pending: u32,
-    mark: u32,
-    hi: u32,
+/// The sixteen words from a frame's first.
+#[inline(always)]
+fn slots(words: &mut [u32; WORDS], base: u16) -> &mut [u32; 16] {
+    let base = base as usize & 1023;
+    words[base..].first_chunk_mut().expect("there is room for sixteen")
 }
 
-/// What came of a command.
-pub enum Carried {
-    Done,
+/// Why a command was not done as one of 01 to 07.
+enum Undone {
     /// 22, or a fault's number
     Met(u8),
-    /// it is none of 01 to 07
-    Other,
+    /// it is none of them
+    Other(Word),
 }
 
-impl Hot {
-    #[inline(always)]
-    pub fn of(thread: &Thread) -> Hot {
-        Hot {
-            at: thread.at,
-            base: thread.base,
-            pending: thread.pending as u32,
-            mark: thread.mark as u32,
-            hi: thread.hi as u32,
-        }
+/// A command's weight, where it passes 22 and 9.
+#[inline(always)]
+fn pass<const N: usize>(thread: &Thread, left: u32, weight: u32, asked: [u8; N]) -> Result<u32, Undone> {
+    if left < weight {
+        return Err(Undone::Met(22));
     }
+    if waits(thread.pending as u32, asked) {
+        return Err(Undone::Met(9));
+    }
+    Ok(weight)
+}
 
-    #[inline(always)]
-    fn slot(&self, s: u8) -> usize {
-        (self.base as usize + s as usize) & 1023
+/// The word at an address of a thread's window, or 10.
+#[inline(always)]
+fn cell<'a>(thread: &Thread, memory: &'a mut [u32; 992], address: u32) -> Result<&'a mut u32, Undone> {
+    if address < thread.mark as u32 || address >= thread.hi as u32 {
+        return Err(Undone::Met(10));
     }
+    Ok(&mut memory[address as usize - 32])
+}
 
-    /// The command `word`, if it is one of 01 to 07: 22, then 9, then 10.
-    #[inline(always)]
-    pub fn carry(
-        &mut self,
-        job: &Job,
-        words: &mut [u32; 1024],
-        memory: &mut [u32; 992],
-        units: &mut u32,
-        word: Word,
-    ) -> Carried {
-        let (a, b, c) = (word.byte(1), word.byte(2), word.byte(3));
-        let left = job.allowance - *units;
-        match word.op() {
-            SET => {
-                if left < 1 {
-                    return Carried::Met(22);
-                }
-                if self.pending & bit(a) != 0 {
-                    return Carried::Met(9);
-                }
-                words[self.slot(a)] = word.half(2) as u32;
-                *units += 1;
-                self.at += 4;
-            }
-            ADD | SUBTRACT => {
-                if left < 1 {
-                    return Carried::Met(22);
-                }
-                if self.pending & (bit(a) | bit(b) | bit(c)) != 0 {
-                    return Carried::Met(9);
-                }
-                let (x, y) = (words[self.slot(b)], words[self.slot(c)]);
-                words[self.slot(a)] = if word.op() == ADD { x.wrapping_add(y) } else { x.wrapping_sub(y) };
-                *units += 1;
-                self.at += 4;
-            }
-            LOAD => {
-                if left < 2 {
-                    return Carried::Met(22);
-                }
-                if self.pending & (bit(a) | bit(b)) != 0 {
-                    return Carried::Met(9);
-                }
-                let address = words[self.slot(b)];
-                let value = if address < 32 {
-                    job.parameters[address as usize]
-                } else if address >= self.mark && address < self.hi {
-                    memory[address as usize - 32]
-                } else {
-                    return Carried::Met(10);
-                };
-                words[self.slot(a)] = value;
-                *units += 2;
-                self.at += 3;
-            }
-            STORE => {
-                if left < 2 {
-                    return Carried::Met(22);
-                }
-                if self.pending & (bit(a) | bit(b)) != 0 {
-                    return Carried::Met(9);
-                }
-                let address = words[self.slot(a)];
-                if address < self.mark || address >= self.hi {
-                    return Carried::Met(10);
-                }
-                memory[address as usize - 32] = words[self.slot(b)];
-                *units += 2;
-                self.at += 3;
-            }
-            IF_ZERO => {
-                if left < 1 {
-                    return Carried::Met(22);
-                }
-                if self.pending & bit(a) != 0 {
-                    return Carried::Met(9);
-                }
-                *units += 1;
-                self.at = if words[self.slot(a)] == 0 { word.half(2) } else { self.at + 4 };
-            }
-            GO => {
-                if left < 1 {
-                    return Carried::Met(22);
-                }
-                *units += 1;
-                self.at = word.half(1);
-            }
-            _ => return Carried::Other,
-        }
-        Carried::Done
+/// The word that a load reads: a parameter, or one of the window.
+#[inline(always)]
+fn loaded(job: &Job, thread: &Thread, memory: &mut [u32; 992], address: u32) -> Result<u32, Undone> {
+    match job.parameters.get(address as usize) {
+        Some(parameter) => Ok(*parameter),
+        None => cell(thread, memory, address).copied(),
     }
+}
+
+/// A thread's next command, if it is one of 01 to 07: 22, then 9, then 10. Of the thread it changes the position alone.
+#[inline(always)]
+fn carry_hot(job: &Job, thread: &mut Thread, slots: &mut [u32; 16], memory: &mut [u32; 992], left: &mut u32) -> Result<(), Undone> {
+    let word = job.program.word(thread.at);
+    let (a, b, c) = (word.byte(1), word.byte(2), word.byte(3));
+    let at = |s: u8| s as usize & 15;
+    let weight;
+    (weight, thread.at) = match word.op() {
+        SET => {
+            let weight = pass(thread, *left, 1, [a])?;
+            slots[at(a)] = word.half(2) as u32;
+            (weight, thread.at + 4)
+        }
+        ADD => {
+            let weight = pass(thread, *left, 1, [a, b, c])?;
+            slots[at(a)] = slots[at(b)].wrapping_add(slots[at(c)]);
+            (weight, thread.at + 4)
+        }
+        SUBTRACT => {
+            let weight = pass(thread, *left, 1, [a, b, c])?;
+            slots[at(a)] = slots[at(b)].wrapping_sub(slots[at(c)]);
+            (weight, thread.at + 4)
+        }
+        LOAD => {
+            let weight = pass(thread, *left, 2, [a, b])?;
+            slots[at(a)] = loaded(job, thread, memory, slots[at(b)])?;
+            (weight, thread.at + 3)
+        }
+        STORE => {
+            let weight = pass(thread, *left, 2, [a, b])?;
+            *cell(thread, memory, slots[at(a)])? = slots[at(b)];
+            (weight, thread.at + 3)
+        }
+        IF_ZERO => (pass(thread, *left, 1, [a])?, if slots[at(a)] == 0 { word.half(2) } else { thread.at + 4 }),
+        GO => (pass(thread, *left, 1, [])?, word.half(1)),
+        _ => return Err(Undone::Other(word)),
+    };
+    *left -= weight;
+    Ok(())
 }
 
 impl Machine {
-    /// Steps of one core as long as `next` says that another one follows; it is told each one's log byte. The thread's position, windows
-    /// and pending slots stay in locals between commands 01 to 07.
-    #[inline(always)]
-    pub fn steps(&mut self, job: &Job, memory: &mut [u32; 992], core: u8, mut next: impl FnMut(u8) -> bool) {
-        loop {
-            let t = self.cores[core as usize & 3];
-            if self.over || core >= self.count || t == IDLE {
-                let number = if self.over { 19 } else if core >= self.count { 14 } else { 15 };
-                if !next(number) {
-                    return;
+    /// Entries `01 c`, so many of them or up to the first that is not accepted: how many were accepted, and the other one's log byte or 0.
+    /// Between commands 01 to 07 the thread's position and the units stay in locals.
+    pub fn steps(&mut self, job: &Job, memory: &mut [u32; 992], core: u8, most: usize) -> (usize, u8) {
+        let mut more = most;
+        while more > 0 {
+            let t = match self.on(core) {
+                Ok(t) => t,
+                Err(number) => return (most - more, number),
+            };
+            let (mut thread, mut left) = (self.threads[t as usize & 31], self.left);
+            let slots = slots(&mut self.words, thread.base);
+            let met = loop {
+                if let Err(undone) = carry_hot(job, &mut thread, slots, memory, &mut left) {
+                    break Some(undone);
                 }
-                continue;
-            }
-            let mut hot = Hot::of(self.thread(t));
-            let mut units = self.units;
-            let (number, again) = loop {
-                let word = job.program.word(hot.at);
-                match hot.carry(job, &mut self.words, memory, &mut units, word) {
-                    Carried::Done => {
-                        if !next(0) {
-                            break (0, false);
-                        }
-                    }
-                    Carried::Met(22) => {
-                        if !next(22) {
-                            break (0, false);
-                        }
-                    }
-                    Carried::Met(number) => break (number, true),
-                    Carried::Other => {
-                        self.thread(t).at = hot.at;
-                        self.units = units;
-                        let number = self.carry_other(job, core, t, word);
-                        if !next(number) {
-                            return;
-                        }
-                        break (0, true);
-                    }
+                more -= 1;
+                if more == 0 {
+                    break None;
                 }
             };
-            if number == 0 && again {
-                continue;
-            }
-            self.thread(t).at = hot.at;
-            self.units = units;
-            if !again {
-                return;
-            }
-            self.fault(number, t);
-            if !next(number) {
-                return;
+            self.thread(t).at = thread.at;
+            self.left = left;
+            if let Some(undone) = met {
+                let number = self.carry_undone(job, core, t, undone);
+                if number != 0 {
+                    return (most - more, number);
+                }
+                more -= 1;
             }
         }
+        (most, 0)
     }
 }

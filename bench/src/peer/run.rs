@@ -85,8 +85,8 @@ pub fn run(fed: Fed, memory: &mut [u32], schedule: &[u8], log: &mut [u8]) -> Ran
     if log.len() < count {
         return Ran::refused(25);
     }
-    let job = Job { program: &program, parameters, allowance: fed.allowance };
-    let mut m = Machine::start(&program, fed.cores, fed.arguments);
+    let job = Job { program: &program, parameters };
+    let mut m = Machine::start(&program, fed.cores, fed.arguments, fed.allowance);
     play(&mut m, &job, memory, schedule, &mut log[..count]);
     Ran { answer: m.answer(), statuses: m.statuses() }
 }
@@ -95,36 +95,43 @@ fn play(m: &mut Machine, job: &Job, memory: &mut [u32; 992], schedule: &[u8], lo
     let mut rest = schedule;
     let mut log = log.iter_mut();
     loop {
-        match *rest {
-            [1, core, ..] => {
-                m.steps(job, memory, core, |number| {
-                    if let Some(byte) = log.next() {
-                        *byte = number;
-                    }
-                    rest = &rest[2..];
-                    matches!(*rest, [1, c, ..] if c == core)
-                });
-            }
-            [2, core, ref more @ ..] => {
-                put(&mut log, m.take(core));
+        let number;
+        (number, rest) = match *rest {
+            [1, core, 1, again, ..] if core == again => {
+                let (same, more) = rest.split_at(2 * in_a_row(rest, core));
+                burst(m, job, memory, core, same.len() / 2, &mut log);
                 rest = more;
+                continue;
             }
-            [3, core, t, ref more @ ..] => {
-                put(&mut log, m.steal(job, core, t));
-                rest = more;
-            }
-            [4, t, ref more @ ..] => {
-                put(&mut log, m.enable(t));
-                rest = more;
-            }
+            [1, core, ref more @ ..] => (m.step(job, memory, core), more),
+            [2, core, ref more @ ..] => (m.take(core), more),
+            [3, core, t, ref more @ ..] => (m.steal(job, core, t), more),
+            [4, t, ref more @ ..] => (m.enable(t), more),
             _ => return,
+        };
+        if let Some(byte) = log.next() {
+            *byte = number;
         }
     }
 }
 
-#[inline(always)]
-fn put(log: &mut std::slice::IterMut<u8>, number: u8) {
-    if let Some(byte) = log.next() {
-        *byte = number;
+/// How many of the next entries are `01 c`.
+fn in_a_row(schedule: &[u8], core: u8) -> usize {
+    let four = [1, core, 1, core, 1, core, 1, core];
+    let fours = schedule.chunks_exact(8).take_while(|eight| **eight == four).count();
+    4 * fours + schedule[8 * fours..].chunks_exact(2).take_while(|entry| **entry == [1, core]).count()
+}
+
+/// Entries `01 c`, so many of them, and their log bytes.
+fn burst(m: &mut Machine, job: &Job, memory: &mut [u32; 992], core: u8, count: usize, log: &mut std::slice::IterMut<u8>) {
+    let mut more = count;
+    while more > 0 {
+        let (accepted, number) = m.steps(job, memory, core, more);
+        more -= accepted;
+        log.by_ref().take(accepted).for_each(|byte| *byte = 0);
+        if number != 0 {
+            more -= 1;
+            log.by_ref().take(1).for_each(|byte| *byte = number);
+        }
     }
 }
