@@ -36,6 +36,11 @@ pub fn plain(fed: Fed, memory: &mut [u32]) -> PlainAnswer {
     }
 }
 
+#[inline(always)]
+fn free<const N: usize>(pending: u32, asked: [u8; N]) -> Result<(), u8> {
+    if waits(pending, asked) { Err(9) } else { Ok(()) }
+}
+
 impl Plain<'_> {
     /// A command's weight is charged once its tests have passed; 22 is the first of them.
     #[inline(always)]
@@ -48,35 +53,34 @@ impl Plain<'_> {
         let mut at = start;
         let mut mark = lo;
         let mut pending = 0u32;
-        let free = |pending: u32, asked: u32| if pending & asked != 0 { Err(9) } else { Ok(()) };
         loop {
             let word = self.program.word(at);
             let (a, b, c) = (word.byte(1), word.byte(2), word.byte(3));
             match word.op() {
                 SET => {
                     self.afford(1)?;
-                    free(pending, bit(a))?;
+                    free(pending, [a])?;
                     slots[a as usize & 15] = word.half(2) as u32;
                     self.left -= 1;
                     at += 4;
                 }
                 ADD => {
                     self.afford(1)?;
-                    free(pending, bit(a) | bit(b) | bit(c))?;
+                    free(pending, [a, b, c])?;
                     slots[a as usize & 15] = slots[b as usize & 15].wrapping_add(slots[c as usize & 15]);
                     self.left -= 1;
                     at += 4;
                 }
                 SUBTRACT => {
                     self.afford(1)?;
-                    free(pending, bit(a) | bit(b) | bit(c))?;
+                    free(pending, [a, b, c])?;
                     slots[a as usize & 15] = slots[b as usize & 15].wrapping_sub(slots[c as usize & 15]);
                     self.left -= 1;
                     at += 4;
                 }
                 LOAD => {
                     self.afford(2)?;
-                    free(pending, bit(a) | bit(b))?;
+                    free(pending, [a, b])?;
                     let address = slots[b as usize & 15];
                     let value = if address < 32 {
                         self.parameters[address as usize]
@@ -91,7 +95,7 @@ impl Plain<'_> {
                 }
                 STORE => {
                     self.afford(2)?;
-                    free(pending, bit(a) | bit(b))?;
+                    free(pending, [a, b])?;
                     let address = slots[a as usize & 15];
                     if address < mark || address >= hi {
                         return Err(10);
@@ -102,7 +106,7 @@ impl Plain<'_> {
                 }
                 IF_ZERO => {
                     self.afford(1)?;
-                    free(pending, bit(a))?;
+                    free(pending, [a])?;
                     self.left -= 1;
                     at = if slots[a as usize & 15] == 0 { word.half(2) } else { at + 4 };
                 }
@@ -117,7 +121,9 @@ impl Plain<'_> {
                     self.afford(weight)?;
                     let row = self.program.row(a);
                     let run = ((1u32 << row.arguments) - 1) << (c & 31);
-                    free(pending, run | bit(b) | bit(w))?;
+                    if pending & (run | bit(b) | bit(w)) != 0 {
+                        return Err(9);
+                    }
                     let cut = slots[w as usize & 15];
                     if cut < mark || cut > hi {
                         return Err(11);
