@@ -646,7 +646,8 @@ pub fn schedule(random: &mut Random, case: &Case, length: usize) -> Vec<u8> {
     };
     let mut memory: [u32; 992] = memory;
     let job = Job { program: &program, parameters };
-    let mut m = Machine::start(&program, case.cores, &case.arguments, case.allowance);
+    let mut m = Machine::blank(case.cores, case.allowance);
+    m.start(&program, &case.arguments);
     let mut core = 0;
     let mut in_vain = 0;
     // any entries at all are mostly refused: a few hundred are enough

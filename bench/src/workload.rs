@@ -220,7 +220,8 @@ pub fn commands(case: &Case) -> (u64, u64) {
     let parameters = case.parameters[..].try_into().expect("32 parameter words");
     let mut memory: [u32; 992] = case.memory[..].try_into().expect("992 memory words");
     let job = Job { program: &program, parameters };
-    let mut m = Machine::start(&program, 1, &case.arguments, case.allowance);
+    let mut m = Machine::blank(1, case.allowance);
+    m.start(&program, &case.arguments);
     let (mut commands, mut forks) = (0, 0);
     while !m.over {
         let at = m.threads[m.cores[0] as usize & 31].at;

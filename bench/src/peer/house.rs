@@ -32,7 +32,8 @@ pub fn house(fed: Fed, memory: &mut [u32], buffer: &mut [u8]) -> Housed {
         return Housed::refused(25);
     };
     let job = Job { program: &program, parameters };
-    let mut m = Machine::start(&program, fed.cores, fed.arguments, fed.allowance);
+    let mut m = Machine::blank(fed.cores, fed.allowance);
+    m.start(&program, fed.arguments);
     let most = buffer.len().min(LONGEST);
     let mut written = Written { buffer: &mut buffer[..most], used: 0 };
     if fed.cores == 1 {
@@ -81,6 +82,8 @@ fn stands(number: u8) -> bool {
     number < 13
 }
 
+/// The rounds of several cores; a function of its own, with all registers to itself.
+#[inline(never)]
 fn rounds(m: &mut Machine, job: &Job, memory: &mut [u32; 992], written: &mut Written) {
     loop {
         let mut accepted = false;

@@ -108,9 +108,10 @@ enum Placed {
 }
 
 impl Machine {
-    pub fn start(program: &Program, cores: u8, arguments: &[u32], allowance: u32) -> Machine {
-        let row = program.row(0);
-        let mut m = Machine {
+    /// A machine with nothing started. It is a literal, so that it is laid where it is to stand and not copied there.
+    #[inline(always)]
+    pub fn blank(cores: u8, allowance: u32) -> Machine {
+        Machine {
             threads: [Thread { parent: NOBODY, ..Thread::default() }; 32],
             cores: [IDLE; 4],
             count: cores,
@@ -123,8 +124,12 @@ impl Machine {
             ready: Line::ascending(0, 0),
             tops: [0; 16],
             words: [0; WORDS],
-        };
-        m.threads[0] = Thread {
+        }
+    }
+
+    pub fn start(&mut self, program: &Program, arguments: &[u32]) {
+        let row = program.row(0);
+        self.threads[0] = Thread {
             at: row.start,
             lo: 32,
             mark: 32,
@@ -133,12 +138,11 @@ impl Machine {
             parent: NOBODY,
             ..Thread::default()
         };
-        m.cores[0] = 0;
-        m.tops[0] = row.slots;
-        for (word, argument) in m.words.iter_mut().zip(arguments) {
+        self.cores[0] = 0;
+        self.tops[0] = row.slots;
+        for (word, argument) in self.words.iter_mut().zip(arguments) {
             *word = *argument;
         }
-        m
     }
 
     pub fn answer(&self) -> Answer {

@@ -86,7 +86,8 @@ pub fn run(fed: Fed, memory: &mut [u32], schedule: &[u8], log: &mut [u8]) -> Ran
         return Ran::refused(25);
     }
     let job = Job { program: &program, parameters };
-    let mut m = Machine::start(&program, fed.cores, fed.arguments, fed.allowance);
+    let mut m = Machine::blank(fed.cores, fed.allowance);
+    m.start(&program, fed.arguments);
     play(&mut m, &job, memory, schedule, &mut log[..count]);
     Ran { answer: m.answer(), statuses: m.statuses() }
 }
