@@ -1,5 +1,8 @@
+pub mod Tests
+pub mod Asking
 pub mod Walk
 pub mod Passes
+pub mod Parts
 pub mod Places
 pub mod Accepted
 pub mod Starts

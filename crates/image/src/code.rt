@@ -1,22 +1,21 @@
-// The tests of one routine's code, 4 to 8, in two passes: the first reads the commands and marks where each starts, the second
-// looks each target up among the marks.
+// The tests of one routine's code, 4 to 8, in one pass over its commands and one look at the marks that it leaves.
 use crate::Refusal;
 use crate::Verdict;
-use crate::range::in_range;
-use command::Command;
-use command::CommandRead;
+use crate::marks::all_met;
+use crate::marks::ask_target;
+use crate::step::Tested;
+use crate::step::test_at;
 ghost use mathlib.Core.Path.{_≡_};
-ghost use mathlib.Core.Bool.{true};
-ghost use Prim.Native.Nat.{_≤_};
 ghost use lib.ListN.{length};
-ghost use Rattle.image.specs.Code.{ends, targetGood, targetsGood, commandsOf, routineVerdict};
+ghost use Rattle.image.specs.Code.{routineVerdict};
 ghost use Rattle.image.specs.Image.{inRange};
-ghost use Rattle.image.specs.Marks.{marked, Blank, WalkedBy};
+ghost use Rattle.image.specs.Marks.{Blank, WalkedBy, mayEnd};
 
-// What the first pass finds: a verdict by 4, 5 and 6, and whether the last command may stand last.
+// What the pass finds: a verdict by 4, 5 and 6, the last command's first byte, and whether each target is inside the code.
 struct Walked {
     verdict: Verdict,
-    ends: bool,
+    last: u8,
+    inside: bool,
 }
 
 fn refused(refusal: Refusal) -> Walked
@@ -24,135 +23,69 @@ fn refused(refusal: Refusal) -> Walked
 {
     Walked {
         verdict: Verdict::Refused(refusal),
-        ends: false,
-    }
-}
-
-fn may_end(c: Command) -> bool
-    ensures { λ r. ⌜ r ≡ ends c ⌝ }
-{
-    match c {
-        Command::Set(_, _) => false,
-        Command::Add(_, _, _) => false,
-        Command::Subtract(_, _, _) => false,
-        Command::Load(_, _) => false,
-        Command::Store(_, _) => false,
-        Command::JumpIfZero(_, _) => false,
-        Command::Jump(_) => true,
-        Command::Lfork { .. } => false,
-        Command::Fork { .. } => false,
-        Command::Join => false,
-        Command::Suspend => false,
-        Command::Yield => false,
-        Command::Return(_) => true,
+        last: 0,
+        inside: false,
     }
 }
 
 fn walk(image: &[u8], code: &[u8], slots: u8, marks: &mut [u8]) -> Walked
-    requires { ⌜ (length (now code) ≤ length (now marks)) × Blank (now marks) ⌝ }
-    ensures { λ r. ⌜ WalkedBy (inRange (now (image .entry)) slots) (now (code .entry)) (now (marks .exit)) (r .verdict) (r .ends) ⌝ }
+    requires { ⌜ (length (now code) ≡ length (now marks)) × Blank (now marks) ⌝ }
+    ensures { λ r. ⌜ WalkedBy (inRange (now (image .entry)) slots) (now (code .entry)) (now (marks .exit)) (r .verdict) (r .last) (r .inside) ⌝ }
 {
     let n = code.len();
     let mut at: usize = 0;
-    let mut ends = false;
+    let mut last: u8 = 0;
+    let mut inside = true;
     while at < n {
-        let found = command::read(code, at);
-        match found {
-            CommandRead::Unknown => {
-                return refused(Refusal::UnknownByte);
+        let tested = test_at(image, code, slots, at);
+        match tested {
+            Tested::Fails(refusal) => {
+                return refused(refusal);
             }
-            CommandRead::CutOff => {
-                return refused(Refusal::OperandsCutOff);
-            }
-            CommandRead::Found(c, width) => {
-                if !in_range(image, slots, c) {
-                    return refused(Refusal::OutOfRange);
-                }
+            Tested::Width(width) => {
                 marks[at] = 1;
-                ends = may_end(c);
-                at = at + (width as usize);
+                if !ask_target(code, at, marks) {
+                    inside = false;
+                }
+                last = code[at];
+                at = at + width;
             }
         }
     }
     Walked {
         verdict: Verdict::Accepted,
-        ends,
+        last,
+        inside,
     }
 }
 
-// Does a marked byte of the code stand at t?
-fn is_marked(code: &[u8], marks: &[u8], t: u16) -> bool
-    requires { ⌜ length (now code) ≤ length (now marks) ⌝ }
-    ensures { λ r. ⌜ r ≡ marked (now (code .entry)) (now (marks .entry)) t ⌝ }
+// May the command with this first byte stand last?
+fn may_end(byte: u8) -> bool
+    ensures { λ r. ⌜ r ≡ mayEnd byte ⌝ }
 {
-    let i = t as usize;
-    if code.len() <= i {
-        return false;
+    if byte == 7 {
+        return true;
     }
-    marks[i] == 1
+    byte == 13
 }
 
-fn target_good(code: &[u8], marks: &[u8], c: Command) -> bool
-    requires { ⌜ length (now code) ≤ length (now marks) ⌝ }
-    ensures { λ r. ⌜ r ≡ targetGood (marked (now (code .entry)) (now (marks .entry))) c ⌝ }
-{
-    match c {
-        Command::Set(_, _) => true,
-        Command::Add(_, _, _) => true,
-        Command::Subtract(_, _, _) => true,
-        Command::Load(_, _) => true,
-        Command::Store(_, _) => true,
-        Command::JumpIfZero(_, t) => is_marked(code, marks, t),
-        Command::Jump(t) => is_marked(code, marks, t),
-        Command::Lfork { .. } => true,
-        Command::Fork { .. } => true,
-        Command::Join => true,
-        Command::Suspend => true,
-        Command::Yield => true,
-        Command::Return(_) => true,
-    }
-}
-
-fn targets_good(code: &[u8], marks: &[u8]) -> bool
-    requires { ⌜ length (now code) ≤ length (now marks) ⌝ }
-    ensures { λ r. ⌜ r ≡ targetsGood (marked (now (code .entry)) (now (marks .entry))) (commandsOf (now (code .entry))) ⌝ }
-{
-    let n = code.len();
-    let mut at: usize = 0;
-    while at < n {
-        let found = command::read(code, at);
-        match found {
-            CommandRead::Unknown => {
-                return true;
-            }
-            CommandRead::CutOff => {
-                return true;
-            }
-            CommandRead::Found(c, width) => {
-                if !target_good(code, marks, c) {
-                    return false;
-                }
-                at = at + (width as usize);
-            }
-        }
-    }
-    true
-}
-
-pub fn check_routine(image: &[u8], code: &[u8], slots: u8) -> Verdict
-    requires { ⌜ length (now code) ≤ 4096 ⌝ }
+// The marks are this code's own, and blank.
+pub fn check_routine(image: &[u8], code: &[u8], slots: u8, marks: &mut [u8]) -> Verdict
+    requires { ⌜ (length (now code) ≡ length (now marks)) × Blank (now marks) ⌝ }
     ensures { λ r. ⌜ r ≡ routineVerdict (inRange (now (image .entry)) slots) (now (code .entry)) ⌝ }
 {
-    let mut marks = [0u8; 4096];
-    let walked = walk(image, code, slots, &mut marks);
+    let walked = walk(image, code, slots, marks);
     let verdict = walked.verdict;
     let Verdict::Accepted = verdict else {
         return verdict;
     };
-    if !walked.ends {
+    if !may_end(walked.last) {
         return Verdict::Refused(Refusal::BadEnd);
     }
-    if !targets_good(code, &marks) {
+    if !walked.inside {
+        return Verdict::Refused(Refusal::BadTarget);
+    }
+    if !all_met(marks) {
         return Verdict::Refused(Refusal::BadTarget);
     }
     Verdict::Accepted

@@ -1,10 +1,12 @@
 // The image reader: it accepts an image and says where its routines stand, or gives the number of the first test that fails.
 
 mod code;
+mod marks;
 pub mod number;
 mod range;
 pub mod routines;
 mod rows;
+mod step;
 
 use crate::code::check_routine;
 use command::byte_at;
@@ -13,6 +15,7 @@ ghost use Prim.Native.Nat.{_≤_, _<_};
 ghost use lib.ListN.{length};
 ghost use Rattle.image.specs.Layout.{countOf, startOf, programOf, noProgram, startsIn};
 ghost use Rattle.image.specs.Image.{routinesVerdict, imageVerdict, imageAnswer};
+ghost use Rattle.image.specs.Marks.{Blank};
 
 // A routine's row with the place of its code: its slots, its arguments, its code's first byte in the image and its code's length.
 pub struct Row {
@@ -76,9 +79,9 @@ pub struct Checked {
     pub program: Program,
 }
 
-// The tests of the routines' codes, one routine after the other.
-fn routines_verdict(image: &[u8], count: usize) -> Verdict
-    requires { ⌜ (count ≡ countOf (now image)) × (count ≤ 32) × (startOf (now image) count ≡ length (now image)) × (length (now image) ≤ 4096) ⌝ }
+// The tests of the routines' codes, one routine after the other. Each code has its own part of the marks.
+fn routines_verdict(image: &[u8], count: usize, marks: &mut [u8]) -> Verdict
+    requires { ⌜ (count ≡ countOf (now image)) × (count ≤ 32) × (startOf (now image) count ≡ length (now image)) × (length (now image) ≤ length (now marks)) × Blank (now marks) ⌝ }
     ensures { λ v. ⌜ v ≡ routinesVerdict (now (image .entry)) count 0 ⌝ }
 {
     let mut r: usize = 0;
@@ -86,7 +89,12 @@ fn routines_verdict(image: &[u8], count: usize) -> Verdict
     while r < count {
         let end = start + rows::length_of(image, r);
         let code = &image[start..end];
-        let verdict = check_routine(image, code, byte_at(image, 4 * r + 1));
+        let verdict = check_routine(
+            image,
+            code,
+            byte_at(image, 4 * r + 1),
+            &mut marks[start..end],
+        );
         match verdict {
             Verdict::Refused(refusal) => {
                 return Verdict::Refused(refusal);
@@ -126,7 +134,8 @@ fn verdict_of(image: &[u8]) -> Verdict
     if !rows::rows_good(image, count) {
         return Verdict::Refused(Refusal::BadRow);
     }
-    routines_verdict(image, count)
+    let mut marks = [0u8; 4096];
+    routines_verdict(image, count, &mut marks)
 }
 
 fn program_of(image: &[u8]) -> Program

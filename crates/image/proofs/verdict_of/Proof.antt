@@ -3,6 +3,7 @@ use borrow.Author.Needs.{needs}
 use borrow.Author.Tests.{eq-eqb, ne-eqb, lt-ltb, le-ltb, not-true, not-false}
 use mathlib.Core.Path.{sym, _∙_}
 use Rattle.image.specs.Image.{imageVerdict}
+use Rattle.image.proofs.Parts.{zeros}
 use Rattle.image.proofs.verdict_of.Statement.{statement}
 use Rattle.image.proofs.verdict_of.Tie as tie
 
@@ -93,22 +94,25 @@ returns-7 c =
       rw (c .before .before .before .before .before .before .before .byte-at .ensures) at (sym (c .before .rows-good .ensures) ∙ not-true _ (c .if7 .taken)),
     )
 
+slice-aggregate-routines-verdict : tie.Need-slice-aggregate-routines-verdict
+slice-aggregate-routines-verdict c = search needs
+
 routines-verdict-requires : tie.Need-routines-verdict-requires
-routines-verdict-requires c κs = search needs
+routines-verdict-requires c κs = (search needs, search needs, search needs, search needs, zeros 4096)
 
 returns-8 : tie.Need-returns-8
 unfolding imageVerdict
 returns-8 c =
     simp (
-      c .routines-verdict .ensures,
-      c .before .before .before .before .before .before .before .before .byte-at .ensures,
-      ne-eqb _ _ (c .before .before .before .before .before .before .before .before .before .before .if1 .left),
-      le-ltb _ _ (c .before .before .before .before .before .before .before .before .before .if2 .left),
-      rw (c .before .before .before .before .before .before .before .before .byte-at .ensures) at (ne-eqb _ _ (c .before .before .before .before .before .before .before .if3 .left)),
-      rw (c .before .before .before .before .before .before .before .before .byte-at .ensures) at (le-ltb _ _ (c .before .before .before .before .before .before .if4 .left)),
-      rw (c .before .before .before .before .before .before .before .before .byte-at .ensures) at (le-ltb _ _ (c .before .before .before .before .before .if5 .left)),
-      rw (c .before .before .before .before .codes-end .ensures, c .before .before .before .before .before .before .before .before .byte-at .ensures) at (eq-eqb _ _ (c .before .before .before .if6 .left)),
-      rw (c .before .before .before .before .before .before .before .before .byte-at .ensures) at (sym (c .before .before .rows-good .ensures) ∙ not-false _ (c .before .if7 .left)),
+      c .before .routines-verdict .ensures,
+      c .before .before .before .before .before .before .before .before .before .before .byte-at .ensures,
+      ne-eqb _ _ (c .before .before .before .before .before .before .before .before .before .before .before .before .if1 .left),
+      le-ltb _ _ (c .before .before .before .before .before .before .before .before .before .before .before .if2 .left),
+      rw (c .before .before .before .before .before .before .before .before .before .before .byte-at .ensures) at (ne-eqb _ _ (c .before .before .before .before .before .before .before .before .before .if3 .left)),
+      rw (c .before .before .before .before .before .before .before .before .before .before .byte-at .ensures) at (le-ltb _ _ (c .before .before .before .before .before .before .before .before .if4 .left)),
+      rw (c .before .before .before .before .before .before .before .before .before .before .byte-at .ensures) at (le-ltb _ _ (c .before .before .before .before .before .before .before .if5 .left)),
+      rw (c .before .before .before .before .before .before .codes-end .ensures, c .before .before .before .before .before .before .before .before .before .before .byte-at .ensures) at (eq-eqb _ _ (c .before .before .before .before .before .if6 .left)),
+      rw (c .before .before .before .before .before .before .before .before .before .before .byte-at .ensures) at (sym (c .before .before .before .before .rows-good .ensures) ∙ not-false _ (c .before .before .before .if7 .left)),
     )
 
 pub verdict-of-spec : {M : Type 1} → statement M
@@ -128,5 +132,6 @@ verdict-of-spec =
     returns-6
     rows-good-requires
     returns-7
+    slice-aggregate-routines-verdict
     routines-verdict-requires
     returns-8)
