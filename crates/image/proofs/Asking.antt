@@ -1,18 +1,15 @@
--- Targets that are asked for in the marks of a code, and what a first byte says of its command's target and of its place at the end.
--- Assumes nothing.
+-- Targets that are asked for in the marks of a code. Assumes nothing.
 use borrow.Author.Tests.{eq-eqb, ne-eqb}
 use mathlib.Core.Bool.{Bool, true, false}
 use mathlib.Core.List.{List}
 use mathlib.Core.Path.{_≡_, refl, sym, _∙_}
-use Prim.Native.Nat.{ℕ, zero, suc, _≤_, _<_}
+use Prim.Native.Nat.{ℕ, _≤_, _<_}
 use native.Mathlib.Decide.{ℕ-discrete, decLt}
 use native.Mathlib.Omega.{arith}
 use lib.Dec.{eqb}
 use lib.ListN.{length, getD, set, length-set, List·getD-eq-default}
 use lib.Seq.{getD-set-same, getD-set-other}
-use Rattle.command.specs.Command.{decoded, widthOf}
-use Rattle.image.specs.Code.{ends, targetGood}
-use Rattle.image.specs.Marks.{marked, mayEnd, Asked}
+use Rattle.image.specs.Marks.{marked, Asked}
 
 pub never : {P : Type 0} → _≡_ {A = Bool} false true → P
 never h = let z : _≡_ {A = ℕ} 0 1 = cc in absurd (omega arith)
@@ -87,42 +84,3 @@ untested test marks holds = record {
   put = λ start i a e. (refl, a);
   back = λ start i f a. (a, holds start);
 }
-
-module _ (x y z w : ℕ) where
-  -- only 06 and 07 have a target
-  pub no-target : (start : ℕ → Bool) (byte : ℕ) → 1 ≤ widthOf byte → (byte ≡ 6 → ⊥) → (byte ≡ 7 → ⊥) → targetGood start (decoded byte x y z w) ≡ true
-  unfolding decoded
-  no-target start zero h n m = absurd (omega arith)
-  no-target start (suc zero) h n m = refl
-  no-target start (suc (suc zero)) h n m = refl
-  no-target start (suc (suc (suc zero))) h n m = refl
-  no-target start (suc (suc (suc (suc zero)))) h n m = refl
-  no-target start (suc (suc (suc (suc (suc zero))))) h n m = refl
-  no-target start (suc (suc (suc (suc (suc (suc zero)))))) h n m = absurd (n refl)
-  no-target start (suc (suc (suc (suc (suc (suc (suc zero))))))) h n m = absurd (m refl)
-  no-target start (suc (suc (suc (suc (suc (suc (suc (suc zero)))))))) h n m = refl
-  no-target start (suc (suc (suc (suc (suc (suc (suc (suc (suc zero))))))))) h n m = refl
-  no-target start (suc (suc (suc (suc (suc (suc (suc (suc (suc (suc zero)))))))))) h n m = refl
-  no-target start (suc (suc (suc (suc (suc (suc (suc (suc (suc (suc (suc zero))))))))))) h n m = refl
-  no-target start (suc (suc (suc (suc (suc (suc (suc (suc (suc (suc (suc (suc zero)))))))))))) h n m = refl
-  no-target start (suc (suc (suc (suc (suc (suc (suc (suc (suc (suc (suc (suc (suc zero))))))))))))) h n m = refl
-  no-target start (suc (suc (suc (suc (suc (suc (suc (suc (suc (suc (suc (suc (suc (suc k)))))))))))))) h n m = absurd (omega arith)
-
-  -- 07 and 0D may stand last
-  pub end-byte : (byte : ℕ) → 1 ≤ widthOf byte → mayEnd byte ≡ ends (decoded byte x y z w)
-  unfolding decoded
-  end-byte zero h = absurd (omega arith)
-  end-byte (suc zero) h = refl
-  end-byte (suc (suc zero)) h = refl
-  end-byte (suc (suc (suc zero))) h = refl
-  end-byte (suc (suc (suc (suc zero)))) h = refl
-  end-byte (suc (suc (suc (suc (suc zero))))) h = refl
-  end-byte (suc (suc (suc (suc (suc (suc zero)))))) h = refl
-  end-byte (suc (suc (suc (suc (suc (suc (suc zero))))))) h = refl
-  end-byte (suc (suc (suc (suc (suc (suc (suc (suc zero)))))))) h = refl
-  end-byte (suc (suc (suc (suc (suc (suc (suc (suc (suc zero))))))))) h = refl
-  end-byte (suc (suc (suc (suc (suc (suc (suc (suc (suc (suc zero)))))))))) h = refl
-  end-byte (suc (suc (suc (suc (suc (suc (suc (suc (suc (suc (suc zero))))))))))) h = refl
-  end-byte (suc (suc (suc (suc (suc (suc (suc (suc (suc (suc (suc (suc zero)))))))))))) h = refl
-  end-byte (suc (suc (suc (suc (suc (suc (suc (suc (suc (suc (suc (suc (suc zero))))))))))))) h = refl
-  end-byte (suc (suc (suc (suc (suc (suc (suc (suc (suc (suc (suc (suc (suc (suc k)))))))))))))) h = absurd (omega arith)

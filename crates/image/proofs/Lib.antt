@@ -1,3 +1,4 @@
+pub mod FirstByte
 pub mod Tests
 pub mod Asking
 pub mod Walk

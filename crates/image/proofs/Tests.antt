@@ -3,53 +3,43 @@ use borrow.Author.Tests.{lt-leb, le-ltb, ne-eqb}
 use mathlib.Core.Bool.{Bool, true, false, cond}
 use mathlib.Core.List.{List}
 use mathlib.Core.Path.{_≡_, refl, _∙_}
-use Prim.Native.Nat.{ℕ, zero, suc, _+_, _-_, _≤_, _<_}
+use Prim.Native.Nat.{ℕ, suc, _+_, _-_, _<_}
 use native.Mathlib.Omega.{arith}
 use lib.Dec.{ltb}
-use lib.ListN.{length, getD, List·getD-eq-default}
+use lib.ListN.{length, getD}
 use Rattle.command.specs.declared.Command.{Command}
 use Rattle.command.specs.declared.CommandRead.{CommandRead}
 use Rattle.command.specs.declared.CommandRead.the-variants.{Found, Unknown, CutOff}
-use Rattle.command.specs.Command.{commandAt, decoded, decodedAt, widths, widthOf}
+use Rattle.command.specs.Command.{commandAt, decoded, decodedAt, widthOf}
 use Rattle.command.proofs.RoundTrip.{stands}
 use Rattle.image.specs.declared.Verdict.the-variants.{Refused}
 use Rattle.image.specs.declared.Refusal.{Refusal}
 use Rattle.image.specs.declared.Refusal.the-variants.{UnknownByte, OperandsCutOff, OutOfRange}
 use Rattle.image.specs.declared.step.Tested.the-variants.{Width, Fails}
 use Rattle.image.specs.Code.{verdictFrom, readVerdict}
-use Rattle.image.specs.Step.{testedAs, wholeAs, rangedAs}
+use Rattle.image.specs.Step.{operand, testedAs, wholeAs, rangedAs}
 
--- a byte is none of the first n numbers from 1 on
-abbrev pub NoneOf : ℕ → ℕ → Type 0
-NoneOf byte zero = Unit {0}
-NoneOf byte (suc n) = NoneOf byte n × (byte ≡ suc n → ⊥)
-
-beyond : (byte n : ℕ) → NoneOf byte n → 1 ≤ byte → n < byte
-beyond byte zero none h = h
-beyond byte (suc n) none h = let d = none .1 in let l : n < byte = beyond byte n (none .0) h in omega arith
-
--- a byte that is no command has no width
-pub no-width : (byte : ℕ) → NoneOf byte 13 → widthOf byte ≡ 0
-no-width zero none = refl
-no-width (suc k) none = let past : length widths ≤ suc k = beyond (suc k) 13 none (omega arith) in List·getD-eq-default widths 0 past
+-- the command at a position has n bytes and is in range
+abbrev pub Passing : (Command → Bool) → List ℕ → ℕ → ℕ → Type 0
+Passing ok code at n = (commandAt code at ≡ Found (decodedAt code at) n) × (ok (decodedAt code at) ≡ true)
 
 module _ (ok : Command → Bool) (code : List ℕ) (at : ℕ) (h : at < length code) where
   -- the first byte is a command's
   pub known : (byte w : ℕ) → getD code at 0 ≡ byte → widthOf byte ≡ suc w
-      → wholeAs (length code - at) (suc w) (ok (decoded byte (getD code (at + 1) 0) (getD code (at + 2) 0) (getD code (at + 3) 0) (getD code (at + 4) 0)))
+      → wholeAs code at (suc w) (ok (decoded byte (operand code at 1) (operand code at 2) (operand code at 3) (operand code at 4)))
       ≡ testedAs ok (commandAt code at)
   unfolding commandAt
   known byte w e f = simp (e, f, lt-leb (length code) at h, ne-eqb (suc w) 0 (λ z. omega arith)) (go (ltb (length code - at) (suc w)))
     where
       go : (short : Bool)
-          → cond short (Fails OperandsCutOff) (rangedAs (ok (decoded byte (getD code (at + 1) 0) (getD code (at + 2) 0) (getD code (at + 3) 0) (getD code (at + 4) 0))) (suc w))
-          ≡ testedAs ok (cond short CutOff (Found (decoded byte (getD code (at + 1) 0) (getD code (at + 2) 0) (getD code (at + 3) 0) (getD code (at + 4) 0)) (suc w)))
+          → cond short (Fails OperandsCutOff) (rangedAs (ok (decoded byte (operand code at 1) (operand code at 2) (operand code at 3) (operand code at 4))) (suc w))
+          ≡ testedAs ok (cond short CutOff (Found (decoded byte (operand code at 1) (operand code at 2) (operand code at 3) (operand code at 4)) (suc w)))
       go true = refl
       go false = refl
 
   -- the first byte is all of it
   pub alone : (byte : ℕ) → getD code at 0 ≡ byte → widthOf byte ≡ 1
-      → ok (decoded byte (getD code (at + 1) 0) (getD code (at + 2) 0) (getD code (at + 3) 0) (getD code (at + 4) 0)) ≡ true
+      → ok (decoded byte (operand code at 1) (operand code at 2) (operand code at 3) (operand code at 4)) ≡ true
       → Width 1 ≡ testedAs ok (commandAt code at)
   alone byte e f g = rw (le-ltb (length code - at) 1 (omega arith), g) at (known byte 0 e f)
 
@@ -58,13 +48,13 @@ module _ (ok : Command → Bool) (code : List ℕ) (at : ℕ) (h : at < length c
   unknown e = simp (e, lt-leb (length code) at h)
 
   -- a command that passes stands there, in range
-  pub passes : (n : ℕ) → testedAs ok (commandAt code at) ≡ Width n → (commandAt code at ≡ Found (decodedAt code at) n) × (ok (decodedAt code at) ≡ true)
+  pub passes : (n : ℕ) → testedAs ok (commandAt code at) ≡ Width n → Passing ok code at n
   passes n e = go (commandAt code at) refl e
     where
-      go : (r : CommandRead) → commandAt code at ≡ r → testedAs ok r ≡ Width n → (commandAt code at ≡ Found (decodedAt code at) n) × (ok (decodedAt code at) ≡ true)
+      go : (r : CommandRead) → commandAt code at ≡ r → testedAs ok r ≡ Width n → Passing ok code at n
       go (Found c m) is f = ranged (ok c) refl f
         where
-          ranged : (b : Bool) → ok c ≡ b → rangedAs b m ≡ Width n → (commandAt code at ≡ Found (decodedAt code at) n) × (ok (decodedAt code at) ≡ true)
+          ranged : (b : Bool) → ok c ≡ b → rangedAs b m ≡ Width n → Passing ok code at n
           ranged true fine g =
               let i : c ≡ decodedAt code at = stands code at c m is .is in
               let w : m ≡ n = cc in

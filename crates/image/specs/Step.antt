@@ -1,7 +1,9 @@
 -- What the tests 4, 5 and 6 say of one command: its width where it passes.
 use mathlib.Core.Bool.{Bool, cond}
-use Prim.Native.Nat.{ℕ}
+use mathlib.Core.List.{List}
+use Prim.Native.Nat.{ℕ, _+_, _-_}
 use lib.Dec.{ltb}
+use lib.ListN.{getD, length}
 use Rattle.command.specs.declared.Command.{Command}
 use Rattle.command.specs.declared.CommandRead.{CommandRead}
 use Rattle.command.specs.declared.CommandRead.the-variants.{Found, Unknown, CutOff}
@@ -9,13 +11,17 @@ use Rattle.image.specs.declared.Refusal.the-variants.{UnknownByte, Opera
 use Rattle.image.specs.declared.step.Tested.{Tested}
 use Rattle.image.specs.declared.step.Tested.the-variants.{Width, Fails}
 
+-- the k-th byte behind a command's first
+abbrev pub operand : List ℕ → ℕ → ℕ → ℕ
+operand code at k = getD code (at + k) 0
+
 -- a whole command, with its operands in range or not
 abbrev pub rangedAs : Bool → ℕ → Tested
 rangedAs good width = cond good (Width width) (Fails OutOfRange)
 
--- a command of so many bytes, with so many left
-abbrev pub wholeAs : ℕ → ℕ → Bool → Tested
-wholeAs left width good = cond (ltb left width) (Fails OperandsCutOff) (rangedAs good width)
+-- a command of so many bytes, which may be cut off
+abbrev pub wholeAs : List ℕ → ℕ → ℕ → Bool → Tested
+wholeAs code at width good = cond (ltb (length code - at) width) (Fails OperandsCutOff) (rangedAs good width)
 
 -- "4, 5, 6", of what was read
 abbrev pub testedAs : (Command → Bool) → CommandRead → Tested

@@ -6,18 +6,20 @@ use crate::range::two_slots;
 ghost use mathlib.Core.Path.{_≡_};
 ghost use mathlib.Core.Bool.{true};
 ghost use mathlib.Core.List.{[], _∷_};
-ghost use Prim.Native.Nat.{_+_, _-_, _≤_, _<_};
-ghost use lib.ListN.{getD, length};
+ghost use Prim.Native.Nat.{_≤_, _<_};
+ghost use lib.ListN.{length};
 ghost use Rattle.command.specs.Command.{commandAt};
 ghost use Rattle.image.specs.Image.{inRange, allSlots, forkInRange};
-ghost use Rattle.image.specs.Step.{testedAs, wholeAs, rangedAs};
+ghost use Rattle.image.specs.Step.{operand, testedAs, wholeAs, rangedAs};
 
-// What the tests say of a command: its width where it passes.
+// What the tests say of a command: its width where it passes. A width of one byte would be packed with the variant into one number, for which the
+// next command's place would have to wait.
 pub enum Tested {
     Width(usize),
     Fails(Refusal),
 }
 
+// A whole command.
 fn ranged(good: bool, width: usize) -> Tested
     ensures { λ r. ⌜ r ≡ rangedAs good width ⌝ }
 {
@@ -30,7 +32,7 @@ fn ranged(good: bool, width: usize) -> Tested
 // A command whose first operand alone is a slot.
 fn slot_at(code: &[u8], slots: u8, at: usize, width: usize) -> Tested
     requires { ⌜ (at < length (now code)) × (2 ≤ width) ⌝ }
-    ensures { λ r. ⌜ r ≡ wholeAs (length (now (code .entry)) - at) width (allSlots slots (getD (now (code .entry)) (at + 1) 0 ∷ [])) ⌝ }
+    ensures { λ r. ⌜ r ≡ wholeAs (now (code .entry)) at width (allSlots slots (operand (now (code .entry)) at 1 ∷ [])) ⌝ }
 {
     if code.len() - at < width {
         return Tested::Fails(Refusal::OperandsCutOff);
@@ -41,7 +43,7 @@ fn slot_at(code: &[u8], slots: u8, at: usize, width: usize) -> Tested
 // 04 and 05
 fn two_slots_at(code: &[u8], slots: u8, at: usize) -> Tested
     requires { ⌜ at < length (now code) ⌝ }
-    ensures { λ r. ⌜ r ≡ wholeAs (length (now (code .entry)) - at) 3 (allSlots slots (getD (now (code .entry)) (at + 1) 0 ∷ getD (now (code .entry)) (at + 2) 0 ∷ [])) ⌝ }
+    ensures { λ r. ⌜ r ≡ wholeAs (now (code .entry)) at 3 (allSlots slots (operand (now (code .entry)) at 1 ∷ operand (now (code .entry)) at 2 ∷ [])) ⌝ }
 {
     if code.len() - at < 3 {
         return Tested::Fails(Refusal::OperandsCutOff);
@@ -52,7 +54,7 @@ fn two_slots_at(code: &[u8], slots: u8, at: usize) -> Tested
 // 02 and 03
 fn three_slots_at(code: &[u8], slots: u8, at: usize) -> Tested
     requires { ⌜ at < length (now code) ⌝ }
-    ensures { λ r. ⌜ r ≡ wholeAs (length (now (code .entry)) - at) 4 (allSlots slots (getD (now (code .entry)) (at + 1) 0 ∷ getD (now (code .entry)) (at + 2) 0 ∷ getD (now (code .entry)) (at + 3) 0 ∷ [])) ⌝ }
+    ensures { λ r. ⌜ r ≡ wholeAs (now (code .entry)) at 4 (allSlots slots (operand (now (code .entry)) at 1 ∷ operand (now (code .entry)) at 2 ∷ operand (now (code .entry)) at 3 ∷ [])) ⌝ }
 {
     if code.len() - at < 4 {
         return Tested::Fails(Refusal::OperandsCutOff);
@@ -66,7 +68,7 @@ fn three_slots_at(code: &[u8], slots: u8, at: usize) -> Tested
 // 08 and 09
 fn fork_at(image: &[u8], code: &[u8], slots: u8, at: usize) -> Tested
     requires { ⌜ at < length (now code) ⌝ }
-    ensures { λ r. ⌜ r ≡ wholeAs (length (now (code .entry)) - at) 5 (forkInRange (now (image .entry)) slots (getD (now (code .entry)) (at + 1) 0) (getD (now (code .entry)) (at + 2) 0) (getD (now (code .entry)) (at + 3) 0) (getD (now (code .entry)) (at + 4) 0)) ⌝ }
+    ensures { λ r. ⌜ r ≡ wholeAs (now (code .entry)) at 5 (forkInRange (now (image .entry)) slots (operand (now (code .entry)) at 1) (operand (now (code .entry)) at 2) (operand (now (code .entry)) at 3) (operand (now (code .entry)) at 4)) ⌝ }
 {
     if code.len() - at < 5 {
         return Tested::Fails(Refusal::OperandsCutOff);
@@ -85,7 +87,7 @@ fn fork_at(image: &[u8], code: &[u8], slots: u8, at: usize) -> Tested
 // 07
 fn jump_at(code: &[u8], at: usize) -> Tested
     requires { ⌜ at < length (now code) ⌝ }
-    ensures { λ r. ⌜ r ≡ wholeAs (length (now (code .entry)) - at) 3 true ⌝ }
+    ensures { λ r. ⌜ r ≡ wholeAs (now (code .entry)) at 3 true ⌝ }
 {
     if code.len() - at < 3 {
         return Tested::Fails(Refusal::OperandsCutOff);

@@ -8,9 +8,9 @@ use lib.ListN.{length, length-set}
 use Rattle.command.proofs.RoundTrip.{stands}
 use Rattle.image.specs.Marks.{mayEnd}
 use Rattle.image.specs.Image.{inRange}
-use Rattle.image.proofs.Walk.{Far, starts-out, falls, stays, goes-on, refuses, finishes}
-use Rattle.image.proofs.Asking.{end-byte}
+use Rattle.image.proofs.FirstByte.{end-byte}
 use Rattle.image.proofs.Tests.{passes, fails}
+use Rattle.image.proofs.Walk.{Far, starts-out, falls, stays, goes-on, refuses, finishes}
 use Rattle.image.proofs.code.walk.Statement.{statement}
 use Rattle.image.proofs.code.walk.Tie as tie
 

@@ -2,7 +2,8 @@
 use borrow.Author.Needs.{needs}
 use native.Mathlib.Omega.{arith}
 use Rattle.command.specs.Command.{decoded}
-use Rattle.image.proofs.Asking.{reworded, untested, no-target}
+use Rattle.image.proofs.FirstByte.{no-target}
+use Rattle.image.proofs.Asking.{reworded, untested}
 use Rattle.image.proofs.marks.ask_target.Statement.{statement}
 use Rattle.image.proofs.marks.ask_target.Tie as tie
 

@@ -3,7 +3,8 @@ use borrow.Author.Needs.{needs}
 use mathlib.Core.Path.{refl, _∙_}
 use Rattle.command.specs.Command.{decoded}
 use Rattle.image.specs.Image.{inRange}
-use Rattle.image.proofs.Tests.{no-width, known, alone, unknown}
+use Rattle.image.proofs.FirstByte.{no-width}
+use Rattle.image.proofs.Tests.{known, alone, unknown}
 use Rattle.image.proofs.step.test_at.Statement.{statement}
 use Rattle.image.proofs.step.test_at.Tie as tie
 
