@@ -6,7 +6,7 @@ use Prim.Native.Nat.{ℕ, zero, suc, _+_, _-_, _*_, _≤_, _<_}
 use native.Mathlib.Decide.{ℕ-discrete}
 use native.Mathlib.Numerals.{add-one}
 use native.Mathlib.Omega.{arith}
-use lib.ListN.{length, getD, set, take, drop, length-take, length-drop, replicate, length-set, length-replicate}
+use lib.ListN.{length, getD, set, take, drop, replicate, length-set, length-replicate}
 use lib.Seq.{getD-set-same, getD-set-other}
 use Rattle.command.proofs.Bools.{both}
 use Rattle.image.specs.declared.Row.{Row}
@@ -47,10 +47,6 @@ module _ (s : List ℕ) where
   code-part r start len e f =
       let d : startOf s r + lengthOf s r - startOf s r ≡ lengthOf s r = omega arith in
       rw (e, f, d)
-
-  pub length-code : (r start len : ℕ) → start ≡ startOf s r → len ≡ lengthOf s r → startOf s r + lengthOf s r ≤ length s
-      → length (take (start + len - start) (drop start s)) ≡ len
-  length-code r start len e f h = simp (length-take, length-drop) (omega arith)
 
   pub good-first : rowsGood s 0 ≡ true
   unfolding rowsGood

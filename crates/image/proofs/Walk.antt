@@ -30,7 +30,6 @@ accepted-at-end ok code (suc left) at h = rw (le-leb (length code) at h)
 -- the pass has come to `at`, with at most `left` commands to go
 pub record Going (ok : Command → Bool) (code marks : List ℕ) (at : ℕ) (last inside : Bool) (left : ℕ) : Type 0 where
   pub enough : length code ≤ at + left
-  pub within : at ≤ length code
   pub verdict : verdictFrom ok code left at ≡ verdictFrom ok code (length code) 0
   pub end : lastEnds last (commandsFrom code left at) ≡ lastEnds false (commandsOf code)
   pub starts : (t : ℕ) → (marked marks t || isStart (commandsFrom code left at) t) ≡ isStart (commandsOf code) t
@@ -99,7 +98,6 @@ starts-out ok code marks blank = record {
   left = length code;
   going = record {
     enough = omega arith;
-    within = omega arith;
     verdict = refl;
     end = refl;
     starts = λ t. rw (blank t);
@@ -155,7 +153,6 @@ module _ (ok : Command → Bool) (code marks after : List ℕ) (at n : ℕ) (c :
     next : Going ok code after (at + n) end later left
     next = record {
       enough = omega (arith, stands code at c n found .some, f .enough);
-      within = stands code at c n found .whole;
       verdict = sym (verdict-found code left at n c found ok h fine) ∙ f .verdict;
       end = rw may (sym (last-found code left at n c found last) ∙ f .end);
       starts = λ t. ap (λ b. b || isStart (commandsFrom code left (at + n)) t) (ask .kept t) ∙ starts-marked t;
