@@ -19,7 +19,7 @@ use Rattle.rules.specs.State.{Job, State}
 use Rattle.rules.specs.Update.{accepted, refused, setThread, setTops, setFreeThreads, setFreeStacklets, setWords, charge}
 use Rattle.rules.specs.Turn.{Turn}
 use Rattle.rules.specs.Fork.{placeOf, goesAbove, Asked, born, forkOn, forkWith, forkOf, childGoes, childStatus, parentStatus, isConnected}
-use Rattle.entries.specs.Given.{HeadBelow, placeBy}
+use Rattle.entries.specs.Given.{HeadBelow, placeBy, bothRecords}
 use native.Mathlib.Omega.{arith}
 use native.Mathlib.Nat.{mod-eq-of-lt}
 use lib.ListN.{length}
@@ -132,7 +132,11 @@ pub child-is : (h : Thread) (st st' : Status) (b b' : Bool) (r t d base : ℕ) (
     → h ≡ newThread st' b' r t d base w'
 child-is h st st' b b' r t d base w w' e f g k = rw (e, f, g, k)
 
--- a record that is stored leaves the units
-pub room-kept : (xs ys : List ℕ) (t w most : ℕ) (h : Thread) → meaning ys [] [] ≡ setThread t h (meaning xs [] []) → meaning xs [] [] .units + w < most
-    → meaning ys [] [] .units + w < most
-room-kept xs ys t w most h e l = rw e l
+-- both records leave the units
+pub room-kept : (xs ys : List ℕ) (kind : ForkKind) (t n next base w most : ℕ) (th : Thread) (f : Asked)
+    → meaning ys [] [] ≡ bothRecords kind t n th next f base (meaning xs [] []) → meaning xs [] [] .units + w < most → meaning ys [] [] .units + w < most
+room-kept xs ys kind t n next base w most th f e l = rw e l
+
+pub both-stored : (s : State) (t n : ℕ) (p p' h h' : Thread) → t < 32 → n < 32 → p ≡ p' → h ≡ h'
+    → setThread (n % 32) h (setThread (t % 32) p s) ≡ setThread n h' (setThread t p' s)
+both-stored s t n p p' h h' l m e f = rw (mod-eq-of-lt l, mod-eq-of-lt m, e, f)

@@ -6,12 +6,15 @@ use Prim.Native.Nat.{ℕ, _+_, _≤_, _<_, _^_}
 use lib.ListN.{length}
 use Rattle.queue.specs.declared.Front.{Front}
 use Rattle.queue.specs.declared.Front.the-variants.{Number, Nothing}
+use Rattle.window.specs.Rights.{childOf, restOf}
 use Rattle.thread.specs.declared.Thread.{Thread}
+use Rattle.thread.specs.Thread.{newThread, behindFork}
 use Rattle.rules.specs.State.{Job, State, After, threadAt}
-use Rattle.rules.specs.Update.{setFreeStacklets, setReady}
+use Rattle.rules.specs.Update.{setThread, setFreeStacklets, setReady}
 use Rattle.rules.specs.Turn.{Turn}
 use Rattle.rules.specs.Return.{stackletsWithout, readyAfter}
-use Rattle.rules.specs.Fork.{Place, onStacklet, nowhere}
+use Rattle.rules.specs.declared.ForkKind.{ForkKind}
+use Rattle.rules.specs.Fork.{Asked, Place, onStacklet, nowhere, childStatus, parentStatus, isConnected}
 use Rattle.rules.specs.Sound.{Sound}
 use Rattle.tables.specs.Meaning.{size, meaning}
 
@@ -68,6 +71,21 @@ pub record Forking (xs : List ℕ) (c t weight d e : ℕ) : Type 0 where
   pub result : d < 16
   pub low : recordIn xs t .window .mark ≤ e
   pub high : e ≤ recordIn xs t .window .hi
+
+-- both records of a fork can be stored: the numbers are in the tables, the slot and the cut in range
+pub record Cutting (th : Thread) (t n d e : ℕ) : Type 0 where
+  pub parent : t < 32
+  pub child : n < 32
+  pub children : th .children < 255
+  pub result : d < 16
+  pub low : th .window .mark ≤ e
+  pub high : e ≤ th .window .hi
+
+-- thread t's record behind a fork, which was th, and its child's, thread n with its frame at a base
+abbrev pub bothRecords : ForkKind → ℕ → ℕ → Thread → ℕ → Asked → ℕ → State → State
+bothRecords kind t n th next f base s =
+    setThread n (newThread (childStatus kind) (isConnected kind) (f .routine) t (f .result) base (childOf (th .window) (f .cut)))
+    (setThread t (behindFork (parentStatus kind) next (f .result) (restOf (th .window) (f .cut)) th) s)
 
 -- the free stacklets that are left by a new frame, unless it goes above its parent's
 abbrev pub leftBy : Bool → List ℕ → State → State

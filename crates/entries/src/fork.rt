@@ -21,6 +21,7 @@ use tables::marks::charge;
 use tables::marks::put_core;
 use tables::records::put_thread;
 use tables::records::thread_at;
+use thread::Thread;
 use thread::record::behind_fork;
 use thread::record::new_thread;
 use window::Cut;
@@ -33,7 +34,7 @@ ghost use Rattle.rules.specs.State.{jobOf};
 ghost use Rattle.rules.specs.Fork.{asked, childGoes, forkOf};
 ghost use Rattle.tables.specs.Meaning.{size, meaning};
 ghost use Rattle.tables.specs.Change.{Becomes};
-ghost use Rattle.entries.specs.Given.{Forking, turnIn, after, leftBy};
+ghost use Rattle.entries.specs.Given.{Cutting, Forking, turnIn, after, bothRecords, leftBy};
 
 // The child takes its place: on the core, or in the ready queue.
 fn place_child(tables: &mut [u8], kind: ForkKind, c: u8, n: u8)
@@ -55,6 +56,38 @@ fn keep_stacklets(tables: &mut [u8], above: bool, rest: Queue)
         return;
     }
     put_free_stacklets(tables, rest);
+}
+
+// Both records of a fork: thread t's, which was th, and its child's, thread n with its frame at a base. The window is cut in two.
+fn put_records(
+    tables: &mut [u8],
+    kind: ForkKind,
+    t: u8,
+    n: u8,
+    th: Thread,
+    next: u16,
+    r: u8,
+    d: u8,
+    e: u32,
+    base: u16,
+)
+    requires { ⌜ Cutting th t n d e ⌝ }
+    ensures { λ _. ⌜ Becomes (now (tables .entry)) (now (tables .exit)) (bothRecords kind t n th next (asked r d 0 e) base) ⌝ }
+{
+    let window = th.window;
+    let cut = window.cut(e);
+    let Cut::Parts { child, rest } = cut else {
+        return;
+    };
+    let parent = behind_fork(th, parent_status(kind), next, d, rest);
+    put_thread(tables, t, parent);
+    let status = child_status(kind);
+    let connected = is_connected(kind);
+    put_thread(
+        tables,
+        n,
+        new_thread(status, connected, r, t, d, base, child),
+    );
 }
 
 // Thread t, met by core c, forks routine r: its value to slot d, arguments from slot a on, cut e; behind the command is `next`. The log byte is
@@ -91,39 +124,11 @@ pub fn fork(
     let Front::Number(x) = spot else {
         return 21;
     };
-    let window = th.window;
-    let cut = window.cut(e);
-    let Cut::Parts { child, rest } = cut else {
-        return 11;
-    };
-    let base_above = next_base(tables, x);
-    put_thread(
-        tables,
-        t,
-        behind_fork(th, parent_status(kind), next, d, rest),
-    );
-    put_thread(
-        tables,
-        n,
-        new_thread(
-            child_status(kind),
-            is_connected(kind),
-            r,
-            t,
-            d,
-            base_above,
-            child,
-        ),
-    );
+    let above_it = next_base(tables, x);
+    put_records(tables, kind, t, n, th, next, r, d, e, above_it);
     charge(tables, weight);
-    push_frame(
-        tables,
-        words,
-        x,
-        wide,
-        base + (a as u16),
-        arguments_of(image, r),
-    );
+    let given = arguments_of(image, r);
+    push_frame(tables, words, x, wide, base + (a as u16), given);
     let stacklets_left = places.queue;
     keep_stacklets(tables, above, stacklets_left);
     let numbers_left = numbers.queue;

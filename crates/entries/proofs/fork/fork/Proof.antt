@@ -1,15 +1,15 @@
 -- `entries::fork::fork` meets its contract. Assumes nothing.
-use Rattle.entries.proofs.Born.{with-words, place-by, no-number, no-stacklet, born-by, spot-low, cut-parts, cut-never, frame-pushed, frame-laid, base-found, parent-is, child-is, room-kept}
+use Rattle.entries.proofs.Born.{with-words, place-by, no-number, no-stacklet, born-by, spot-low, frame-pushed, frame-laid, base-found, room-kept}
 use Rattle.entries.proofs.Chains.{head-below, first-of, rest-of, charged}
-use Prim.Native.Nat.{_/_, _<_, _^_}
 use Rattle.entries.specs.Given.{recordIn, turnWith}
-use Rattle.tables.proofs.Changes.{thread-seen, thread-stored}
+use Rattle.tables.proofs.Changes.{thread-seen}
 use Rattle.tables.specs.Meaning.{meaning}
 use Rattle.rules.specs.Fork.{asked, forkOf}
 use Rattle.rules.specs.State.{jobOf}
 use Rattle.thread.specs.declared.Thread.{Thread}
 use Rattle.queue.specs.Contents.{contents, restOf}
 use native.Mathlib.Omega.{arith}
+use Prim.Native.Nat.{_/_, _<_, _^_}
 use mathlib.Core.List.{[]}
 use mathlib.Core.Path.{_≡_, refl, sym, ap, _∙_}
 use mathlib.Core.Bool.{cond}
@@ -94,62 +94,36 @@ returns-2 c =
     (goes-above' .ensures ws memory) (place-by _ _ _ _ _ (first-of _ _ _ (c .before .before .before .before .free-stacklets .ensures .means l ws memory) (c .before .before .before .dequeue2 .ensures)) (c .before .before .find-place .ensures)) (c .enum-told2 .given .1)
     ∙ ap (λ (h : Thread). forkOf (jobOf (args' .image .now) starts parameters allowance) (meaning (args' .tables .now) ws memory) (args' .kind) (turnWith (args' .c) (args' .t) h (args' .weight) (args' .next) offset) (asked (args' .r) (args' .d) (args' .a) (args' .e))) same
 
-cut-requires : tie.Need-cut-requires
-cut-requires c κs = search needs
-
-enum-known-cut : tie.Need-enum-known-cut
-enum-known-cut c = search needs
-
-enum-told-3 : tie.Need-enum-told-3
-enum-told-3 c = search needs
-
-same-length-3 : tie.Need-same-length-3
-same-length-3 c = search needs
-
-returns-3 : tie.Need-returns-3
-returns-3 c =
-    let args' = c .before .before .before .before .before .before .before .before .before .before .before .before .before .before .before .before .before .before .before .before .before .before .before .before .before .before .args in
-    let pre' = c .before .before .before .before .before .before .before .before .before .before .before .before .before .before .before .before .before .before .before .before .before .before .before .before .before .before .pre in
-    let thread-at' = c .before .before .before .before .before .before .before .before .before .before .before .before .before .before .before .thread-at in
-    let same : thread-at' .result ≡ recordIn (args' .tables .now) (args' .t) = thread-seen (pre' .seated .sized) [] [] (args' .t) (thread-at' .result) (pre' .seated .number) (thread-at' .ensures) in
-    absurd (cut-never (thread-at' .result .window) (args' .e) _ (rw same (pre' .low)) (rw same (pre' .high)) (c .before .before .cut .ensures) (c .enum-told3 .given .1))
-
 next-base-requires : tie.Need-next-base-requires
 next-base-requires c κs = search needs
 
-parent-status-requires : tie.Need-parent-status-requires
-parent-status-requires c κs = search needs
-
-behind-fork-requires : tie.Need-behind-fork-requires
-behind-fork-requires c κs = search needs
-
-put-thread-requires : tie.Need-put-thread-requires
-put-thread-requires c κs = search needs
-
-child-status-requires : tie.Need-child-status-requires
-child-status-requires c κs = search needs
-
-is-connected-requires : tie.Need-is-connected-requires
-is-connected-requires c κs = search needs
-
-new-thread-requires : tie.Need-new-thread-requires
-new-thread-requires c κs = search needs
-
-put-thread-requires-2 : tie.Need-put-thread-requires-2
-put-thread-requires-2 c κs = search needs
+put-records-requires : tie.Need-put-records-requires
+put-records-requires c κs =
+    let args' = c .before .before .before .before .before .before .before .before .before .before .before .before .before .before .before .before .before .before .before .before .before .before .before .before .before .args in
+    let pre' = c .before .before .before .before .before .before .before .before .before .before .before .before .before .before .before .before .before .before .before .before .before .before .before .before .before .pre in
+    let thread-at' = c .before .before .before .before .before .before .before .before .before .before .before .before .before .before .thread-at in
+    let same : thread-at' .result ≡ recordIn (args' .tables .now) (args' .t) = thread-seen (pre' .seated .sized) [] [] (args' .t) (thread-at' .result) (pre' .seated .number) (thread-at' .ensures) in
+    record {
+      parent = pre' .seated .number;
+      child = head-below (meaning (args' .tables .now) [] [] .freeThreads) 32 _ (pre' .numbers) (sym (first-of _ _ _ (c .before .before .before .before .before .before .before .before .before .before .before .before .before .before .before .before .before .before .before .before .free-threads .ensures .means (pre' .seated .sized) [] []) (c .before .before .before .before .before .before .before .before .before .before .before .before .before .before .before .before .before .before .before .dequeue .ensures)) ∙ c .before .before .before .before .before .before .before .before .before .before .before .before .before .before .before .before .before .first .given .1);
+      children = rw same (pre' .children);
+      result = pre' .result;
+      low = rw same (pre' .low);
+      high = rw same (pre' .high);
+    }
 
 charge-requires : tie.Need-charge-requires
 charge-requires c κs = search needs
 
-add-push-frame : tie.Need-add-push-frame
-add-push-frame c =
-    let pre' = c .before .before .before .before .before .before .before .before .before .before .before .before .before .before .before .before .before .before .before .before .before .before .before .before .before .before .before .before .before .before .before .before .before .before .before .before .before .before .before .before .before .before .before .before .before .before .before .before .pre in
-    let thread-at' = c .before .before .before .before .before .before .before .before .before .before .before .before .before .before .before .before .before .before .before .before .before .before .before .before .before .before .before .before .before .before .before .before .before .before .before .before .before .thread-at in
-    let low : thread-at' .result .base < 1024 = rw (thread-seen (pre' .seated .sized) [] [] (c .before .before .before .before .before .before .before .before .before .before .before .before .before .before .before .before .before .before .before .before .before .before .before .before .before .before .before .before .before .before .before .before .before .before .before .before .before .before .before .before .before .before .before .before .before .before .before .before .args .t) (thread-at' .result) (pre' .seated .number) (thread-at' .ensures)) (pre' .seated .base) in
-    record { fits = omega (arith, c .before .before .before .before .before .before .before .before .before .before .before .before .before .before .before .before .before .before .before .before .before .before .before .before .before .before .before .before .before .before .before .before .before .before .before .before .before .before .before .before .before .before .before .before .before .before .before .before .fits .a .fits) }
-
 arguments-of-requires : tie.Need-arguments-of-requires
 arguments-of-requires c κs = search needs
+
+add-push-frame : tie.Need-add-push-frame
+add-push-frame c =
+    let pre' = c .before .before .before .before .before .before .before .before .before .before .before .before .before .before .before .before .before .before .before .before .before .before .before .before .before .before .before .before .before .before .before .before .before .before .before .pre in
+    let thread-at' = c .before .before .before .before .before .before .before .before .before .before .before .before .before .before .before .before .before .before .before .before .before .before .before .before .thread-at in
+    let low : thread-at' .result .base < 1024 = rw (thread-seen (pre' .seated .sized) [] [] (c .before .before .before .before .before .before .before .before .before .before .before .before .before .before .before .before .before .before .before .before .before .before .before .before .before .before .before .before .before .before .before .before .before .before .before .args .t) (thread-at' .result) (pre' .seated .number) (thread-at' .ensures)) (pre' .seated .base) in
+    record { fits = omega (arith, c .before .before .before .before .before .before .before .before .before .before .before .before .before .before .before .before .before .before .before .before .before .before .before .before .before .before .before .before .before .before .before .before .before .before .before .fits .a .fits) }
 
 push-frame-requires : tie.Need-push-frame-requires
 push-frame-requires c κs = search needs
@@ -162,45 +136,40 @@ put-free-threads-requires c κs = search needs
 
 place-child-requires : tie.Need-place-child-requires
 place-child-requires c κs =
-    let pre' = c .before .before .before .before .before .before .before .before .before .before .before .before .before .before .before .before .before .before .before .before .before .before .before .before .before .before .before .before .before .before .before .before .before .before .before .before .before .before .before .before .before .before .before .before .before .before .before .before .before .before .before .before .before .before .before .before .before .before .before .before .before .before .before .before .before .pre in
+    let pre' = c .before .before .before .before .before .before .before .before .before .before .before .before .before .before .before .before .before .before .before .before .before .before .before .before .before .before .before .before .before .before .before .before .before .before .before .before .before .before .before .before .before .before .before .before .before .before .before .before .before .before .before .pre in
     let l = (pre' .seated .sized) in
-    let l1 = c .before .before .before .before .before .before .before .before .before .before .before .before .before .before .before .before .before .before .before .before .before .before .before .before .before .before .before .before .before .before .before .before .put-thread .ensures .sized ∙ l in
-    let l2 = c .before .before .before .before .before .before .before .before .before .before .before .before .before .before .before .before .before .before .before .before .before .before .before .before .before .put-thread2 .ensures .sized ∙ l1 in
+    let l2 = c .before .before .before .before .before .before .before .before .before .before .before .before .before .before .before .before .before .before .before .before .before .before .before .before .before .put-records .ensures .sized ∙ l in
     let l3 = c .before .before .before .before .before .before .before .before .before .before .before .before .before .before .before .before .before .before .before .before .before .charge .ensures .sized ∙ l2 in
     let l4 = c .before .before .before .before .before .before .before .before .before .before .before .before .before .before .before .push-frame .ensures .0 .sized ∙ l3 in
     let l5 = c .before .before .before .before .before .before .before .before .keep-stacklets .ensures .sized ∙ l4 in
     let l6 = c .before .before .before .put-free-threads .ensures .sized ∙ l5 in
     (l6, pre' .seated .core)
 
+same-length-3 : tie.Need-same-length-3
+same-length-3 c = search needs
+
 same-length-4 : tie.Need-same-length-4
-same-length-4 c =
-    c .before .before .place-child .ensures .sized ∙ c .before .before .before .before .before .before .put-free-threads .ensures .sized ∙ c .before .before .before .before .before .before .before .before .before .before .before .keep-stacklets .ensures .sized ∙ c .before .before .before .before .before .before .before .before .before .before .before .before .before .before .before .before .before .before .push-frame .ensures .0 .sized ∙ c .before .before .before .before .before .before .before .before .before .before .before .before .before .before .before .before .before .before .before .before .before .before .before .before .charge .ensures .sized ∙ c .before .before .before .before .before .before .before .before .before .before .before .before .before .before .before .before .before .before .before .before .before .before .before .before .before .before .before .before .put-thread2 .ensures .sized ∙ c .before .before .before .before .before .before .before .before .before .before .before .before .before .before .before .before .before .before .before .before .before .before .before .before .before .before .before .before .before .before .before .before .before .before .before .put-thread .ensures .sized
+same-length-4 c = search needs
 
-same-length-5 : tie.Need-same-length-5
-same-length-5 c = search needs
-
-returns-4 : tie.Need-returns-4
+returns-3 : tie.Need-returns-3
 unfolding meaning
-returns-4 c =
-    let args' = c .before .before .before .before .before .before .before .before .before .before .before .before .before .before .before .before .before .before .before .before .before .before .before .before .before .before .before .before .before .before .before .before .before .before .before .before .before .before .before .before .before .before .before .before .before .before .before .before .before .before .before .before .before .before .before .before .before .before .before .before .before .before .before .before .before .before .before .before .args in
-    let pre' = c .before .before .before .before .before .before .before .before .before .before .before .before .before .before .before .before .before .before .before .before .before .before .before .before .before .before .before .before .before .before .before .before .before .before .before .before .before .before .before .before .before .before .before .before .before .before .before .before .before .before .before .before .before .before .before .before .before .before .before .before .before .before .before .before .before .before .before .before .pre in
-    let free-threads' = c .before .before .before .before .before .before .before .before .before .before .before .before .before .before .before .before .before .before .before .before .before .before .before .before .before .before .before .before .before .before .before .before .before .before .before .before .before .before .before .before .before .before .before .before .before .before .before .before .before .before .before .before .before .before .before .before .before .before .before .before .before .before .before .free-threads in
-    let dequeue' = c .before .before .before .before .before .before .before .before .before .before .before .before .before .before .before .before .before .before .before .before .before .before .before .before .before .before .before .before .before .before .before .before .before .before .before .before .before .before .before .before .before .before .before .before .before .before .before .before .before .before .before .before .before .before .before .before .before .before .before .before .before .before .dequeue in
-    let first' = c .before .before .before .before .before .before .before .before .before .before .before .before .before .before .before .before .before .before .before .before .before .before .before .before .before .before .before .before .before .before .before .before .before .before .before .before .before .before .before .before .before .before .before .before .before .before .before .before .before .before .before .before .before .before .before .before .before .before .before .before .first in
-    let thread-at' = c .before .before .before .before .before .before .before .before .before .before .before .before .before .before .before .before .before .before .before .before .before .before .before .before .before .before .before .before .before .before .before .before .before .before .before .before .before .before .before .before .before .before .before .before .before .before .before .before .before .before .before .before .before .before .before .before .before .thread-at in
-    let slots-of' = c .before .before .before .before .before .before .before .before .before .before .before .before .before .before .before .before .before .before .before .before .before .before .before .before .before .before .before .before .before .before .before .before .before .before .before .before .before .before .before .before .before .before .before .before .before .before .before .before .before .before .before .before .before .before .before .before .slots-of in
-    let goes-above' = c .before .before .before .before .before .before .before .before .before .before .before .before .before .before .before .before .before .before .before .before .before .before .before .before .before .before .before .before .before .before .before .before .before .before .before .before .before .before .before .before .before .before .before .before .before .before .before .before .before .before .before .before .before .goes-above in
-    let free-stacklets' = c .before .before .before .before .before .before .before .before .before .before .before .before .before .before .before .before .before .before .before .before .before .before .before .before .before .before .before .before .before .before .before .before .before .before .before .before .before .before .before .before .before .before .before .before .before .before .before .before .before .before .before .free-stacklets in
-    let dequeue2' = c .before .before .before .before .before .before .before .before .before .before .before .before .before .before .before .before .before .before .before .before .before .before .before .before .before .before .before .before .before .before .before .before .before .before .before .before .before .before .before .before .before .before .before .before .before .before .before .before .before .before .dequeue2 in
-    let find-place' = c .before .before .before .before .before .before .before .before .before .before .before .before .before .before .before .before .before .before .before .before .before .before .before .before .before .before .before .before .before .before .before .before .before .before .before .before .before .before .before .before .before .before .before .before .before .before .before .before .before .find-place in
-    let spot' = c .before .before .before .before .before .before .before .before .before .before .before .before .before .before .before .before .before .before .before .before .before .before .before .before .before .before .before .before .before .before .before .before .before .before .before .before .before .before .before .before .before .before .before .before .before .before .before .spot in
-    let next-base' = c .before .before .before .before .before .before .before .before .before .before .before .before .before .before .before .before .before .before .before .before .before .before .before .before .before .before .before .before .before .before .before .before .before .before .before .before .before .before .before .next-base in
-    let behind-fork' = c .before .before .before .before .before .before .before .before .before .before .before .before .before .before .before .before .before .before .before .before .before .before .before .before .before .before .before .before .before .before .before .before .before .before .before .before .behind-fork in
-    let put-thread' = c .before .before .before .before .before .before .before .before .before .before .before .before .before .before .before .before .before .before .before .before .before .before .before .before .before .before .before .before .before .before .before .before .before .before .before .put-thread in
-    let new-thread' = c .before .before .before .before .before .before .before .before .before .before .before .before .before .before .before .before .before .before .before .before .before .before .before .before .before .before .before .before .before .new-thread in
-    let put-thread2' = c .before .before .before .before .before .before .before .before .before .before .before .before .before .before .before .before .before .before .before .before .before .before .before .before .before .before .before .before .put-thread2 in
+returns-3 c =
+    let args' = c .before .before .before .before .before .before .before .before .before .before .before .before .before .before .before .before .before .before .before .before .before .before .before .before .before .before .before .before .before .before .before .before .before .before .before .before .before .before .before .before .before .before .before .before .before .before .before .before .before .before .before .before .before .before .args in
+    let pre' = c .before .before .before .before .before .before .before .before .before .before .before .before .before .before .before .before .before .before .before .before .before .before .before .before .before .before .before .before .before .before .before .before .before .before .before .before .before .before .before .before .before .before .before .before .before .before .before .before .before .before .before .before .before .before .pre in
+    let free-threads' = c .before .before .before .before .before .before .before .before .before .before .before .before .before .before .before .before .before .before .before .before .before .before .before .before .before .before .before .before .before .before .before .before .before .before .before .before .before .before .before .before .before .before .before .before .before .before .before .before .before .free-threads in
+    let dequeue' = c .before .before .before .before .before .before .before .before .before .before .before .before .before .before .before .before .before .before .before .before .before .before .before .before .before .before .before .before .before .before .before .before .before .before .before .before .before .before .before .before .before .before .before .before .before .before .before .before .dequeue in
+    let first' = c .before .before .before .before .before .before .before .before .before .before .before .before .before .before .before .before .before .before .before .before .before .before .before .before .before .before .before .before .before .before .before .before .before .before .before .before .before .before .before .before .before .before .before .before .before .before .first in
+    let thread-at' = c .before .before .before .before .before .before .before .before .before .before .before .before .before .before .before .before .before .before .before .before .before .before .before .before .before .before .before .before .before .before .before .before .before .before .before .before .before .before .before .before .before .before .before .thread-at in
+    let slots-of' = c .before .before .before .before .before .before .before .before .before .before .before .before .before .before .before .before .before .before .before .before .before .before .before .before .before .before .before .before .before .before .before .before .before .before .before .before .before .before .before .before .before .before .slots-of in
+    let goes-above' = c .before .before .before .before .before .before .before .before .before .before .before .before .before .before .before .before .before .before .before .before .before .before .before .before .before .before .before .before .before .before .before .before .before .before .before .before .before .before .before .goes-above in
+    let free-stacklets' = c .before .before .before .before .before .before .before .before .before .before .before .before .before .before .before .before .before .before .before .before .before .before .before .before .before .before .before .before .before .before .before .before .before .before .before .before .before .free-stacklets in
+    let dequeue2' = c .before .before .before .before .before .before .before .before .before .before .before .before .before .before .before .before .before .before .before .before .before .before .before .before .before .before .before .before .before .before .before .before .before .before .before .before .dequeue2 in
+    let find-place' = c .before .before .before .before .before .before .before .before .before .before .before .before .before .before .before .before .before .before .before .before .before .before .before .before .before .before .before .before .before .before .before .before .before .before .before .find-place in
+    let spot' = c .before .before .before .before .before .before .before .before .before .before .before .before .before .before .before .before .before .before .before .before .before .before .before .before .before .before .before .before .before .before .before .before .before .spot in
+    let next-base' = c .before .before .before .before .before .before .before .before .before .before .before .before .before .before .before .before .before .before .before .before .before .before .before .before .before .before .before .before .before .before .next-base in
+    let put-records' = c .before .before .before .before .before .before .before .before .before .before .before .before .before .before .before .before .before .before .before .before .before .before .before .before .before .before .before .before .put-records in
     let charge' = c .before .before .before .before .before .before .before .before .before .before .before .before .before .before .before .before .before .before .before .before .before .before .before .before .charge in
-    let arguments-of' = c .before .before .before .before .before .before .before .before .before .before .before .before .before .before .before .before .before .before .before .arguments-of in
+    let arguments-of' = c .before .before .before .before .before .before .before .before .before .before .before .before .before .before .before .before .before .before .before .before .before .arguments-of in
     let push-frame' = c .before .before .before .before .before .before .before .before .before .before .before .before .before .before .before .before .before .before .push-frame in
     let keep-stacklets' = c .before .before .before .before .before .before .before .before .before .before .before .keep-stacklets in
     let put-free-threads' = c .before .before .before .before .before .before .put-free-threads in
@@ -211,28 +180,23 @@ returns-4 c =
     let vs = push-frame' .last .1 .0 in
     let n = first' .given .0 .0 in
     let x = spot' .given .0 .0 in
-    let cuts = cut-parts (th .window) (args' .e) _ _ _ (c .before .before .before .before .before .before .before .before .before .before .before .before .before .before .before .before .before .before .before .before .before .before .before .before .before .before .before .before .before .before .before .before .before .before .before .before .before .before .before .before .before .before .before .before .cut .ensures) (c .before .before .before .before .before .before .before .before .before .before .before .before .before .before .before .before .before .before .before .before .before .before .before .before .before .before .before .before .before .before .before .before .before .before .before .before .before .before .before .before .before .before .cut2 .given .1) in
-    let many : n < 32 = head-below (meaning (args' .tables .now) [] [] .freeThreads) 32 n (pre' .numbers) (sym (first-of _ _ _ (free-threads' .ensures .means l [] []) (dequeue' .ensures)) ∙ first' .given .1) in
     let low : x < 16 = spot-low (goes-above' .result) (th .base / 64) x (meaning (args' .tables .now) [] [] .freeStacklets) _ _ (let b : th .base < 1024 = rw same (pre' .seated .base) in omega arith) (pre' .stacklets) (first-of _ _ _ (free-stacklets' .ensures .means l [] []) (dequeue2' .ensures)) (find-place' .ensures) (spot' .given .1) in
-    let l1 = put-thread' .ensures .sized ∙ l in
-    let l2 = put-thread2' .ensures .sized ∙ l1 in
+    let l2 = put-records' .ensures .sized ∙ l in
     let l3 = charge' .ensures .sized ∙ l2 in
     let l4 = push-frame' .ensures .0 .sized ∙ l3 in
     let l5 = keep-stacklets' .ensures .sized ∙ l4 in
     let l6 = put-free-threads' .ensures .sized ∙ l5 in
-    let room = room-kept _ _ n (args' .weight) (2 ^ 32) (new-thread' .result) (thread-stored l1 [] [] n (new-thread' .result) many (put-thread2' .ensures)) (room-kept _ _ (args' .t) (args' .weight) (2 ^ 32) (behind-fork' .result) (thread-stored l [] [] (args' .t) (behind-fork' .result) (pre' .seated .number) (put-thread' .ensures)) (pre' .seated .units)) in
+    let room = room-kept _ _ (args' .kind) (args' .t) n (args' .next) (next-base' .result) (args' .weight) (2 ^ 32) th (asked (args' .r) (args' .d) 0 (args' .e)) (put-records' .ensures .means l [] []) (pre' .seated .units) in
     λ starts parameters memory allowance offset.
     born-by (jobOf (args' .image .now) starts parameters allowance) (meaning (args' .tables .now) ws memory) (turnWith (args' .c) (args' .t) th (args' .weight) (args' .next) offset) (asked (args' .r) (args' .d) (args' .a) (args' .e)) (args' .kind) _ _ _ (goes-above' .result) (dequeue' .result .first) (find-place' .result) (cond (goes-above' .result) (meaning (args' .tables .now) ws memory .freeStacklets) (restOf (meaning (args' .tables .now) ws memory .freeStacklets))) (meaning (args' .tables .now) ws memory .tops)
-    (first-of _ _ _ (free-threads' .ensures .means l ws memory) (dequeue' .ensures)) (first' .given .1) (c .before .before .before .before .before .before .before .before .before .before .before .before .before .before .before .before .before .before .before .before .before .before .before .before .before .before .before .before .before .before .before .before .before .before .before .before .before .before .before .before .before .before .before .before .before .before .before .before .before .before .before .before .before .before .slots-of2 .ensures) (slots-of' .ensures) refl
-    (goes-above' .ensures ws memory) (place-by _ _ _ _ _ (first-of _ _ _ (free-stacklets' .ensures .means l ws memory) (dequeue2' .ensures)) (find-place' .ensures)) x (spot' .given .1) _ _ _ _ _ _ _ _ (behind-fork' .result) (new-thread' .result) vs (contents (dequeue2' .result .queue)) (contents (dequeue' .result .queue)) (next-base' .result) (arguments-of' .result)
+    (first-of _ _ _ (free-threads' .ensures .means l ws memory) (dequeue' .ensures)) (first' .given .1) (c .before .before .before .before .before .before .before .before .before .before .before .before .before .before .before .before .before .before .before .before .before .before .before .before .before .before .before .before .before .before .before .before .before .before .before .before .before .before .before .before .slots-of2 .ensures) (slots-of' .ensures) refl
+    (goes-above' .ensures ws memory) (place-by _ _ _ _ _ (first-of _ _ _ (free-stacklets' .ensures .means l ws memory) (dequeue2' .ensures)) (find-place' .ensures)) x (spot' .given .1) _ _ _ _ _ _ _ _ _ _ vs (contents (dequeue2' .result .queue)) (contents (dequeue' .result .queue)) (next-base' .result) (arguments-of' .result)
     (with-words (args' .tables .now) ws vs memory)
-    (thread-stored l vs memory (args' .t) (behind-fork' .result) (pre' .seated .number) (put-thread' .ensures))
-    (thread-stored l1 vs memory n (new-thread' .result) many (put-thread2' .ensures))
+    refl (put-records' .ensures .means l vs memory)
     (charged (args' .weight) l2 room (charge' .ensures) vs memory)
     (frame-pushed l3 x (slots-of' .result) low vs memory _ (push-frame' .ensures .0))
     (keep-stacklets' .ensures .means l4 vs memory) (put-free-threads' .ensures .means l5 vs memory) (c .before .before .place-child .ensures .means l6 vs memory)
-    (parent-is _ th _ _ _ _ _ _ (behind-fork' .ensures .0 (pre' .result) (rw same (pre' .children))) (c .before .before .before .before .before .before .before .before .before .before .before .before .before .before .before .before .before .before .before .before .before .before .before .before .before .before .before .before .before .before .before .before .before .before .before .before .before .parent-status .ensures) (cuts .1))
-    (child-is _ _ _ _ _ _ _ _ _ _ _ (new-thread' .ensures) (c .before .before .before .before .before .before .before .before .before .before .before .before .before .before .before .before .before .before .before .before .before .before .before .before .before .before .before .before .before .before .before .child-status .ensures) (c .before .before .before .before .before .before .before .before .before .before .before .before .before .before .before .before .before .before .before .before .before .before .before .before .before .before .before .before .before .before .is-connected .ensures) (cuts .0))
+    refl refl
     (base-found l x 0 low ws memory (next-base' .result) (next-base' .ensures)) (arguments-of' .ensures)
     (frame-laid l3 x (slots-of' .result) low vs memory _ _ _ (push-frame' .ensures .1))
     (rest-of _ _ _ (free-stacklets' .ensures .means l ws memory) (dequeue2' .ensures)) (rest-of _ _ _ (free-threads' .ensures .means l ws memory) (dequeue' .ensures)) refl
@@ -260,26 +224,15 @@ fork-spec =
     enum-told-2
     same-length-2
     returns-2
-    cut-requires
-    enum-known-cut
-    enum-told-3
-    same-length-3
-    returns-3
     next-base-requires
-    parent-status-requires
-    behind-fork-requires
-    put-thread-requires
-    child-status-requires
-    is-connected-requires
-    new-thread-requires
-    put-thread-requires-2
+    put-records-requires
     charge-requires
-    add-push-frame
     arguments-of-requires
+    add-push-frame
     push-frame-requires
     keep-stacklets-requires
     put-free-threads-requires
     place-child-requires
+    same-length-3
     same-length-4
-    same-length-5
-    returns-4)
+    returns-3)
