@@ -7,10 +7,11 @@ use Prim.Native.Nat.{ℕ, zero, suc, _≤_, _<_}
 use native.Mathlib.Omega.{arith}
 use lib.Dec.{eqb}
 use lib.ListN.{List·getD-eq-default}
+use Rattle.stacklets.specs.Tops.{topAt}
 use Rattle.thread.specs.Thread.{statusNumber, blankThread}
 use Rattle.rules.specs.State.{Job, State, threadAt}
 use Rattle.rules.specs.Lists.{Every}
-use Rattle.rules.specs.Sound.{Sound, Used, statusAt, isChild, childrenAmong}
+use Rattle.rules.specs.Sound.{Sound, Used, Unused, statusAt, isChild, childrenAmong}
 use Rattle.entries.specs.Given.{HeadBelow}
 
 lt-or-le : (x c : ℕ) → (x < c) ⊎ (c ≤ x)
@@ -39,6 +40,10 @@ module _ (j : Job) (s : State) (ok : Sound j s) where
   -- so is the first free number
   pub free-first : HeadBelow 32 (s .freeThreads)
   free-first = first-below (λ t. (t < 32) × (statusAt s t ≡ 0)) 32 (s .freeThreads) (λ t e. e .0) (ok .freeThreads .free)
+
+  -- and the first free stacklet is one of 16
+  pub stacklet-first : HeadBelow 16 (s .freeStacklets)
+  stacklet-first = first-below (λ x. (x < 16) × (topAt (s .tops) x ≡ 0) × Unused s x) 16 (s .freeStacklets) (λ x e. e .0) (ok .freeStacklets .free)
 
   -- a connected thread's parent is in use
   pub linked-below : (t : ℕ) → threadAt s t .connected ≡ true → threadAt s t .parent < 32

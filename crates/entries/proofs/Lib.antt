@@ -2,3 +2,4 @@ pub mod Able
 pub mod Chains
 pub mod Born
 pub mod Ended
+pub mod Stealing

@@ -4,12 +4,18 @@ use mathlib.Core.List.{List, [], _∷_}
 use mathlib.Core.Path.{_≡_}
 use Prim.Native.Nat.{ℕ, _+_, _≤_, _<_, _^_}
 use lib.ListN.{length}
+use Rattle.image.specs.Layout.{argumentsOf}
 use Rattle.queue.specs.declared.Front.{Front}
 use Rattle.queue.specs.declared.Front.the-variants.{Number, Nothing}
 use Rattle.window.specs.Rights.{childOf, restOf}
+use Rattle.stacklets.specs.Frames.{slotOf}
 use Rattle.thread.specs.declared.Thread.{Thread}
-use Rattle.thread.specs.Thread.{newThread, behindFork}
-use Rattle.rules.specs.State.{Job, State, After, threadAt}
+use Rattle.thread.specs.declared.Effect.{Effect}
+use Rattle.thread.specs.declared.Effect.the-variants.{Faults, Sets, Loads, Stores, Goes, Continues, Lforks, Forks, Joins, Suspends, Yields, Returns}
+use Rattle.thread.specs.Effect.{forking}
+use Rattle.thread.specs.View.{viewOf}
+use Rattle.thread.specs.Thread.{newThread, behindFork, isPending}
+use Rattle.rules.specs.State.{Job, jobOf, State, After, threadAt}
 use Rattle.rules.specs.Update.{setThread, setFreeStacklets, setReady}
 use Rattle.rules.specs.Turn.{Turn}
 use Rattle.rules.specs.Return.{stackletsWithout, readyAfter}
@@ -103,3 +109,30 @@ wakesUp connected q p s = setReady (readyAfter connected q p (s .ready)) s
 abbrev pub placeBy : Front → List ℕ → Place
 placeBy (Number x) xs = onStacklet x xs
 placeBy Nothing xs = nowhere
+
+-- the effect of a fork's operands on a thread, whichever of the two forks it is
+abbrev pub seedOf : List ℕ → List ℕ → Thread → ℕ → ℕ → ℕ → ℕ → Effect
+seedOf image words h r d a w =
+    forking (argumentsOf image) (viewOf (slotOf words (h .base)) (isPending (h .pending)) (h .window)) r d a w (Forks r d a (slotOf words (h .base) w))
+
+-- what carrying out a seed relies on: it forks, or it faults
+abbrev pub Seed : List ℕ → ℕ → ℕ → ℕ → Effect → Type 0
+Seed xs c t weight (Faults n) = length xs ≡ size
+Seed xs c t weight (Sets d v) = ⊥
+Seed xs c t weight (Loads d a) = ⊥
+Seed xs c t weight (Stores a v) = ⊥
+Seed xs c t weight (Goes p) = ⊥
+Seed xs c t weight Continues = ⊥
+Seed xs c t weight (Lforks r d a e) = ⊥
+Seed xs c t weight (Forks r d a e) = Forking xs c t weight d e
+Seed xs c t weight Joins = ⊥
+Seed xs c t weight Suspends = ⊥
+Seed xs c t weight Yields = ⊥
+Seed xs c t weight (Returns v) = ⊥
+
+-- what a steal relies on: a sound state, with some parameter words and memory
+pub record Stealing (image starts : List ℕ) (allowance : ℕ) (xs words : List ℕ) : Type 0 where
+  pub sized : length xs ≡ size
+  pub parameters : List ℕ
+  pub memory : List ℕ
+  pub sound : Sound (jobOf image starts parameters allowance) (meaning xs words memory)

@@ -5,4 +5,5 @@ mod fork;
 mod leave;
 mod parts;
 mod returning;
+pub mod steal;
 pub mod take;

@@ -184,8 +184,8 @@ fn lfork(
     fork_if_allowed(image, pending, window, routine, d, a, w, e, forks)
 }
 
-// 09: a fork, its cut in slot w.
-fn fork(
+// 09: a fork, its cut in slot w. A steal asks this of either fork, so that `effect` has one caller and is put in line there.
+pub fn fork(
     image: &[u8],
     words: &[u32],
     base: u16,
