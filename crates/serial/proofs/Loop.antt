@@ -31,13 +31,14 @@ use Rattle.serial.proofs.CommandMet.{met, weighs, slots-few, next-small
 use Rattle.serial.proofs.Unrolled.{Between, ended, between, between-done}
 use Rattle.serial.proofs.Turns.{Calls, wide-here, turn-22, turn-goes, turn-joins, turn-stops, turn-returns, turn-calls}
 
--- what is left of the run gives what the whole run from l₀ on gives
-pub record Far (j : Job) (depth : ℕ) (m₀ : List ℕ) (l₀ : Routine) (u₀ : ℕ) (m : List ℕ) (l : Routine) (u : ℕ) : Type 0 where
+-- what is left of the run gives what the whole run gives
+pub record Far (j : Job) (depth : ℕ) (whole : Ended) (m : List ℕ) (l : Routine) (u : ℕ) : Type 0 where
   pub ready : Ready j l m u depth
-  pub is : runFrom j (33 - depth) l m u ≡ runFrom j (33 - depth) l₀ m₀ u₀
+  pub is : runFrom j (33 - depth) l m u ≡ whole
 
 pub far-starts : (j : Job) (depth : ℕ) (m : List ℕ) (r : ℕ) (arguments : List ℕ) (w : Window) (u : ℕ) (slots : List ℕ) → slots ≡ firstSlots arguments
-    → Ready j (startedOn r arguments w) m u depth → Far j depth m (startedOn r arguments w) u m (openAt r 0 0 w slots) u
+    → Ready j (startedOn r arguments w) m u depth
+    → Far j depth (runFrom j (33 - depth) (startedOn r arguments w) m u) m (openAt r 0 0 w slots) u
 far-starts j depth m r arguments w u slots e x = rw e (record { ready = x; is = refl })
 
 -- carrying out a fork: too deep, and else
@@ -97,9 +98,62 @@ length-after m Suspends = refl
 length-after m Yields = refl
 length-after m (Returns v) = refl
 
-module _ {j : Job} {depth : ℕ} {m₀ : List ℕ} {l₀ : Routine} {u₀ : ℕ} {m : List ℕ} {l : Routine} {u : ℕ} (far : Far j depth m₀ l₀ u₀ m l u) where
+-- the command that is met, as the code reads it
+module _ (j : Job) (l : Routine) (code p : ℕ) (code-is : code ≡ getD (j .starts) (l .routine) 0) (p-is : p ≡ l .position)
+    (five : List ℕ) (five-are : five ≡ fiveAt (j .image) (code + p)) where
+  pub cost-met : (weights : List ℕ) → weights ≡ j .weights → (cost : ℕ) → cost ≡ weightOf weights (getD five 0 0) → cost ≡ weightAt j l
+  cost-met weights w cost c = c ∙ rw (w, five-are, code-is, p-is)
+
+  pub effect-met : (command : _) → command ≡ decodedAt five 0 → (e : Effect)
+      → e ≡ effectOf (argumentsOf (j .image)) (viewOf (slotOf (l .slots) 0) (isPending (l .pending)) (l .window)) command → e ≡ effectAt j l
+  unfolding effectAt
+  effect-met command c e x = x ∙ rw (c, five-are, code-is, p-is)
+
+module _ {j : Job} {depth : ℕ} {whole : Ended} {m : List ℕ} {l : Routine} {u cost : ℕ} (far : Far j depth whole m l u) (cost-is : cost ≡ weightAt j l) where
+  pub some-cost : 1 ≤ cost
+  some-cost = rw cost-is (weighs j (far .ready .job) l (far .ready .routine))
+
+  pub unpaid : j .allowance - u < cost → stopped 22 m u ≡ whole
+  unpaid h = turn-22 j (33 - depth) l m u (far .ready .job) (far .ready .routine) (omega (arith, cost-is)) ∙ far .is
+
+-- a command's weight, which is paid for, and its effect
+pub record Met (j : Job) (depth : ℕ) (whole : Ended) (m : List ℕ) (l : Routine) (u cost : ℕ) (e : Effect) : Type 0 where
+  pub far : Far j depth whole m l u
+  pub weight : cost ≡ weightAt j l
+  pub paid : cost ≤ j .allowance - u
+  pub effect : e ≡ effectAt j l
+
+-- what the code has once the effect is carried out: what it leaves to the run, the slots and the memory words
+pub record Turn (j : Job) (depth : ℕ) (whole : Ended) (m : List ℕ) (l : Routine) (u cost : ℕ) (e : Effect) (k : Ask) (slots' m' : List ℕ) : Type 0 where
+  pub met : Met j depth whole m l u cost e
+  pub asked : k ≡ askedOf e (l .position)
+  pub slots : slots' ≡ slotsAfter (j .parameters) m (l .slots) e
+  pub memory : m' ≡ memoryAfter m e
+
+module _ {j : Job} {depth : ℕ} {whole : Ended} {m : List ℕ} {l : Routine} {u cost : ℕ} {e : Effect} (x : Met j depth whole m l u cost e) where
+  paid-weight : weightAt j l ≤ j .allowance - u
+  paid-weight = omega (arith, x .weight, x .paid)
+
+  pub paid-units : u + cost ≤ j .allowance
+  paid-units = omega (arith, x .paid, x .far .ready .paid)
+
+  pub reach : (length (j .parameters) ≡ 32) × (length m ≡ 992) × InReach e × (l .position + bytesBy e < 65536)
+  reach =
+      let g = x .far .ready .job in
+      let w = x .far .ready .routine in (
+        g .parameters,
+        x .far .ready .memory,
+        rw (x .effect) (met j g l w .reach),
+        bytes-below (l .position) _ 65536 e (wide-here j (33 - depth) l m u g w paid-weight e (x .effect)) (next-small j g l w),
+      )
+
+module _ {j : Job} {depth : ℕ} {whole : Ended} {m : List ℕ} {l : Routine} {u cost : ℕ} {e : Effect} {k : Ask} {slots m' : List ℕ}
+    (t : Turn j depth whole m l u cost e k slots m') where
   abbrev n : ℕ
   n = 33 - depth
+
+  far : Far j depth whole m l u
+  far = t .met .far
 
   good : GoodJob j
   good = far .ready .job
@@ -107,149 +161,121 @@ module _ {j : Job} {depth : ℕ} {m₀ : List ℕ} {l₀ : Routine} {u₀ : ℕ}
   well : GoodRoutine j l
   well = far .ready .routine
 
-  -- the command that is met, as the code reads it
-  module _ (code p : ℕ) (code-is : code ≡ getD (j .starts) (l .routine) 0) (p-is : p ≡ l .position) (five : List ℕ) (five-are : five ≡ fiveAt (j .image) (code + p)) where
-    pub cost-met : (weights : List ℕ) → weights ≡ j .weights → (cost : ℕ) → cost ≡ weightOf weights (getD five 0 0) → cost ≡ weightAt j l
-    cost-met weights w cost c = c ∙ rw (w, five-are, code-is, p-is)
+  cost-is : cost ≡ weightAt j l
+  cost-is = t .met .weight
 
-    pub effect-met : (command : _) → command ≡ decodedAt five 0 → (e : Effect)
-        → e ≡ effectOf (argumentsOf (j .image)) (viewOf (slotOf (l .slots) 0) (isPending (l .pending)) (l .window)) command → e ≡ effectAt j l
-    unfolding effectAt
-    effect-met command c e x = x ∙ rw (c, five-are, code-is, p-is)
+  paid : weightAt j l ≤ j .allowance - u
+  paid = paid-weight (t .met)
 
-  module _ (cost : ℕ) (cost-is : cost ≡ weightAt j l) where
-    pub some-cost : 1 ≤ cost
-    some-cost = rw cost-is (weighs j good l well)
+  same-length : length m' ≡ 992
+  same-length = ap length (t .memory) ∙ length-after m e ∙ far .ready .memory
 
-    pub unpaid : j .allowance - u < cost → stopped 22 m u ≡ runFrom j n l₀ m₀ u₀
-    unpaid h = turn-22 j n l m u good well (omega (arith, cost-is)) ∙ far .is
+  -- the run goes on from another routine
+  far-on : (l' : Routine) → (runFrom j n l' (memoryAfter m e) (u + weightAt j l) ≡ runFrom j n l m u) × GoodRoutine j l'
+      → Far j depth whole m' l' (u + cost)
+  far-on l' x = record {
+    ready = record {
+      job = good;
+      routine = x .1;
+      memory = same-length;
+      paid = paid-units (t .met);
+      some = far .ready .some;
+      most = far .ready .most;
+    };
+    is = rw (t .memory, cost-is) (x .0 ∙ far .is);
+  }
 
-    module _ (paid : cost ≤ j .allowance - u) (e : Effect) (e-is : e ≡ effectAt j l) where
-      paid-weight : weightAt j l ≤ j .allowance - u
-      paid-weight = omega (arith, cost-is, paid)
+  pub goes-again : (p : ℕ) → k ≡ GoOn p → Far j depth whole m' (openAt (l .routine) p (l .pending) (l .window) slots) (u + cost)
+  goes-again p h = far-on _ (rw (t .slots) (turn-goes j n l m u good well paid e (t .met .effect) p (sym (t .asked) ∙ h)))
 
-      pub paid-units : u + cost ≤ j .allowance
-      paid-units = omega (arith, paid, far .ready .paid)
+  pub join-fits : k ≡ Join → l .position + 1 < 65536
+  join-fits h = omega (arith, turn-joins j n l m u good well paid e (t .met .effect) (sym (t .asked) ∙ h) .2, next-small j good l well)
 
-      pub reach : (length (j .parameters) ≡ 32) × (length m ≡ 992) × InReach e × (l .position + bytesBy e < 65536)
-      reach = (
-        good .parameters,
-        far .ready .memory,
-        rw e-is (met j good l well .reach),
-        bytes-below (l .position) _ 65536 e (wide-here j n l m u good well paid-weight e e-is) (next-small j good l well),
-      )
+  pub joins-again : (w : Window) → w ≡ rejoined (l .window) → k ≡ Join
+      → Far j depth whole m' (openAt (l .routine) (l .position + 1) 0 w slots) (u + cost)
+  joins-again w f h =
+      let x = turn-joins j n l m u good well paid e (t .met .effect) (sym (t .asked) ∙ h) in
+      far-on _ (rw (t .slots, f) (x .0, x .1))
 
-      module _ (k : Ask) (asked : k ≡ askedOf e (l .position)) (slots m' : List ℕ)
-          (slots-are : slots ≡ slotsAfter (j .parameters) m (l .slots) e) (memory-is : m' ≡ memoryAfter m e) where
-        same-length : length m' ≡ 992
-        same-length = ap length memory-is ∙ length-after m e ∙ far .ready .memory
+  pub stops-run : (x : ℕ) → k ≡ Stop x → stopped x m' u ≡ whole
+  stops-run x h = rw (t .memory) (turn-stops j n l m u good well paid e (t .met .effect) x (sym (t .asked) ∙ h) ∙ far .is)
 
-        -- the run goes on from another routine
-        far-on : (l' : Routine) → (runFrom j n l' (memoryAfter m e) (u + weightAt j l) ≡ runFrom j n l m u) × GoodRoutine j l'
-            → Far j depth m₀ l₀ u₀ m' l' (u + cost)
-        far-on l' x = record {
-          ready = record {
-            job = good;
-            routine = x .1;
-            memory = same-length;
-            paid = paid-units;
-            some = far .ready .some;
-            most = far .ready .most;
-          };
-          is = rw (memory-is, cost-is) (x .0 ∙ far .is);
-        }
+  pub returns-run : (v : ℕ) → k ≡ Return v → done v m' (u + cost) ≡ whole
+  returns-run v h = rw (t .memory, cost-is) (turn-returns j n l m u good well paid e (t .met .effect) v (sym (t .asked) ∙ h) ∙ far .is)
 
-        pub goes-again : (p : ℕ) → k ≡ GoOn p → Far j depth m₀ l₀ u₀ m' (openAt (l .routine) p (l .pending) (l .window) slots) (u + cost)
-        goes-again p h = far-on _ (rw slots-are (turn-goes j n l m u good well paid-weight e e-is p (sym asked ∙ h)))
+  -- a child runs first
+  module _ (c r d a : ℕ) (h : k ≡ Call c r d a) where
+    called : (runFrom j n l m u ≡ forkCalled j (runFrom j) n l r d a c m u) × Calls j n l m u c r d a e
+    called = turn-calls j n l m u good well paid e (t .met .effect) c r d a (sym (t .asked) ∙ h)
 
-        pub join-fits : k ≡ Join → l .position + 1 < 65536
-        join-fits h = omega (arith, turn-joins j n l m u good well paid-weight e e-is (sym asked ∙ h) .2, next-small j good l well)
+    same-slots : slots ≡ l .slots
+    same-slots = t .slots ∙ called .1 .slots
 
-        pub joins-again : (w : Window) → w ≡ rejoined (l .window) → k ≡ Join
-            → Far j depth m₀ l₀ u₀ m' (openAt (l .routine) (l .position + 1) 0 w slots) (u + cost)
-        joins-again w f h =
-            let x = turn-joins j n l m u good well paid-weight e e-is (sym asked ∙ h) in
-            far-on _ (rw (slots-are, f) (x .0, x .1))
+    same-memory : m' ≡ m
+    same-memory = t .memory ∙ called .1 .memory
 
-        pub stops-run : (x : ℕ) → k ≡ Stop x → stopped x m' u ≡ runFrom j n l₀ m₀ u₀
-        stops-run x h = rw memory-is (turn-stops j n l m u good well paid-weight e e-is x (sym asked ∙ h) ∙ far .is)
+    pub call-ready : ForkReady j slots (l .window) c r a m' u cost depth
+    call-ready = record {
+      job = good;
+      routine = rw same-slots (called .1 .child);
+      sixteen = ap length same-slots ∙ well .slots;
+      arguments = omega (arith, called .1 .asks .arguments, slots-few j good l well);
+      cut = called .1 .asks .high;
+      memory = same-length;
+      paid = paid-units (t .met);
+      some = far .ready .some;
+      most = far .ready .most;
+    }
 
-        pub returns-run : (v : ℕ) → k ≡ Return v → done v m' (u + cost) ≡ runFrom j n l₀ m₀ u₀
-        returns-run v h = rw (memory-is, cost-is) (turn-returns j n l m u good well paid-weight e e-is v (sym asked ∙ h) ∙ far .is)
+    pub call-slot : d < 16
+    call-slot = omega (arith, called .1 .asks .result, slots-few j good l well)
 
-        -- a child runs first
-        module _ (c r d a : ℕ) (h : k ≡ Call c r d a) where
-          called : (runFrom j n l m u ≡ forkCalled j (runFrom j) n l r d a c m u) × Calls j n l m u c r d a e
-          called = turn-calls j n l m u good well paid-weight e e-is c r d a (sym asked ∙ h)
+    pub call-cut : c ≤ l .window .hi
+    call-cut = called .1 .asks .high
 
-          same-slots : slots ≡ l .slots
-          same-slots = slots-are ∙ called .1 .slots
+    pub call-fits : l .position + 5 < 65536
+    call-fits = omega (arith, called .1 .five, next-small j good l well)
 
-          same-memory : m' ≡ m
-          same-memory = memory-is ∙ called .1 .memory
+    module _ (answer : SerialAnswer) (m'' : List ℕ)
+        (ran : endedBy answer m'' ≡ forkOf j n (childFrom (j .image) slots (l .window) c r a) m' u cost) where
+      abbrev onward : ℕ → List ℕ → ℕ → Ended
+      onward v x y = runFrom j n (withSlot d v (goesOn j (forked d c l))) x y
 
-          pub call-ready : ForkReady j slots (l .window) c r a m' u cost depth
-          call-ready = record {
-            job = good;
-            routine = rw same-slots (called .1 .child);
-            sixteen = ap length same-slots ∙ well .slots;
-            arguments = omega (arith, called .1 .asks .arguments, slots-few j good l well);
-            cut = called .1 .asks .high;
-            memory = same-length;
-            paid = paid-units;
-            some = far .ready .some;
-            most = far .ready .most;
-          }
+      abbrev child : Routine
+      child = childFrom (j .image) (l .slots) (l .window) c r a
 
-          pub call-slot : d < 16
-          call-slot = omega (arith, called .1 .asks .result, slots-few j good l well)
+      ran-here : endedBy answer m'' ≡ forkOf j n child m u (weightAt j l)
+      ran-here = rw (same-slots, same-memory, cost-is) at ran
 
-          pub call-cut : c ≤ l .window .hi
-          call-cut = called .1 .asks .high
+      led : andThen (endedBy answer m'') onward ≡ whole
+      led = ap (λ o. andThen o onward) ran-here
+          ∙ sym (fork-splits (leb 32 n) (stopped 26 m u) (runFrom j (suc n) child m (u + weightAt j l)) onward refl)
+          ∙ sym (called .0) ∙ far .is
 
-          pub call-fits : l .position + 5 < 65536
-          call-fits = omega (arith, called .1 .five, next-small j good l well)
+      -- it ended by a number
+      pub call-stops : (x u' : ℕ) → answer ≡ Stopped x u' → endedBy (Stopped x u') m'' ≡ whole
+      call-stops x u' s = rw s at led
 
-          module _ (answer : SerialAnswer) (m'' : List ℕ)
-              (ran : endedBy answer m'' ≡ forkOf j n (childFrom (j .image) slots (l .window) c r a) m' u cost) where
-            abbrev onward : ℕ → List ℕ → ℕ → Ended
-            onward v x y = runFrom j n (withSlot d v (goesOn j (forked d c l))) x y
+      module _ (v u' : ℕ) (s : answer ≡ Finished v u') where
+        pub call-units : (u + cost ≤ u') × (u' ≤ j .allowance) × (length m'' ≡ 992)
+        call-units =
+            let x = between-done {v = v} {m = m''} (subst (Between (u + weightAt j l) (j .allowance) (length m))
+            (sym ran-here ∙ ap (λ z. endedBy z m'') s)
+            (fork-bounded j (leb 32 n) (suc n) child m u (weightAt j l) (rw cost-is at (paid-units (t .met))))) in
+            (omega (arith, x .0, cost-is), x .1, x .2 ∙ far .ready .memory)
 
-            abbrev child : Routine
-            child = childFrom (j .image) (l .slots) (l .window) c r a
-
-            ran-here : endedBy answer m'' ≡ forkOf j n child m u (weightAt j l)
-            ran-here = rw (same-slots, same-memory, cost-is) at ran
-
-            whole : andThen (endedBy answer m'') onward ≡ runFrom j n l₀ m₀ u₀
-            whole = ap (λ o. andThen o onward) ran-here
-                ∙ sym (fork-splits (leb 32 n) (stopped 26 m u) (runFrom j (suc n) child m (u + weightAt j l)) onward refl)
-                ∙ sym (called .0) ∙ far .is
-
-            -- it ended by a number
-            pub call-stops : (x u' : ℕ) → answer ≡ Stopped x u' → endedBy (Stopped x u') m'' ≡ runFrom j n l₀ m₀ u₀
-            call-stops x u' s = rw s at whole
-
-            module _ (v u' : ℕ) (s : answer ≡ Finished v u') where
-              pub call-units : (u + cost ≤ u') × (u' ≤ j .allowance) × (length m'' ≡ 992)
-              call-units =
-                  let x = between-done {v = v} {m = m''} (subst (Between (u + weightAt j l) (j .allowance) (length m))
-                  (sym ran-here ∙ ap (λ z. endedBy z m'') s)
-                  (fork-bounded j (leb 32 n) (suc n) child m u (weightAt j l) (rw cost-is at paid-units))) in
-                  (omega (arith, x .0, cost-is), x .1, x .2 ∙ far .ready .memory)
-
-              pub call-again : (q : ℕ) (w : Window) (slots' : List ℕ) → q ≡ withPending (l .pending) d → w ≡ restOf (l .window) c → slots' ≡ set slots d v
-                  → Far j depth m₀ l₀ u₀ m'' (openAt (l .routine) (l .position + 5) q w slots') u'
-              call-again q w slots' f g i =
-                  let next : l .position + 5 ≡ nextOf j l = omega (arith, called .1 .five) in
-                  rw (f, g, i, same-slots, next) (record {
-                    ready = record {
-                      job = good;
-                      routine = called .1 .parent v;
-                      memory = call-units .2;
-                      paid = call-units .1;
-                      some = far .ready .some;
-                      most = far .ready .most;
-                    };
-                    is = rw s at whole;
-                  })
+        pub call-again : (q : ℕ) (w : Window) (slots' : List ℕ) → q ≡ withPending (l .pending) d → w ≡ restOf (l .window) c → slots' ≡ set slots d v
+            → Far j depth whole m'' (openAt (l .routine) (l .position + 5) q w slots') u'
+        call-again q w slots' f g i =
+            let next : l .position + 5 ≡ nextOf j l = omega (arith, called .1 .five) in
+            rw (f, g, i, same-slots, next) (record {
+              ready = record {
+                job = good;
+                routine = called .1 .parent v;
+                memory = call-units .2;
+                paid = call-units .1;
+                some = far .ready .some;
+                most = far .ready .most;
+              };
+              is = rw s at led;
+            })

@@ -1,6 +1,7 @@
 -- `serial::carry_fork` and `serial::run_routine`, which call each other, meet their contracts. The measure is the depth that is left, twice, and
 -- one more for the routine that runs; the loop's invariant is `Far`, and its measure what is left of the allowance. Assumes nothing.
-use mathlib.Core.Path.{refl, sym, _∙_}
+use mathlib.Core.Path.{_≡_, refl, sym, _∙_}
+use lib.ListN.{length}
 use native.Mathlib.Omega.{arith}
 use borrow.Author.Needs.{needs}
 use Prim.Native.Nat.{ℕ, suc, _<_, _+_, _-_}
@@ -11,18 +12,19 @@ use Rattle.command.proofs.five_at.Reads as five-at-reads
 use Rattle.command.proofs.weights.Reads as weights-reads
 use Rattle.image.proofs.routines.arguments_of.Reads as arguments-of-reads
 use Rattle.window.proofs.Window.rejoin.Reads as rejoin-reads
-use Rattle.thread.specs.Job.{jobOf}
+use Rattle.thread.specs.Job.{Job, jobOf}
 use Rattle.thread.proofs.effects.effect.Reads as effect-reads
 use Rattle.thread.proofs.pending.with_pending.Reads as with-pending-reads
-use Rattle.serial.specs.Serial.{startedOn}
+use Rattle.serial.specs.declared.Routine.{Routine}
+use Rattle.serial.specs.Serial.{Ended, startedOn, weightAt, runFrom}
 use Rattle.serial.specs.Steps.{openAt}
-use Rattle.serial.proofs.Loop.{Far, far-starts, fork-deep, fork-end, fork-ready, fork-runs, cost-met, effect-met, some-cost, unpaid, paid-units, reach, goes-again, join-fits, joins-again, stops-run, returns-run, call-ready, call-slot, call-cut, call-fits, call-stops, call-units, call-again}
+use Rattle.serial.proofs.Loop.{Met, Turn, Far, far-starts, fork-deep, fork-end, fork-ready, fork-runs, cost-met, effect-met, some-cost, unpaid, paid-units, reach, goes-again, join-fits, joins-again, stops-run, returns-run, call-ready, call-slot, call-cut, call-fits, call-stops, call-units, call-again}
 use Rattle.serial.proofs.carry_fork.Reads as carry-fork
 use Rattle.serial.proofs.carry_fork.Kinds as carry-fork-kinds
-use Rattle.serial.proofs.+carry_fork+run_routine.Lts-carry_fork as carry-fork-lts
+use Rattle.serial.proofs.+carry_fork+run_routine.Lts-carry_fork as fork
 use Rattle.serial.proofs.run_routine.Reads as run-routine
 use Rattle.serial.proofs.run_routine.Kinds as run-routine-kinds
-use Rattle.serial.proofs.+carry_fork+run_routine.Lts-run_routine as run-routine-lts
+use Rattle.serial.proofs.+carry_fork+run_routine.Lts-run_routine as lts
 use Rattle.serial.proofs.act.carry_out.Reads as carry-out-reads
 use Rattle.serial.proofs.act.code_start.Reads as code-start-reads
 use Rattle.serial.proofs.act.cost_of.Reads as cost-of-reads
@@ -57,1688 +59,9 @@ abbrev run-routine-below : ℕ → In 5 run-routine-kinds.ps
 run-routine-below t =
     and 5 run-routine-kinds.ps (falls 5 run-routine-kinds.ps _<_ μ-run-routine t) run-routine.Pre
 
-carry-fork-returns : (t : ℕ) → carry-fork-lts.Need-returns (
-  arguments-of-reads.Asked,
-  arguments-of-reads.Learnt,
-  wide-byte-reads.Asked,
-  wide-byte-reads.Learnt,
-  child-window-reads.Asked,
-  child-window-reads.Learnt,
-  run-routine-below t,
-  run-routine.Post,
-) (carry-fork-at t) carry-fork.Post
-carry-fork-returns t c = fork-deep _ _ _ _ _ _ (c .if1 .taken)
-
-carry-fork-arguments-of-requires : (t : ℕ) → carry-fork-lts.Need-arguments-of-requires (
-  arguments-of-reads.Asked,
-  arguments-of-reads.Learnt,
-  wide-byte-reads.Asked,
-  wide-byte-reads.Learnt,
-  child-window-reads.Asked,
-  child-window-reads.Learnt,
-  run-routine-below t,
-  run-routine.Post,
-) (carry-fork-at t) carry-fork.Post
-carry-fork-arguments-of-requires t c κs = search needs
-
-carry-fork-wide-byte-requires : (t : ℕ) → carry-fork-lts.Need-wide-byte-requires (
-  arguments-of-reads.Asked,
-  arguments-of-reads.Learnt,
-  wide-byte-reads.Asked,
-  wide-byte-reads.Learnt,
-  child-window-reads.Asked,
-  child-window-reads.Learnt,
-  run-routine-below t,
-  run-routine.Post,
-) (carry-fork-at t) carry-fork.Post
-carry-fork-wide-byte-requires t c κs = search needs
-
-carry-fork-add-end : (t : ℕ) → carry-fork-lts.Need-add-end (
-  arguments-of-reads.Asked,
-  arguments-of-reads.Learnt,
-  wide-byte-reads.Asked,
-  wide-byte-reads.Learnt,
-  child-window-reads.Asked,
-  child-window-reads.Learnt,
-  run-routine-below t,
-  run-routine.Post,
-) (carry-fork-at t) carry-fork.Post
-carry-fork-add-end t c = omega (arith, c .wide-byte .ensures .1)
-
-carry-fork-add-so-far : (t : ℕ) → carry-fork-lts.Need-add-so-far (
-  arguments-of-reads.Asked,
-  arguments-of-reads.Learnt,
-  wide-byte-reads.Asked,
-  wide-byte-reads.Learnt,
-  child-window-reads.Asked,
-  child-window-reads.Learnt,
-  run-routine-below t,
-  run-routine.Post,
-) (carry-fork-at t) carry-fork.Post
-carry-fork-add-so-far t c = omega (arith, c .before .before .before .before .before .before .before .pre .1 .paid)
-
-carry-fork-mul-run-routine : (t : ℕ) → carry-fork-lts.Need-mul-run-routine (
-  arguments-of-reads.Asked,
-  arguments-of-reads.Learnt,
-  wide-byte-reads.Asked,
-  wide-byte-reads.Learnt,
-  child-window-reads.Asked,
-  child-window-reads.Learnt,
-  run-routine-below t,
-  run-routine.Post,
-) (carry-fork-at t) carry-fork.Post
-carry-fork-mul-run-routine t c = search needs
-
-carry-fork-sub-run-routine : (t : ℕ) → carry-fork-lts.Need-sub-run-routine (
-  arguments-of-reads.Asked,
-  arguments-of-reads.Learnt,
-  wide-byte-reads.Asked,
-  wide-byte-reads.Learnt,
-  child-window-reads.Asked,
-  child-window-reads.Learnt,
-  run-routine-below t,
-  run-routine.Post,
-) (carry-fork-at t) carry-fork.Post
-carry-fork-sub-run-routine t c = omega arith
-
-carry-fork-part-run-routine-start : (t : ℕ) → carry-fork-lts.Need-part-run-routine-start (
-  arguments-of-reads.Asked,
-  arguments-of-reads.Learnt,
-  wide-byte-reads.Asked,
-  wide-byte-reads.Learnt,
-  child-window-reads.Asked,
-  child-window-reads.Learnt,
-  run-routine-below t,
-  run-routine.Post,
-) (carry-fork-at t) carry-fork.Post
-carry-fork-part-run-routine-start t c = omega arith
-
-carry-fork-part-run-routine-end : (t : ℕ) → carry-fork-lts.Need-part-run-routine-end (
-  arguments-of-reads.Asked,
-  arguments-of-reads.Learnt,
-  wide-byte-reads.Asked,
-  wide-byte-reads.Learnt,
-  child-window-reads.Asked,
-  child-window-reads.Learnt,
-  run-routine-below t,
-  run-routine.Post,
-) (carry-fork-at t) carry-fork.Post
-carry-fork-part-run-routine-end t c = omega (arith, fork-end _ _ _ _ _ _ _ _ _ _ (c .before .before .before .before .before .before .before .before .pre .1) _ (c .before .wide-byte .ensures .0 ∙ c .before .before .arguments-of .ensures))
-
-carry-fork-child-window-requires : (t : ℕ) → carry-fork-lts.Need-child-window-requires (
-  arguments-of-reads.Asked,
-  arguments-of-reads.Learnt,
-  wide-byte-reads.Asked,
-  wide-byte-reads.Learnt,
-  child-window-reads.Asked,
-  child-window-reads.Learnt,
-  run-routine-below t,
-  run-routine.Post,
-) (carry-fork-at t) carry-fork.Post
-carry-fork-child-window-requires t c κs = c .before .before .before .before .before .before .before .before .before .pre .1 .cut
-
-carry-fork-sub-run-routine-2 : (t : ℕ) → carry-fork-lts.Need-sub-run-routine-2 (
-  arguments-of-reads.Asked,
-  arguments-of-reads.Learnt,
-  wide-byte-reads.Asked,
-  wide-byte-reads.Learnt,
-  child-window-reads.Asked,
-  child-window-reads.Learnt,
-  run-routine-below t,
-  run-routine.Post,
-) (carry-fork-at t) carry-fork.Post
-carry-fork-sub-run-routine-2 t c = omega (arith, c .before .before .before .before .before .if1 .left)
-
-carry-fork-run-routine-requires : (t : ℕ) → carry-fork-lts.Need-run-routine-requires (
-  arguments-of-reads.Asked,
-  arguments-of-reads.Learnt,
-  wide-byte-reads.Asked,
-  wide-byte-reads.Learnt,
-  child-window-reads.Asked,
-  child-window-reads.Learnt,
-  run-routine-below t,
-  run-routine.Post,
-) (carry-fork-at t) carry-fork.Post
-carry-fork-run-routine-requires t c κs = (omega (arith, c .before .before .before .before .before .if1 .left), fork-ready _ _ _ _ _ _ _ _ _ _ (c .before .before .before .before .before .before .before .before .before .before .pre .1) _ (c .before .before .before .wide-byte .ensures .0 ∙ c .before .before .before .before .arguments-of .ensures) _ (c .child-window .ensures) _ refl _ refl (c .before .before .before .before .before .if1 .left))
-
-carry-fork-same-length : (t : ℕ) → carry-fork-lts.Need-same-length (
-  arguments-of-reads.Asked,
-  arguments-of-reads.Learnt,
-  wide-byte-reads.Asked,
-  wide-byte-reads.Learnt,
-  child-window-reads.Asked,
-  child-window-reads.Learnt,
-  run-routine-below t,
-  run-routine.Post,
-) (carry-fork-at t) carry-fork.Post
-carry-fork-same-length t c = search needs
-
-carry-fork-returns-2 : (t : ℕ) → carry-fork-lts.Need-returns-2 (
-  arguments-of-reads.Asked,
-  arguments-of-reads.Learnt,
-  wide-byte-reads.Asked,
-  wide-byte-reads.Learnt,
-  child-window-reads.Asked,
-  child-window-reads.Learnt,
-  run-routine-below t,
-  run-routine.Post,
-) (carry-fork-at t) carry-fork.Post
-carry-fork-returns-2 t c = fork-runs _ _ _ _ _ _ _ _ _ _ (c .before .before .before .before .before .before .before .before .before .before .before .before .before .pre .1) _ (c .before .before .before .before .before .before .wide-byte .ensures .0 ∙ c .before .before .before .before .before .before .before .arguments-of .ensures) _ (c .before .before .before .child-window .ensures) _ refl _ (c .before .before .before .before .before .before .before .before .if1 .left) (c .before .before .run-routine .ensures)
-
-abbrev run-routine-Inv-loop : run-routine-lts.InvT-loop
-run-routine-Inv-loop image starts parameters memory₀ routine arguments allowance before depth weights code position₀ pending₀ window₀ slots₀ units₀ memory position pending window slots units =
-    Far (jobOf image starts parameters allowance) depth memory₀ (startedOn routine arguments window₀) before memory (openAt routine position pending window slots) units
-
-abbrev run-routine-μ-loop : run-routine-lts.MeasureT-loop
-run-routine-μ-loop image starts parameters memory₀ routine arguments allowance before depth weights code position₀ pending₀ window₀ slots₀ units₀ memory position pending window slots units =
-    suc allowance - units
-
-run-routine-weights-requires : (t : ℕ) → run-routine-lts.Need-weights-requires (
-  weights-reads.Asked,
-  weights-reads.Learnt,
-  code-start-reads.Asked,
-  code-start-reads.Learnt,
-  lay-reads.Asked,
-  lay-reads.Learnt,
-  wide-reads.Asked,
-  wide-reads.Learnt,
-  five-at-reads.Asked,
-  five-at-reads.Learnt,
-  cost-of-reads.Asked,
-  cost-of-reads.Learnt,
-  command-of-reads.Asked,
-  command-of-reads.Learnt,
-  effect-reads.Asked,
-  effect-reads.Learnt,
-  carry-out-reads.Asked,
-  carry-out-reads.Learnt,
-  rejoin-reads.Asked,
-  rejoin-reads.Learnt,
-  carry-fork-below t,
-  carry-fork.Post,
-  put-reads.Asked,
-  put-reads.Learnt,
-  with-pending-reads.Asked,
-  with-pending-reads.Learnt,
-  rest-window-reads.Asked,
-  rest-window-reads.Learnt,
-) (run-routine-at t) run-routine.Post run-routine-Inv-loop run-routine-μ-loop
-run-routine-weights-requires t c κs = search needs
-
-run-routine-code-start-requires : (t : ℕ) → run-routine-lts.Need-code-start-requires (
-  weights-reads.Asked,
-  weights-reads.Learnt,
-  code-start-reads.Asked,
-  code-start-reads.Learnt,
-  lay-reads.Asked,
-  lay-reads.Learnt,
-  wide-reads.Asked,
-  wide-reads.Learnt,
-  five-at-reads.Asked,
-  five-at-reads.Learnt,
-  cost-of-reads.Asked,
-  cost-of-reads.Learnt,
-  command-of-reads.Asked,
-  command-of-reads.Learnt,
-  effect-reads.Asked,
-  effect-reads.Learnt,
-  carry-out-reads.Asked,
-  carry-out-reads.Learnt,
-  rejoin-reads.Asked,
-  rejoin-reads.Learnt,
-  carry-fork-below t,
-  carry-fork.Post,
-  put-reads.Asked,
-  put-reads.Learnt,
-  with-pending-reads.Asked,
-  with-pending-reads.Learnt,
-  rest-window-reads.Asked,
-  rest-window-reads.Learnt,
-) (run-routine-at t) run-routine.Post run-routine-Inv-loop run-routine-μ-loop
-run-routine-code-start-requires t c κs = search needs
-
-run-routine-lay-requires : (t : ℕ) → run-routine-lts.Need-lay-requires (
-  weights-reads.Asked,
-  weights-reads.Learnt,
-  code-start-reads.Asked,
-  code-start-reads.Learnt,
-  lay-reads.Asked,
-  lay-reads.Learnt,
-  wide-reads.Asked,
-  wide-reads.Learnt,
-  five-at-reads.Asked,
-  five-at-reads.Learnt,
-  cost-of-reads.Asked,
-  cost-of-reads.Learnt,
-  command-of-reads.Asked,
-  command-of-reads.Learnt,
-  effect-reads.Asked,
-  effect-reads.Learnt,
-  carry-out-reads.Asked,
-  carry-out-reads.Learnt,
-  rejoin-reads.Asked,
-  rejoin-reads.Learnt,
-  carry-fork-below t,
-  carry-fork.Post,
-  put-reads.Asked,
-  put-reads.Learnt,
-  with-pending-reads.Asked,
-  with-pending-reads.Learnt,
-  rest-window-reads.Asked,
-  rest-window-reads.Learnt,
-) (run-routine-at t) run-routine.Post run-routine-Inv-loop run-routine-μ-loop
-run-routine-lay-requires t c κs = (refl, c .before .before .before .before .before .before .before .pre .1 .1)
-
-run-routine-loop-holds : (t : ℕ) → run-routine-lts.Need-loop-holds (
-  weights-reads.Asked,
-  weights-reads.Learnt,
-  code-start-reads.Asked,
-  code-start-reads.Learnt,
-  lay-reads.Asked,
-  lay-reads.Learnt,
-  wide-reads.Asked,
-  wide-reads.Learnt,
-  five-at-reads.Asked,
-  five-at-reads.Learnt,
-  cost-of-reads.Asked,
-  cost-of-reads.Learnt,
-  command-of-reads.Asked,
-  command-of-reads.Learnt,
-  effect-reads.Asked,
-  effect-reads.Learnt,
-  carry-out-reads.Asked,
-  carry-out-reads.Learnt,
-  rejoin-reads.Asked,
-  rejoin-reads.Learnt,
-  carry-fork-below t,
-  carry-fork.Post,
-  put-reads.Asked,
-  put-reads.Learnt,
-  with-pending-reads.Asked,
-  with-pending-reads.Learnt,
-  rest-window-reads.Asked,
-  rest-window-reads.Learnt,
-) (run-routine-at t) run-routine.Post run-routine-Inv-loop run-routine-μ-loop
-run-routine-loop-holds t c = far-starts _ _ _ _ (c .before .before .before .before .before .before .before .before .args .arguments .now) _ _ _ (c .lay .ensures) (c .before .before .before .before .before .before .before .before .pre .1 .0)
-
-run-routine-wide-requires : (t : ℕ) → run-routine-lts.Need-wide-requires (
-  weights-reads.Asked,
-  weights-reads.Learnt,
-  code-start-reads.Asked,
-  code-start-reads.Learnt,
-  lay-reads.Asked,
-  lay-reads.Learnt,
-  wide-reads.Asked,
-  wide-reads.Learnt,
-  five-at-reads.Asked,
-  five-at-reads.Learnt,
-  cost-of-reads.Asked,
-  cost-of-reads.Learnt,
-  command-of-reads.Asked,
-  command-of-reads.Learnt,
-  effect-reads.Asked,
-  effect-reads.Learnt,
-  carry-out-reads.Asked,
-  carry-out-reads.Learnt,
-  rejoin-reads.Asked,
-  rejoin-reads.Learnt,
-  carry-fork-below t,
-  carry-fork.Post,
-  put-reads.Asked,
-  put-reads.Learnt,
-  with-pending-reads.Asked,
-  with-pending-reads.Learnt,
-  rest-window-reads.Asked,
-  rest-window-reads.Learnt,
-) (run-routine-at t) run-routine.Post run-routine-Inv-loop run-routine-μ-loop
-run-routine-wide-requires t c κs = search needs
-
-run-routine-add-five-at : (t : ℕ) → run-routine-lts.Need-add-five-at (
-  weights-reads.Asked,
-  weights-reads.Learnt,
-  code-start-reads.Asked,
-  code-start-reads.Learnt,
-  lay-reads.Asked,
-  lay-reads.Learnt,
-  wide-reads.Asked,
-  wide-reads.Learnt,
-  five-at-reads.Asked,
-  five-at-reads.Learnt,
-  cost-of-reads.Asked,
-  cost-of-reads.Learnt,
-  command-of-reads.Asked,
-  command-of-reads.Learnt,
-  effect-reads.Asked,
-  effect-reads.Learnt,
-  carry-out-reads.Asked,
-  carry-out-reads.Learnt,
-  rejoin-reads.Asked,
-  rejoin-reads.Learnt,
-  carry-fork-below t,
-  carry-fork.Post,
-  put-reads.Asked,
-  put-reads.Learnt,
-  with-pending-reads.Asked,
-  with-pending-reads.Learnt,
-  rest-window-reads.Asked,
-  rest-window-reads.Learnt,
-) (run-routine-at t) run-routine.Post run-routine-Inv-loop run-routine-μ-loop
-run-routine-add-five-at t c = omega (arith, c .before .before .before .before .code-start .ensures .1, c .wide .ensures .1)
-
-run-routine-five-at-requires : (t : ℕ) → run-routine-lts.Need-five-at-requires (
-  weights-reads.Asked,
-  weights-reads.Learnt,
-  code-start-reads.Asked,
-  code-start-reads.Learnt,
-  lay-reads.Asked,
-  lay-reads.Learnt,
-  wide-reads.Asked,
-  wide-reads.Learnt,
-  five-at-reads.Asked,
-  five-at-reads.Learnt,
-  cost-of-reads.Asked,
-  cost-of-reads.Learnt,
-  command-of-reads.Asked,
-  command-of-reads.Learnt,
-  effect-reads.Asked,
-  effect-reads.Learnt,
-  carry-out-reads.Asked,
-  carry-out-reads.Learnt,
-  rejoin-reads.Asked,
-  rejoin-reads.Learnt,
-  carry-fork-below t,
-  carry-fork.Post,
-  put-reads.Asked,
-  put-reads.Learnt,
-  with-pending-reads.Asked,
-  with-pending-reads.Learnt,
-  rest-window-reads.Asked,
-  rest-window-reads.Learnt,
-) (run-routine-at t) run-routine.Post run-routine-Inv-loop run-routine-μ-loop
-run-routine-five-at-requires t c κs = search needs
-
-run-routine-slice-aggregate-cost-of : (t : ℕ) → run-routine-lts.Need-slice-aggregate-cost-of (
-  weights-reads.Asked,
-  weights-reads.Learnt,
-  code-start-reads.Asked,
-  code-start-reads.Learnt,
-  lay-reads.Asked,
-  lay-reads.Learnt,
-  wide-reads.Asked,
-  wide-reads.Learnt,
-  five-at-reads.Asked,
-  five-at-reads.Learnt,
-  cost-of-reads.Asked,
-  cost-of-reads.Learnt,
-  command-of-reads.Asked,
-  command-of-reads.Learnt,
-  effect-reads.Asked,
-  effect-reads.Learnt,
-  carry-out-reads.Asked,
-  carry-out-reads.Learnt,
-  rejoin-reads.Asked,
-  rejoin-reads.Learnt,
-  carry-fork-below t,
-  carry-fork.Post,
-  put-reads.Asked,
-  put-reads.Learnt,
-  with-pending-reads.Asked,
-  with-pending-reads.Learnt,
-  rest-window-reads.Asked,
-  rest-window-reads.Learnt,
-) (run-routine-at t) run-routine.Post run-routine-Inv-loop run-routine-μ-loop
-run-routine-slice-aggregate-cost-of t c = search needs
-
-run-routine-array-read-cost-of : (t : ℕ) → run-routine-lts.Need-array-read-cost-of (
-  weights-reads.Asked,
-  weights-reads.Learnt,
-  code-start-reads.Asked,
-  code-start-reads.Learnt,
-  lay-reads.Asked,
-  lay-reads.Learnt,
-  wide-reads.Asked,
-  wide-reads.Learnt,
-  five-at-reads.Asked,
-  five-at-reads.Learnt,
-  cost-of-reads.Asked,
-  cost-of-reads.Learnt,
-  command-of-reads.Asked,
-  command-of-reads.Learnt,
-  effect-reads.Asked,
-  effect-reads.Learnt,
-  carry-out-reads.Asked,
-  carry-out-reads.Learnt,
-  rejoin-reads.Asked,
-  rejoin-reads.Learnt,
-  carry-fork-below t,
-  carry-fork.Post,
-  put-reads.Asked,
-  put-reads.Learnt,
-  with-pending-reads.Asked,
-  with-pending-reads.Learnt,
-  rest-window-reads.Asked,
-  rest-window-reads.Learnt,
-) (run-routine-at t) run-routine.Post run-routine-Inv-loop run-routine-μ-loop
-run-routine-array-read-cost-of t c = search needs
-
-run-routine-cost-of-requires : (t : ℕ) → run-routine-lts.Need-cost-of-requires (
-  weights-reads.Asked,
-  weights-reads.Learnt,
-  code-start-reads.Asked,
-  code-start-reads.Learnt,
-  lay-reads.Asked,
-  lay-reads.Learnt,
-  wide-reads.Asked,
-  wide-reads.Learnt,
-  five-at-reads.Asked,
-  five-at-reads.Learnt,
-  cost-of-reads.Asked,
-  cost-of-reads.Learnt,
-  command-of-reads.Asked,
-  command-of-reads.Learnt,
-  effect-reads.Asked,
-  effect-reads.Learnt,
-  carry-out-reads.Asked,
-  carry-out-reads.Learnt,
-  rejoin-reads.Asked,
-  rejoin-reads.Learnt,
-  carry-fork-below t,
-  carry-fork.Post,
-  put-reads.Asked,
-  put-reads.Learnt,
-  with-pending-reads.Asked,
-  with-pending-reads.Learnt,
-  rest-window-reads.Asked,
-  rest-window-reads.Learnt,
-) (run-routine-at t) run-routine.Post run-routine-Inv-loop run-routine-μ-loop
-run-routine-cost-of-requires t c κs = search needs
-
-run-routine-sub-if1 : (t : ℕ) → run-routine-lts.Need-sub-if1 (
-  weights-reads.Asked,
-  weights-reads.Learnt,
-  code-start-reads.Asked,
-  code-start-reads.Learnt,
-  lay-reads.Asked,
-  lay-reads.Learnt,
-  wide-reads.Asked,
-  wide-reads.Learnt,
-  five-at-reads.Asked,
-  five-at-reads.Learnt,
-  cost-of-reads.Asked,
-  cost-of-reads.Learnt,
-  command-of-reads.Asked,
-  command-of-reads.Learnt,
-  effect-reads.Asked,
-  effect-reads.Learnt,
-  carry-out-reads.Asked,
-  carry-out-reads.Learnt,
-  rejoin-reads.Asked,
-  rejoin-reads.Learnt,
-  carry-fork-below t,
-  carry-fork.Post,
-  put-reads.Asked,
-  put-reads.Learnt,
-  with-pending-reads.Asked,
-  with-pending-reads.Learnt,
-  rest-window-reads.Asked,
-  rest-window-reads.Learnt,
-) (run-routine-at t) run-routine.Post run-routine-Inv-loop run-routine-μ-loop
-run-routine-sub-if1 t c = c .before .before .before .before .loop .inv .ready .paid
-
-run-routine-same-length : (t : ℕ) → run-routine-lts.Need-same-length (
-  weights-reads.Asked,
-  weights-reads.Learnt,
-  code-start-reads.Asked,
-  code-start-reads.Learnt,
-  lay-reads.Asked,
-  lay-reads.Learnt,
-  wide-reads.Asked,
-  wide-reads.Learnt,
-  five-at-reads.Asked,
-  five-at-reads.Learnt,
-  cost-of-reads.Asked,
-  cost-of-reads.Learnt,
-  command-of-reads.Asked,
-  command-of-reads.Learnt,
-  effect-reads.Asked,
-  effect-reads.Learnt,
-  carry-out-reads.Asked,
-  carry-out-reads.Learnt,
-  rejoin-reads.Asked,
-  rejoin-reads.Learnt,
-  carry-fork-below t,
-  carry-fork.Post,
-  put-reads.Asked,
-  put-reads.Learnt,
-  with-pending-reads.Asked,
-  with-pending-reads.Learnt,
-  rest-window-reads.Asked,
-  rest-window-reads.Learnt,
-) (run-routine-at t) run-routine.Post run-routine-Inv-loop run-routine-μ-loop
-run-routine-same-length t c = c .before .before .before .before .before .loop .inv .ready .memory ∙ sym (c .before .before .before .before .before .before .before .before .before .before .before .before .before .before .pre .1 .0 .memory)
-
-run-routine-returns : (t : ℕ) → run-routine-lts.Need-returns (
-  weights-reads.Asked,
-  weights-reads.Learnt,
-  code-start-reads.Asked,
-  code-start-reads.Learnt,
-  lay-reads.Asked,
-  lay-reads.Learnt,
-  wide-reads.Asked,
-  wide-reads.Learnt,
-  five-at-reads.Asked,
-  five-at-reads.Learnt,
-  cost-of-reads.Asked,
-  cost-of-reads.Learnt,
-  command-of-reads.Asked,
-  command-of-reads.Learnt,
-  effect-reads.Asked,
-  effect-reads.Learnt,
-  carry-out-reads.Asked,
-  carry-out-reads.Learnt,
-  rejoin-reads.Asked,
-  rejoin-reads.Learnt,
-  carry-fork-below t,
-  carry-fork.Post,
-  put-reads.Asked,
-  put-reads.Learnt,
-  with-pending-reads.Asked,
-  with-pending-reads.Learnt,
-  rest-window-reads.Asked,
-  rest-window-reads.Learnt,
-) (run-routine-at t) run-routine.Post run-routine-Inv-loop run-routine-μ-loop
-run-routine-returns t c = unpaid (c .before .before .before .before .before .loop .inv) _ (cost-met (c .before .before .before .before .before .loop .inv) _ _ (c .before .before .before .before .before .before .before .before .code-start .ensures .0) (c .before .before .before .before .wide .ensures .0) _ (c .before .before .before .five-at .ensures) _ (c .before .before .before .before .before .before .before .before .before .weights .ensures) _ (c .before .cost-of .ensures)) (c .if1 .taken)
-
-run-routine-command-of-requires : (t : ℕ) → run-routine-lts.Need-command-of-requires (
-  weights-reads.Asked,
-  weights-reads.Learnt,
-  code-start-reads.Asked,
-  code-start-reads.Learnt,
-  lay-reads.Asked,
-  lay-reads.Learnt,
-  wide-reads.Asked,
-  wide-reads.Learnt,
-  five-at-reads.Asked,
-  five-at-reads.Learnt,
-  cost-of-reads.Asked,
-  cost-of-reads.Learnt,
-  command-of-reads.Asked,
-  command-of-reads.Learnt,
-  effect-reads.Asked,
-  effect-reads.Learnt,
-  carry-out-reads.Asked,
-  carry-out-reads.Learnt,
-  rejoin-reads.Asked,
-  rejoin-reads.Learnt,
-  carry-fork-below t,
-  carry-fork.Post,
-  put-reads.Asked,
-  put-reads.Learnt,
-  with-pending-reads.Asked,
-  with-pending-reads.Learnt,
-  rest-window-reads.Asked,
-  rest-window-reads.Learnt,
-) (run-routine-at t) run-routine.Post run-routine-Inv-loop run-routine-μ-loop
-run-routine-command-of-requires t c κs = search needs
-
-run-routine-slice-aggregate-effect : (t : ℕ) → run-routine-lts.Need-slice-aggregate-effect (
-  weights-reads.Asked,
-  weights-reads.Learnt,
-  code-start-reads.Asked,
-  code-start-reads.Learnt,
-  lay-reads.Asked,
-  lay-reads.Learnt,
-  wide-reads.Asked,
-  wide-reads.Learnt,
-  five-at-reads.Asked,
-  five-at-reads.Learnt,
-  cost-of-reads.Asked,
-  cost-of-reads.Learnt,
-  command-of-reads.Asked,
-  command-of-reads.Learnt,
-  effect-reads.Asked,
-  effect-reads.Learnt,
-  carry-out-reads.Asked,
-  carry-out-reads.Learnt,
-  rejoin-reads.Asked,
-  rejoin-reads.Learnt,
-  carry-fork-below t,
-  carry-fork.Post,
-  put-reads.Asked,
-  put-reads.Learnt,
-  with-pending-reads.Asked,
-  with-pending-reads.Learnt,
-  rest-window-reads.Asked,
-  rest-window-reads.Learnt,
-) (run-routine-at t) run-routine.Post run-routine-Inv-loop run-routine-μ-loop
-run-routine-slice-aggregate-effect t c = search needs
-
-run-routine-effect-requires : (t : ℕ) → run-routine-lts.Need-effect-requires (
-  weights-reads.Asked,
-  weights-reads.Learnt,
-  code-start-reads.Asked,
-  code-start-reads.Learnt,
-  lay-reads.Asked,
-  lay-reads.Learnt,
-  wide-reads.Asked,
-  wide-reads.Learnt,
-  five-at-reads.Asked,
-  five-at-reads.Learnt,
-  cost-of-reads.Asked,
-  cost-of-reads.Learnt,
-  command-of-reads.Asked,
-  command-of-reads.Learnt,
-  effect-reads.Asked,
-  effect-reads.Learnt,
-  carry-out-reads.Asked,
-  carry-out-reads.Learnt,
-  rejoin-reads.Asked,
-  rejoin-reads.Learnt,
-  carry-fork-below t,
-  carry-fork.Post,
-  put-reads.Asked,
-  put-reads.Learnt,
-  with-pending-reads.Asked,
-  with-pending-reads.Learnt,
-  rest-window-reads.Asked,
-  rest-window-reads.Learnt,
-) (run-routine-at t) run-routine.Post run-routine-Inv-loop run-routine-μ-loop
-run-routine-effect-requires t c κs = search needs
-
-run-routine-carry-out-requires : (t : ℕ) → run-routine-lts.Need-carry-out-requires (
-  weights-reads.Asked,
-  weights-reads.Learnt,
-  code-start-reads.Asked,
-  code-start-reads.Learnt,
-  lay-reads.Asked,
-  lay-reads.Learnt,
-  wide-reads.Asked,
-  wide-reads.Learnt,
-  five-at-reads.Asked,
-  five-at-reads.Learnt,
-  cost-of-reads.Asked,
-  cost-of-reads.Learnt,
-  command-of-reads.Asked,
-  command-of-reads.Learnt,
-  effect-reads.Asked,
-  effect-reads.Learnt,
-  carry-out-reads.Asked,
-  carry-out-reads.Learnt,
-  rejoin-reads.Asked,
-  rejoin-reads.Learnt,
-  carry-fork-below t,
-  carry-fork.Post,
-  put-reads.Asked,
-  put-reads.Learnt,
-  with-pending-reads.Asked,
-  with-pending-reads.Learnt,
-  rest-window-reads.Asked,
-  rest-window-reads.Learnt,
-) (run-routine-at t) run-routine.Post run-routine-Inv-loop run-routine-μ-loop
-run-routine-carry-out-requires t c κs = reach (c .before .before .before .before .before .before .before .before .before .before .loop .inv) _ (cost-met (c .before .before .before .before .before .before .before .before .before .before .loop .inv) _ _ (c .before .before .before .before .before .before .before .before .before .before .before .before .before .code-start .ensures .0) (c .before .before .before .before .before .before .before .before .before .wide .ensures .0) _ (c .before .before .before .before .before .before .before .before .five-at .ensures) _ (c .before .before .before .before .before .before .before .before .before .before .before .before .before .before .weights .ensures) _ (c .before .before .before .before .before .before .cost-of .ensures)) (c .before .before .before .before .before .if1 .left) _ (effect-met (c .before .before .before .before .before .before .before .before .before .before .loop .inv) _ _ (c .before .before .before .before .before .before .before .before .before .before .before .before .before .code-start .ensures .0) (c .before .before .before .before .before .before .before .before .before .wide .ensures .0) _ (c .before .before .before .before .before .before .before .before .five-at .ensures) _ (c .before .before .before .before .command-of .ensures) _ (c .before .before .effect .ensures))
-
-run-routine-enum-known-ask : (t : ℕ) → run-routine-lts.Need-enum-known-ask (
-  weights-reads.Asked,
-  weights-reads.Learnt,
-  code-start-reads.Asked,
-  code-start-reads.Learnt,
-  lay-reads.Asked,
-  lay-reads.Learnt,
-  wide-reads.Asked,
-  wide-reads.Learnt,
-  five-at-reads.Asked,
-  five-at-reads.Learnt,
-  cost-of-reads.Asked,
-  cost-of-reads.Learnt,
-  command-of-reads.Asked,
-  command-of-reads.Learnt,
-  effect-reads.Asked,
-  effect-reads.Learnt,
-  carry-out-reads.Asked,
-  carry-out-reads.Learnt,
-  rejoin-reads.Asked,
-  rejoin-reads.Learnt,
-  carry-fork-below t,
-  carry-fork.Post,
-  put-reads.Asked,
-  put-reads.Learnt,
-  with-pending-reads.Asked,
-  with-pending-reads.Learnt,
-  rest-window-reads.Asked,
-  rest-window-reads.Learnt,
-) (run-routine-at t) run-routine.Post run-routine-Inv-loop run-routine-μ-loop
-run-routine-enum-known-ask t c = search needs
-
-run-routine-add-units : (t : ℕ) → run-routine-lts.Need-add-units (
-  weights-reads.Asked,
-  weights-reads.Learnt,
-  code-start-reads.Asked,
-  code-start-reads.Learnt,
-  lay-reads.Asked,
-  lay-reads.Learnt,
-  wide-reads.Asked,
-  wide-reads.Learnt,
-  five-at-reads.Asked,
-  five-at-reads.Learnt,
-  cost-of-reads.Asked,
-  cost-of-reads.Learnt,
-  command-of-reads.Asked,
-  command-of-reads.Learnt,
-  effect-reads.Asked,
-  effect-reads.Learnt,
-  carry-out-reads.Asked,
-  carry-out-reads.Learnt,
-  rejoin-reads.Asked,
-  rejoin-reads.Learnt,
-  carry-fork-below t,
-  carry-fork.Post,
-  put-reads.Asked,
-  put-reads.Learnt,
-  with-pending-reads.Asked,
-  with-pending-reads.Learnt,
-  rest-window-reads.Asked,
-  rest-window-reads.Learnt,
-) (run-routine-at t) run-routine.Post run-routine-Inv-loop run-routine-μ-loop
-run-routine-add-units t c = let h = paid-units (c .before .before .before .before .before .before .before .before .before .before .before .before .before .before .before .before .loop .inv) _ (cost-met (c .before .before .before .before .before .before .before .before .before .before .before .before .before .before .before .before .loop .inv) _ _ (c .before .before .before .before .before .before .before .before .before .before .before .before .before .before .before .before .before .before .before .code-start .ensures .0) (c .before .before .before .before .before .before .before .before .before .before .before .before .before .before .before .wide .ensures .0) _ (c .before .before .before .before .before .before .before .before .before .before .before .before .before .before .five-at .ensures) _ (c .before .before .before .before .before .before .before .before .before .before .before .before .before .before .before .before .before .before .before .before .weights .ensures) _ (c .before .before .before .before .before .before .before .before .before .before .before .before .cost-of .ensures)) (c .before .before .before .before .before .before .before .before .before .before .before .if1 .left) _ (effect-met (c .before .before .before .before .before .before .before .before .before .before .before .before .before .before .before .before .loop .inv) _ _ (c .before .before .before .before .before .before .before .before .before .before .before .before .before .before .before .before .before .before .before .code-start .ensures .0) (c .before .before .before .before .before .before .before .before .before .before .before .before .before .before .before .wide .ensures .0) _ (c .before .before .before .before .before .before .before .before .before .before .before .before .before .before .five-at .ensures) _ (c .before .before .before .before .before .before .before .before .before .before .command-of .ensures) _ (c .before .before .before .before .before .before .before .before .effect .ensures)) in omega (arith, c .before .before .before .before .before .before .before .before .before .before .before .before .before .before .before .before .before .before .before .before .before .before .before .before .before .fits)
-
-run-routine-loop-less : (t : ℕ) → run-routine-lts.Need-loop-less (
-  weights-reads.Asked,
-  weights-reads.Learnt,
-  code-start-reads.Asked,
-  code-start-reads.Learnt,
-  lay-reads.Asked,
-  lay-reads.Learnt,
-  wide-reads.Asked,
-  wide-reads.Learnt,
-  five-at-reads.Asked,
-  five-at-reads.Learnt,
-  cost-of-reads.Asked,
-  cost-of-reads.Learnt,
-  command-of-reads.Asked,
-  command-of-reads.Learnt,
-  effect-reads.Asked,
-  effect-reads.Learnt,
-  carry-out-reads.Asked,
-  carry-out-reads.Learnt,
-  rejoin-reads.Asked,
-  rejoin-reads.Learnt,
-  carry-fork-below t,
-  carry-fork.Post,
-  put-reads.Asked,
-  put-reads.Learnt,
-  with-pending-reads.Asked,
-  with-pending-reads.Learnt,
-  rest-window-reads.Asked,
-  rest-window-reads.Learnt,
-) (run-routine-at t) run-routine.Post run-routine-Inv-loop run-routine-μ-loop
-run-routine-loop-less t c = let h = paid-units (c .before .before .before .before .before .before .before .before .before .before .before .before .before .before .before .before .loop .inv) _ (cost-met (c .before .before .before .before .before .before .before .before .before .before .before .before .before .before .before .before .loop .inv) _ _ (c .before .before .before .before .before .before .before .before .before .before .before .before .before .before .before .before .before .before .before .code-start .ensures .0) (c .before .before .before .before .before .before .before .before .before .before .before .before .before .before .before .wide .ensures .0) _ (c .before .before .before .before .before .before .before .before .before .before .before .before .before .before .five-at .ensures) _ (c .before .before .before .before .before .before .before .before .before .before .before .before .before .before .before .before .before .before .before .before .weights .ensures) _ (c .before .before .before .before .before .before .before .before .before .before .before .before .cost-of .ensures)) (c .before .before .before .before .before .before .before .before .before .before .before .if1 .left) _ (effect-met (c .before .before .before .before .before .before .before .before .before .before .before .before .before .before .before .before .loop .inv) _ _ (c .before .before .before .before .before .before .before .before .before .before .before .before .before .before .before .before .before .before .before .code-start .ensures .0) (c .before .before .before .before .before .before .before .before .before .before .before .before .before .before .before .wide .ensures .0) _ (c .before .before .before .before .before .before .before .before .before .before .before .before .before .before .five-at .ensures) _ (c .before .before .before .before .before .before .before .before .before .before .command-of .ensures) _ (c .before .before .before .before .before .before .before .before .effect .ensures)) in let w = some-cost (c .before .before .before .before .before .before .before .before .before .before .before .before .before .before .before .before .loop .inv) _ (cost-met (c .before .before .before .before .before .before .before .before .before .before .before .before .before .before .before .before .loop .inv) _ _ (c .before .before .before .before .before .before .before .before .before .before .before .before .before .before .before .before .before .before .before .code-start .ensures .0) (c .before .before .before .before .before .before .before .before .before .before .before .before .before .before .before .wide .ensures .0) _ (c .before .before .before .before .before .before .before .before .before .before .before .before .before .before .five-at .ensures) _ (c .before .before .before .before .before .before .before .before .before .before .before .before .before .before .before .before .before .before .before .before .weights .ensures) _ (c .before .before .before .before .before .before .before .before .before .before .before .before .cost-of .ensures)) in omega arith
-
-run-routine-loop-again : (t : ℕ) → run-routine-lts.Need-loop-again (
-  weights-reads.Asked,
-  weights-reads.Learnt,
-  code-start-reads.Asked,
-  code-start-reads.Learnt,
-  lay-reads.Asked,
-  lay-reads.Learnt,
-  wide-reads.Asked,
-  wide-reads.Learnt,
-  five-at-reads.Asked,
-  five-at-reads.Learnt,
-  cost-of-reads.Asked,
-  cost-of-reads.Learnt,
-  command-of-reads.Asked,
-  command-of-reads.Learnt,
-  effect-reads.Asked,
-  effect-reads.Learnt,
-  carry-out-reads.Asked,
-  carry-out-reads.Learnt,
-  rejoin-reads.Asked,
-  rejoin-reads.Learnt,
-  carry-fork-below t,
-  carry-fork.Post,
-  put-reads.Asked,
-  put-reads.Learnt,
-  with-pending-reads.Asked,
-  with-pending-reads.Learnt,
-  rest-window-reads.Asked,
-  rest-window-reads.Learnt,
-) (run-routine-at t) run-routine.Post run-routine-Inv-loop run-routine-μ-loop
-run-routine-loop-again t c = goes-again (c .before .before .before .before .before .before .before .before .before .before .before .before .before .before .before .before .loop .inv) _ (cost-met (c .before .before .before .before .before .before .before .before .before .before .before .before .before .before .before .before .loop .inv) _ _ (c .before .before .before .before .before .before .before .before .before .before .before .before .before .before .before .before .before .before .before .code-start .ensures .0) (c .before .before .before .before .before .before .before .before .before .before .before .before .before .before .before .wide .ensures .0) _ (c .before .before .before .before .before .before .before .before .before .before .before .before .before .before .five-at .ensures) _ (c .before .before .before .before .before .before .before .before .before .before .before .before .before .before .before .before .before .before .before .before .weights .ensures) _ (c .before .before .before .before .before .before .before .before .before .before .before .before .cost-of .ensures)) (c .before .before .before .before .before .before .before .before .before .before .before .if1 .left) _ (effect-met (c .before .before .before .before .before .before .before .before .before .before .before .before .before .before .before .before .loop .inv) _ _ (c .before .before .before .before .before .before .before .before .before .before .before .before .before .before .before .before .before .before .before .code-start .ensures .0) (c .before .before .before .before .before .before .before .before .before .before .before .before .before .before .before .wide .ensures .0) _ (c .before .before .before .before .before .before .before .before .before .before .before .before .before .before .five-at .ensures) _ (c .before .before .before .before .before .before .before .before .before .before .command-of .ensures) _ (c .before .before .before .before .before .before .before .before .effect .ensures)) _ (c .before .before .before .before .before .carry-out .ensures .2) _ _ (c .before .before .before .before .before .carry-out .ensures .0) (c .before .before .before .before .before .carry-out .ensures .1) _ (c .before .ask .given .1)
-
-run-routine-enum-told : (t : ℕ) → run-routine-lts.Need-enum-told (
-  weights-reads.Asked,
-  weights-reads.Learnt,
-  code-start-reads.Asked,
-  code-start-reads.Learnt,
-  lay-reads.Asked,
-  lay-reads.Learnt,
-  wide-reads.Asked,
-  wide-reads.Learnt,
-  five-at-reads.Asked,
-  five-at-reads.Learnt,
-  cost-of-reads.Asked,
-  cost-of-reads.Learnt,
-  command-of-reads.Asked,
-  command-of-reads.Learnt,
-  effect-reads.Asked,
-  effect-reads.Learnt,
-  carry-out-reads.Asked,
-  carry-out-reads.Learnt,
-  rejoin-reads.Asked,
-  rejoin-reads.Learnt,
-  carry-fork-below t,
-  carry-fork.Post,
-  put-reads.Asked,
-  put-reads.Learnt,
-  with-pending-reads.Asked,
-  with-pending-reads.Learnt,
-  rest-window-reads.Asked,
-  rest-window-reads.Learnt,
-) (run-routine-at t) run-routine.Post run-routine-Inv-loop run-routine-μ-loop
-run-routine-enum-told t c = search needs
-
-run-routine-add-position : (t : ℕ) → run-routine-lts.Need-add-position (
-  weights-reads.Asked,
-  weights-reads.Learnt,
-  code-start-reads.Asked,
-  code-start-reads.Learnt,
-  lay-reads.Asked,
-  lay-reads.Learnt,
-  wide-reads.Asked,
-  wide-reads.Learnt,
-  five-at-reads.Asked,
-  five-at-reads.Learnt,
-  cost-of-reads.Asked,
-  cost-of-reads.Learnt,
-  command-of-reads.Asked,
-  command-of-reads.Learnt,
-  effect-reads.Asked,
-  effect-reads.Learnt,
-  carry-out-reads.Asked,
-  carry-out-reads.Learnt,
-  rejoin-reads.Asked,
-  rejoin-reads.Learnt,
-  carry-fork-below t,
-  carry-fork.Post,
-  put-reads.Asked,
-  put-reads.Learnt,
-  with-pending-reads.Asked,
-  with-pending-reads.Learnt,
-  rest-window-reads.Asked,
-  rest-window-reads.Learnt,
-) (run-routine-at t) run-routine.Post run-routine-Inv-loop run-routine-μ-loop
-run-routine-add-position t c = omega (arith, join-fits (c .before .before .before .before .before .before .before .before .before .before .before .before .before .before .before .loop .inv) _ (cost-met (c .before .before .before .before .before .before .before .before .before .before .before .before .before .before .before .loop .inv) _ _ (c .before .before .before .before .before .before .before .before .before .before .before .before .before .before .before .before .before .before .code-start .ensures .0) (c .before .before .before .before .before .before .before .before .before .before .before .before .before .before .wide .ensures .0) _ (c .before .before .before .before .before .before .before .before .before .before .before .before .before .five-at .ensures) _ (c .before .before .before .before .before .before .before .before .before .before .before .before .before .before .before .before .before .before .before .weights .ensures) _ (c .before .before .before .before .before .before .before .before .before .before .before .cost-of .ensures)) (c .before .before .before .before .before .before .before .before .before .before .if1 .left) _ (effect-met (c .before .before .before .before .before .before .before .before .before .before .before .before .before .before .before .loop .inv) _ _ (c .before .before .before .before .before .before .before .before .before .before .before .before .before .before .before .before .before .before .code-start .ensures .0) (c .before .before .before .before .before .before .before .before .before .before .before .before .before .before .wide .ensures .0) _ (c .before .before .before .before .before .before .before .before .before .before .before .before .before .five-at .ensures) _ (c .before .before .before .before .before .before .before .before .before .command-of .ensures) _ (c .before .before .before .before .before .before .before .effect .ensures)) _ (c .before .before .before .before .carry-out .ensures .2) _ _ (c .before .before .before .before .carry-out .ensures .0) (c .before .before .before .before .carry-out .ensures .1) (c .enum-told .given .1))
-
-run-routine-rejoin-requires : (t : ℕ) → run-routine-lts.Need-rejoin-requires (
-  weights-reads.Asked,
-  weights-reads.Learnt,
-  code-start-reads.Asked,
-  code-start-reads.Learnt,
-  lay-reads.Asked,
-  lay-reads.Learnt,
-  wide-reads.Asked,
-  wide-reads.Learnt,
-  five-at-reads.Asked,
-  five-at-reads.Learnt,
-  cost-of-reads.Asked,
-  cost-of-reads.Learnt,
-  command-of-reads.Asked,
-  command-of-reads.Learnt,
-  effect-reads.Asked,
-  effect-reads.Learnt,
-  carry-out-reads.Asked,
-  carry-out-reads.Learnt,
-  rejoin-reads.Asked,
-  rejoin-reads.Learnt,
-  carry-fork-below t,
-  carry-fork.Post,
-  put-reads.Asked,
-  put-reads.Learnt,
-  with-pending-reads.Asked,
-  with-pending-reads.Learnt,
-  rest-window-reads.Asked,
-  rest-window-reads.Learnt,
-) (run-routine-at t) run-routine.Post run-routine-Inv-loop run-routine-μ-loop
-run-routine-rejoin-requires t c κs = search needs
-
-run-routine-add-units-2 : (t : ℕ) → run-routine-lts.Need-add-units-2 (
-  weights-reads.Asked,
-  weights-reads.Learnt,
-  code-start-reads.Asked,
-  code-start-reads.Learnt,
-  lay-reads.Asked,
-  lay-reads.Learnt,
-  wide-reads.Asked,
-  wide-reads.Learnt,
-  five-at-reads.Asked,
-  five-at-reads.Learnt,
-  cost-of-reads.Asked,
-  cost-of-reads.Learnt,
-  command-of-reads.Asked,
-  command-of-reads.Learnt,
-  effect-reads.Asked,
-  effect-reads.Learnt,
-  carry-out-reads.Asked,
-  carry-out-reads.Learnt,
-  rejoin-reads.Asked,
-  rejoin-reads.Learnt,
-  carry-fork-below t,
-  carry-fork.Post,
-  put-reads.Asked,
-  put-reads.Learnt,
-  with-pending-reads.Asked,
-  with-pending-reads.Learnt,
-  rest-window-reads.Asked,
-  rest-window-reads.Learnt,
-) (run-routine-at t) run-routine.Post run-routine-Inv-loop run-routine-μ-loop
-run-routine-add-units-2 t c = let h = paid-units (c .before .before .before .before .before .before .before .before .before .before .before .before .before .before .before .before .loop .inv) _ (cost-met (c .before .before .before .before .before .before .before .before .before .before .before .before .before .before .before .before .loop .inv) _ _ (c .before .before .before .before .before .before .before .before .before .before .before .before .before .before .before .before .before .before .before .code-start .ensures .0) (c .before .before .before .before .before .before .before .before .before .before .before .before .before .before .before .wide .ensures .0) _ (c .before .before .before .before .before .before .before .before .before .before .before .before .before .before .five-at .ensures) _ (c .before .before .before .before .before .before .before .before .before .before .before .before .before .before .before .before .before .before .before .before .weights .ensures) _ (c .before .before .before .before .before .before .before .before .before .before .before .before .cost-of .ensures)) (c .before .before .before .before .before .before .before .before .before .before .before .if1 .left) _ (effect-met (c .before .before .before .before .before .before .before .before .before .before .before .before .before .before .before .before .loop .inv) _ _ (c .before .before .before .before .before .before .before .before .before .before .before .before .before .before .before .before .before .before .before .code-start .ensures .0) (c .before .before .before .before .before .before .before .before .before .before .before .before .before .before .before .wide .ensures .0) _ (c .before .before .before .before .before .before .before .before .before .before .before .before .before .before .five-at .ensures) _ (c .before .before .before .before .before .before .before .before .before .before .command-of .ensures) _ (c .before .before .before .before .before .before .before .before .effect .ensures)) in omega (arith, c .before .before .before .before .before .before .before .before .before .before .before .before .before .before .before .before .before .before .before .before .before .before .before .before .before .fits)
-
-run-routine-loop-less-2 : (t : ℕ) → run-routine-lts.Need-loop-less-2 (
-  weights-reads.Asked,
-  weights-reads.Learnt,
-  code-start-reads.Asked,
-  code-start-reads.Learnt,
-  lay-reads.Asked,
-  lay-reads.Learnt,
-  wide-reads.Asked,
-  wide-reads.Learnt,
-  five-at-reads.Asked,
-  five-at-reads.Learnt,
-  cost-of-reads.Asked,
-  cost-of-reads.Learnt,
-  command-of-reads.Asked,
-  command-of-reads.Learnt,
-  effect-reads.Asked,
-  effect-reads.Learnt,
-  carry-out-reads.Asked,
-  carry-out-reads.Learnt,
-  rejoin-reads.Asked,
-  rejoin-reads.Learnt,
-  carry-fork-below t,
-  carry-fork.Post,
-  put-reads.Asked,
-  put-reads.Learnt,
-  with-pending-reads.Asked,
-  with-pending-reads.Learnt,
-  rest-window-reads.Asked,
-  rest-window-reads.Learnt,
-) (run-routine-at t) run-routine.Post run-routine-Inv-loop run-routine-μ-loop
-run-routine-loop-less-2 t c = let h = paid-units (c .before .before .before .before .before .before .before .before .before .before .before .before .before .before .before .before .loop .inv) _ (cost-met (c .before .before .before .before .before .before .before .before .before .before .before .before .before .before .before .before .loop .inv) _ _ (c .before .before .before .before .before .before .before .before .before .before .before .before .before .before .before .before .before .before .before .code-start .ensures .0) (c .before .before .before .before .before .before .before .before .before .before .before .before .before .before .before .wide .ensures .0) _ (c .before .before .before .before .before .before .before .before .before .before .before .before .before .before .five-at .ensures) _ (c .before .before .before .before .before .before .before .before .before .before .before .before .before .before .before .before .before .before .before .before .weights .ensures) _ (c .before .before .before .before .before .before .before .before .before .before .before .before .cost-of .ensures)) (c .before .before .before .before .before .before .before .before .before .before .before .if1 .left) _ (effect-met (c .before .before .before .before .before .before .before .before .before .before .before .before .before .before .before .before .loop .inv) _ _ (c .before .before .before .before .before .before .before .before .before .before .before .before .before .before .before .before .before .before .before .code-start .ensures .0) (c .before .before .before .before .before .before .before .before .before .before .before .before .before .before .before .wide .ensures .0) _ (c .before .before .before .before .before .before .before .before .before .before .before .before .before .before .five-at .ensures) _ (c .before .before .before .before .before .before .before .before .before .before .command-of .ensures) _ (c .before .before .before .before .before .before .before .before .effect .ensures)) in let w = some-cost (c .before .before .before .before .before .before .before .before .before .before .before .before .before .before .before .before .loop .inv) _ (cost-met (c .before .before .before .before .before .before .before .before .before .before .before .before .before .before .before .before .loop .inv) _ _ (c .before .before .before .before .before .before .before .before .before .before .before .before .before .before .before .before .before .before .before .code-start .ensures .0) (c .before .before .before .before .before .before .before .before .before .before .before .before .before .before .before .wide .ensures .0) _ (c .before .before .before .before .before .before .before .before .before .before .before .before .before .before .five-at .ensures) _ (c .before .before .before .before .before .before .before .before .before .before .before .before .before .before .before .before .before .before .before .before .weights .ensures) _ (c .before .before .before .before .before .before .before .before .before .before .before .before .cost-of .ensures)) in omega arith
-
-run-routine-loop-again-2 : (t : ℕ) → run-routine-lts.Need-loop-again-2 (
-  weights-reads.Asked,
-  weights-reads.Learnt,
-  code-start-reads.Asked,
-  code-start-reads.Learnt,
-  lay-reads.Asked,
-  lay-reads.Learnt,
-  wide-reads.Asked,
-  wide-reads.Learnt,
-  five-at-reads.Asked,
-  five-at-reads.Learnt,
-  cost-of-reads.Asked,
-  cost-of-reads.Learnt,
-  command-of-reads.Asked,
-  command-of-reads.Learnt,
-  effect-reads.Asked,
-  effect-reads.Learnt,
-  carry-out-reads.Asked,
-  carry-out-reads.Learnt,
-  rejoin-reads.Asked,
-  rejoin-reads.Learnt,
-  carry-fork-below t,
-  carry-fork.Post,
-  put-reads.Asked,
-  put-reads.Learnt,
-  with-pending-reads.Asked,
-  with-pending-reads.Learnt,
-  rest-window-reads.Asked,
-  rest-window-reads.Learnt,
-) (run-routine-at t) run-routine.Post run-routine-Inv-loop run-routine-μ-loop
-run-routine-loop-again-2 t c = joins-again (c .before .before .before .before .before .before .before .before .before .before .before .before .before .before .before .before .loop .inv) _ (cost-met (c .before .before .before .before .before .before .before .before .before .before .before .before .before .before .before .before .loop .inv) _ _ (c .before .before .before .before .before .before .before .before .before .before .before .before .before .before .before .before .before .before .before .code-start .ensures .0) (c .before .before .before .before .before .before .before .before .before .before .before .before .before .before .before .wide .ensures .0) _ (c .before .before .before .before .before .before .before .before .before .before .before .before .before .before .five-at .ensures) _ (c .before .before .before .before .before .before .before .before .before .before .before .before .before .before .before .before .before .before .before .before .weights .ensures) _ (c .before .before .before .before .before .before .before .before .before .before .before .before .cost-of .ensures)) (c .before .before .before .before .before .before .before .before .before .before .before .if1 .left) _ (effect-met (c .before .before .before .before .before .before .before .before .before .before .before .before .before .before .before .before .loop .inv) _ _ (c .before .before .before .before .before .before .before .before .before .before .before .before .before .before .before .before .before .before .before .code-start .ensures .0) (c .before .before .before .before .before .before .before .before .before .before .before .before .before .before .before .wide .ensures .0) _ (c .before .before .before .before .before .before .before .before .before .before .before .before .before .before .five-at .ensures) _ (c .before .before .before .before .before .before .before .before .before .before .command-of .ensures) _ (c .before .before .before .before .before .before .before .before .effect .ensures)) _ (c .before .before .before .before .before .carry-out .ensures .2) _ _ (c .before .before .before .before .before .carry-out .ensures .0) (c .before .before .before .before .before .carry-out .ensures .1) _ (c .rejoin .ensures) (c .before .enum-told .given .1)
-
-run-routine-enum-known-ask-2 : (t : ℕ) → run-routine-lts.Need-enum-known-ask-2 (
-  weights-reads.Asked,
-  weights-reads.Learnt,
-  code-start-reads.Asked,
-  code-start-reads.Learnt,
-  lay-reads.Asked,
-  lay-reads.Learnt,
-  wide-reads.Asked,
-  wide-reads.Learnt,
-  five-at-reads.Asked,
-  five-at-reads.Learnt,
-  cost-of-reads.Asked,
-  cost-of-reads.Learnt,
-  command-of-reads.Asked,
-  command-of-reads.Learnt,
-  effect-reads.Asked,
-  effect-reads.Learnt,
-  carry-out-reads.Asked,
-  carry-out-reads.Learnt,
-  rejoin-reads.Asked,
-  rejoin-reads.Learnt,
-  carry-fork-below t,
-  carry-fork.Post,
-  put-reads.Asked,
-  put-reads.Learnt,
-  with-pending-reads.Asked,
-  with-pending-reads.Learnt,
-  rest-window-reads.Asked,
-  rest-window-reads.Learnt,
-) (run-routine-at t) run-routine.Post run-routine-Inv-loop run-routine-μ-loop
-run-routine-enum-known-ask-2 t c = search needs
-
-run-routine-slice-aggregate-carry-fork : (t : ℕ) → run-routine-lts.Need-slice-aggregate-carry-fork (
-  weights-reads.Asked,
-  weights-reads.Learnt,
-  code-start-reads.Asked,
-  code-start-reads.Learnt,
-  lay-reads.Asked,
-  lay-reads.Learnt,
-  wide-reads.Asked,
-  wide-reads.Learnt,
-  five-at-reads.Asked,
-  five-at-reads.Learnt,
-  cost-of-reads.Asked,
-  cost-of-reads.Learnt,
-  command-of-reads.Asked,
-  command-of-reads.Learnt,
-  effect-reads.Asked,
-  effect-reads.Learnt,
-  carry-out-reads.Asked,
-  carry-out-reads.Learnt,
-  rejoin-reads.Asked,
-  rejoin-reads.Learnt,
-  carry-fork-below t,
-  carry-fork.Post,
-  put-reads.Asked,
-  put-reads.Learnt,
-  with-pending-reads.Asked,
-  with-pending-reads.Learnt,
-  rest-window-reads.Asked,
-  rest-window-reads.Learnt,
-) (run-routine-at t) run-routine.Post run-routine-Inv-loop run-routine-μ-loop
-run-routine-slice-aggregate-carry-fork t c = sym (call-ready (c .before .before .before .before .before .before .before .before .before .before .before .before .before .before .before .before .before .before .loop .inv) _ (cost-met (c .before .before .before .before .before .before .before .before .before .before .before .before .before .before .before .before .before .before .loop .inv) _ _ (c .before .before .before .before .before .before .before .before .before .before .before .before .before .before .before .before .before .before .before .before .before .code-start .ensures .0) (c .before .before .before .before .before .before .before .before .before .before .before .before .before .before .before .before .before .wide .ensures .0) _ (c .before .before .before .before .before .before .before .before .before .before .before .before .before .before .before .before .five-at .ensures) _ (c .before .before .before .before .before .before .before .before .before .before .before .before .before .before .before .before .before .before .before .before .before .before .weights .ensures) _ (c .before .before .before .before .before .before .before .before .before .before .before .before .before .before .cost-of .ensures)) (c .before .before .before .before .before .before .before .before .before .before .before .before .before .if1 .left) _ (effect-met (c .before .before .before .before .before .before .before .before .before .before .before .before .before .before .before .before .before .before .loop .inv) _ _ (c .before .before .before .before .before .before .before .before .before .before .before .before .before .before .before .before .before .before .before .before .before .code-start .ensures .0) (c .before .before .before .before .before .before .before .before .before .before .before .before .before .before .before .before .before .wide .ensures .0) _ (c .before .before .before .before .before .before .before .before .before .before .before .before .before .before .before .before .five-at .ensures) _ (c .before .before .before .before .before .before .before .before .before .before .before .before .command-of .ensures) _ (c .before .before .before .before .before .before .before .before .before .before .effect .ensures)) _ (c .before .before .before .before .before .before .before .carry-out .ensures .2) _ _ (c .before .before .before .before .before .before .before .carry-out .ensures .0) (c .before .before .before .before .before .before .before .carry-out .ensures .1) _ _ _ _ (c .before .before .before .ask2 .given .1) .sixteen)
-
-run-routine-carry-fork-requires : (t : ℕ) → run-routine-lts.Need-carry-fork-requires (
-  weights-reads.Asked,
-  weights-reads.Learnt,
-  code-start-reads.Asked,
-  code-start-reads.Learnt,
-  lay-reads.Asked,
-  lay-reads.Learnt,
-  wide-reads.Asked,
-  wide-reads.Learnt,
-  five-at-reads.Asked,
-  five-at-reads.Learnt,
-  cost-of-reads.Asked,
-  cost-of-reads.Learnt,
-  command-of-reads.Asked,
-  command-of-reads.Learnt,
-  effect-reads.Asked,
-  effect-reads.Learnt,
-  carry-out-reads.Asked,
-  carry-out-reads.Learnt,
-  rejoin-reads.Asked,
-  rejoin-reads.Learnt,
-  carry-fork-below t,
-  carry-fork.Post,
-  put-reads.Asked,
-  put-reads.Learnt,
-  with-pending-reads.Asked,
-  with-pending-reads.Learnt,
-  rest-window-reads.Asked,
-  rest-window-reads.Learnt,
-) (run-routine-at t) run-routine.Post run-routine-Inv-loop run-routine-μ-loop
-run-routine-carry-fork-requires t c κs = (omega (arith, c .before .before .before .before .before .before .before .before .before .before .before .before .before .before .before .before .before .before .before .before .before .before .before .before .before .before .before .pre .0), call-ready (c .before .before .before .before .before .before .before .before .before .before .before .before .before .before .before .before .before .before .loop .inv) _ (cost-met (c .before .before .before .before .before .before .before .before .before .before .before .before .before .before .before .before .before .before .loop .inv) _ _ (c .before .before .before .before .before .before .before .before .before .before .before .before .before .before .before .before .before .before .before .before .before .code-start .ensures .0) (c .before .before .before .before .before .before .before .before .before .before .before .before .before .before .before .before .before .wide .ensures .0) _ (c .before .before .before .before .before .before .before .before .before .before .before .before .before .before .before .before .five-at .ensures) _ (c .before .before .before .before .before .before .before .before .before .before .before .before .before .before .before .before .before .before .before .before .before .before .weights .ensures) _ (c .before .before .before .before .before .before .before .before .before .before .before .before .before .before .cost-of .ensures)) (c .before .before .before .before .before .before .before .before .before .before .before .before .before .if1 .left) _ (effect-met (c .before .before .before .before .before .before .before .before .before .before .before .before .before .before .before .before .before .before .loop .inv) _ _ (c .before .before .before .before .before .before .before .before .before .before .before .before .before .before .before .before .before .before .before .before .before .code-start .ensures .0) (c .before .before .before .before .before .before .before .before .before .before .before .before .before .before .before .before .before .wide .ensures .0) _ (c .before .before .before .before .before .before .before .before .before .before .before .before .before .before .before .before .five-at .ensures) _ (c .before .before .before .before .before .before .before .before .before .before .before .before .command-of .ensures) _ (c .before .before .before .before .before .before .before .before .before .before .effect .ensures)) _ (c .before .before .before .before .before .before .before .carry-out .ensures .2) _ _ (c .before .before .before .before .before .before .before .carry-out .ensures .0) (c .before .before .before .before .before .before .before .carry-out .ensures .1) _ _ _ _ (c .before .before .before .ask2 .given .1))
-
-run-routine-enum-known-answer : (t : ℕ) → run-routine-lts.Need-enum-known-answer (
-  weights-reads.Asked,
-  weights-reads.Learnt,
-  code-start-reads.Asked,
-  code-start-reads.Learnt,
-  lay-reads.Asked,
-  lay-reads.Learnt,
-  wide-reads.Asked,
-  wide-reads.Learnt,
-  five-at-reads.Asked,
-  five-at-reads.Learnt,
-  cost-of-reads.Asked,
-  cost-of-reads.Learnt,
-  command-of-reads.Asked,
-  command-of-reads.Learnt,
-  effect-reads.Asked,
-  effect-reads.Learnt,
-  carry-out-reads.Asked,
-  carry-out-reads.Learnt,
-  rejoin-reads.Asked,
-  rejoin-reads.Learnt,
-  carry-fork-below t,
-  carry-fork.Post,
-  put-reads.Asked,
-  put-reads.Learnt,
-  with-pending-reads.Asked,
-  with-pending-reads.Learnt,
-  rest-window-reads.Asked,
-  rest-window-reads.Learnt,
-) (run-routine-at t) run-routine.Post run-routine-Inv-loop run-routine-μ-loop
-run-routine-enum-known-answer t c = search needs
-
-run-routine-put-requires : (t : ℕ) → run-routine-lts.Need-put-requires (
-  weights-reads.Asked,
-  weights-reads.Learnt,
-  code-start-reads.Asked,
-  code-start-reads.Learnt,
-  lay-reads.Asked,
-  lay-reads.Learnt,
-  wide-reads.Asked,
-  wide-reads.Learnt,
-  five-at-reads.Asked,
-  five-at-reads.Learnt,
-  cost-of-reads.Asked,
-  cost-of-reads.Learnt,
-  command-of-reads.Asked,
-  command-of-reads.Learnt,
-  effect-reads.Asked,
-  effect-reads.Learnt,
-  carry-out-reads.Asked,
-  carry-out-reads.Learnt,
-  rejoin-reads.Asked,
-  rejoin-reads.Learnt,
-  carry-fork-below t,
-  carry-fork.Post,
-  put-reads.Asked,
-  put-reads.Learnt,
-  with-pending-reads.Asked,
-  with-pending-reads.Learnt,
-  rest-window-reads.Asked,
-  rest-window-reads.Learnt,
-) (run-routine-at t) run-routine.Post run-routine-Inv-loop run-routine-μ-loop
-run-routine-put-requires t c κs = call-slot (c .before .before .before .before .before .before .before .before .before .before .before .before .before .before .before .before .before .before .before .before .before .before .before .before .before .loop .inv) _ (cost-met (c .before .before .before .before .before .before .before .before .before .before .before .before .before .before .before .before .before .before .before .before .before .before .before .before .before .loop .inv) _ _ (c .before .before .before .before .before .before .before .before .before .before .before .before .before .before .before .before .before .before .before .before .before .before .before .before .before .before .before .before .code-start .ensures .0) (c .before .before .before .before .before .before .before .before .before .before .before .before .before .before .before .before .before .before .before .before .before .before .before .before .wide .ensures .0) _ (c .before .before .before .before .before .before .before .before .before .before .before .before .before .before .before .before .before .before .before .before .before .before .before .five-at .ensures) _ (c .before .before .before .before .before .before .before .before .before .before .before .before .before .before .before .before .before .before .before .before .before .before .before .before .before .before .before .before .before .weights .ensures) _ (c .before .before .before .before .before .before .before .before .before .before .before .before .before .before .before .before .before .before .before .before .before .cost-of .ensures)) (c .before .before .before .before .before .before .before .before .before .before .before .before .before .before .before .before .before .before .before .before .if1 .left) _ (effect-met (c .before .before .before .before .before .before .before .before .before .before .before .before .before .before .before .before .before .before .before .before .before .before .before .before .before .loop .inv) _ _ (c .before .before .before .before .before .before .before .before .before .before .before .before .before .before .before .before .before .before .before .before .before .before .before .before .before .before .before .before .code-start .ensures .0) (c .before .before .before .before .before .before .before .before .before .before .before .before .before .before .before .before .before .before .before .before .before .before .before .before .wide .ensures .0) _ (c .before .before .before .before .before .before .before .before .before .before .before .before .before .before .before .before .before .before .before .before .before .before .before .five-at .ensures) _ (c .before .before .before .before .before .before .before .before .before .before .before .before .before .before .before .before .before .before .before .command-of .ensures) _ (c .before .before .before .before .before .before .before .before .before .before .before .before .before .before .before .before .before .effect .ensures)) _ (c .before .before .before .before .before .before .before .before .before .before .before .before .before .before .carry-out .ensures .2) _ _ (c .before .before .before .before .before .before .before .before .before .before .before .before .before .before .carry-out .ensures .0) (c .before .before .before .before .before .before .before .before .before .before .before .before .before .before .carry-out .ensures .1) _ _ _ _ (c .before .before .before .before .before .before .before .before .before .before .ask2 .given .1)
-
-run-routine-add-position-2 : (t : ℕ) → run-routine-lts.Need-add-position-2 (
-  weights-reads.Asked,
-  weights-reads.Learnt,
-  code-start-reads.Asked,
-  code-start-reads.Learnt,
-  lay-reads.Asked,
-  lay-reads.Learnt,
-  wide-reads.Asked,
-  wide-reads.Learnt,
-  five-at-reads.Asked,
-  five-at-reads.Learnt,
-  cost-of-reads.Asked,
-  cost-of-reads.Learnt,
-  command-of-reads.Asked,
-  command-of-reads.Learnt,
-  effect-reads.Asked,
-  effect-reads.Learnt,
-  carry-out-reads.Asked,
-  carry-out-reads.Learnt,
-  rejoin-reads.Asked,
-  rejoin-reads.Learnt,
-  carry-fork-below t,
-  carry-fork.Post,
-  put-reads.Asked,
-  put-reads.Learnt,
-  with-pending-reads.Asked,
-  with-pending-reads.Learnt,
-  rest-window-reads.Asked,
-  rest-window-reads.Learnt,
-) (run-routine-at t) run-routine.Post run-routine-Inv-loop run-routine-μ-loop
-run-routine-add-position-2 t c = omega (arith, call-fits (c .before .before .before .before .before .before .before .before .before .before .before .before .before .before .before .before .before .before .before .before .before .before .before .before .before .before .loop .inv) _ (cost-met (c .before .before .before .before .before .before .before .before .before .before .before .before .before .before .before .before .before .before .before .before .before .before .before .before .before .before .loop .inv) _ _ (c .before .before .before .before .before .before .before .before .before .before .before .before .before .before .before .before .before .before .before .before .before .before .before .before .before .before .before .before .before .code-start .ensures .0) (c .before .before .before .before .before .before .before .before .before .before .before .before .before .before .before .before .before .before .before .before .before .before .before .before .before .wide .ensures .0) _ (c .before .before .before .before .before .before .before .before .before .before .before .before .before .before .before .before .before .before .before .before .before .before .before .before .five-at .ensures) _ (c .before .before .before .before .before .before .before .before .before .before .before .before .before .before .before .before .before .before .before .before .before .before .before .before .before .before .before .before .before .before .weights .ensures) _ (c .before .before .before .before .before .before .before .before .before .before .before .before .before .before .before .before .before .before .before .before .before .before .cost-of .ensures)) (c .before .before .before .before .before .before .before .before .before .before .before .before .before .before .before .before .before .before .before .before .before .if1 .left) _ (effect-met (c .before .before .before .before .before .before .before .before .before .before .before .before .before .before .before .before .before .before .before .before .before .before .before .before .before .before .loop .inv) _ _ (c .before .before .before .before .before .before .before .before .before .before .before .before .before .before .before .before .before .before .before .before .before .before .before .before .before .before .before .before .before .code-start .ensures .0) (c .before .before .before .before .before .before .before .before .before .before .before .before .before .before .before .before .before .before .before .before .before .before .before .before .before .wide .ensures .0) _ (c .before .before .before .before .before .before .before .before .before .before .before .before .before .before .before .before .before .before .before .before .before .before .before .before .five-at .ensures) _ (c .before .before .before .before .before .before .before .before .before .before .before .before .before .before .before .before .before .before .before .before .command-of .ensures) _ (c .before .before .before .before .before .before .before .before .before .before .before .before .before .before .before .before .before .before .effect .ensures)) _ (c .before .before .before .before .before .before .before .before .before .before .before .before .before .before .before .carry-out .ensures .2) _ _ (c .before .before .before .before .before .before .before .before .before .before .before .before .before .before .before .carry-out .ensures .0) (c .before .before .before .before .before .before .before .before .before .before .before .before .before .before .before .carry-out .ensures .1) _ _ _ _ (c .before .before .before .before .before .before .before .before .before .before .before .ask2 .given .1))
-
-run-routine-with-pending-requires : (t : ℕ) → run-routine-lts.Need-with-pending-requires (
-  weights-reads.Asked,
-  weights-reads.Learnt,
-  code-start-reads.Asked,
-  code-start-reads.Learnt,
-  lay-reads.Asked,
-  lay-reads.Learnt,
-  wide-reads.Asked,
-  wide-reads.Learnt,
-  five-at-reads.Asked,
-  five-at-reads.Learnt,
-  cost-of-reads.Asked,
-  cost-of-reads.Learnt,
-  command-of-reads.Asked,
-  command-of-reads.Learnt,
-  effect-reads.Asked,
-  effect-reads.Learnt,
-  carry-out-reads.Asked,
-  carry-out-reads.Learnt,
-  rejoin-reads.Asked,
-  rejoin-reads.Learnt,
-  carry-fork-below t,
-  carry-fork.Post,
-  put-reads.Asked,
-  put-reads.Learnt,
-  with-pending-reads.Asked,
-  with-pending-reads.Learnt,
-  rest-window-reads.Asked,
-  rest-window-reads.Learnt,
-) (run-routine-at t) run-routine.Post run-routine-Inv-loop run-routine-μ-loop
-run-routine-with-pending-requires t c κs = tt
-
-run-routine-rest-window-requires : (t : ℕ) → run-routine-lts.Need-rest-window-requires (
-  weights-reads.Asked,
-  weights-reads.Learnt,
-  code-start-reads.Asked,
-  code-start-reads.Learnt,
-  lay-reads.Asked,
-  lay-reads.Learnt,
-  wide-reads.Asked,
-  wide-reads.Learnt,
-  five-at-reads.Asked,
-  five-at-reads.Learnt,
-  cost-of-reads.Asked,
-  cost-of-reads.Learnt,
-  command-of-reads.Asked,
-  command-of-reads.Learnt,
-  effect-reads.Asked,
-  effect-reads.Learnt,
-  carry-out-reads.Asked,
-  carry-out-reads.Learnt,
-  rejoin-reads.Asked,
-  rejoin-reads.Learnt,
-  carry-fork-below t,
-  carry-fork.Post,
-  put-reads.Asked,
-  put-reads.Learnt,
-  with-pending-reads.Asked,
-  with-pending-reads.Learnt,
-  rest-window-reads.Asked,
-  rest-window-reads.Learnt,
-) (run-routine-at t) run-routine.Post run-routine-Inv-loop run-routine-μ-loop
-run-routine-rest-window-requires t c κs = call-cut (c .before .before .before .before .before .before .before .before .before .before .before .before .before .before .before .before .before .before .before .before .before .before .before .before .before .before .before .loop .inv) _ (cost-met (c .before .before .before .before .before .before .before .before .before .before .before .before .before .before .before .before .before .before .before .before .before .before .before .before .before .before .before .loop .inv) _ _ (c .before .before .before .before .before .before .before .before .before .before .before .before .before .before .before .before .before .before .before .before .before .before .before .before .before .before .before .before .before .before .code-start .ensures .0) (c .before .before .before .before .before .before .before .before .before .before .before .before .before .before .before .before .before .before .before .before .before .before .before .before .before .before .wide .ensures .0) _ (c .before .before .before .before .before .before .before .before .before .before .before .before .before .before .before .before .before .before .before .before .before .before .before .before .before .five-at .ensures) _ (c .before .before .before .before .before .before .before .before .before .before .before .before .before .before .before .before .before .before .before .before .before .before .before .before .before .before .before .before .before .before .before .weights .ensures) _ (c .before .before .before .before .before .before .before .before .before .before .before .before .before .before .before .before .before .before .before .before .before .before .before .cost-of .ensures)) (c .before .before .before .before .before .before .before .before .before .before .before .before .before .before .before .before .before .before .before .before .before .before .if1 .left) _ (effect-met (c .before .before .before .before .before .before .before .before .before .before .before .before .before .before .before .before .before .before .before .before .before .before .before .before .before .before .before .loop .inv) _ _ (c .before .before .before .before .before .before .before .before .before .before .before .before .before .before .before .before .before .before .before .before .before .before .before .before .before .before .before .before .before .before .code-start .ensures .0) (c .before .before .before .before .before .before .before .before .before .before .before .before .before .before .before .before .before .before .before .before .before .before .before .before .before .before .wide .ensures .0) _ (c .before .before .before .before .before .before .before .before .before .before .before .before .before .before .before .before .before .before .before .before .before .before .before .before .before .five-at .ensures) _ (c .before .before .before .before .before .before .before .before .before .before .before .before .before .before .before .before .before .before .before .before .before .command-of .ensures) _ (c .before .before .before .before .before .before .before .before .before .before .before .before .before .before .before .before .before .before .before .effect .ensures)) _ (c .before .before .before .before .before .before .before .before .before .before .before .before .before .before .before .before .carry-out .ensures .2) _ _ (c .before .before .before .before .before .before .before .before .before .before .before .before .before .before .before .before .carry-out .ensures .0) (c .before .before .before .before .before .before .before .before .before .before .before .before .before .before .before .before .carry-out .ensures .1) _ _ _ _ (c .before .before .before .before .before .before .before .before .before .before .before .before .ask2 .given .1)
-
-run-routine-loop-less-3 : (t : ℕ) → run-routine-lts.Need-loop-less-3 (
-  weights-reads.Asked,
-  weights-reads.Learnt,
-  code-start-reads.Asked,
-  code-start-reads.Learnt,
-  lay-reads.Asked,
-  lay-reads.Learnt,
-  wide-reads.Asked,
-  wide-reads.Learnt,
-  five-at-reads.Asked,
-  five-at-reads.Learnt,
-  cost-of-reads.Asked,
-  cost-of-reads.Learnt,
-  command-of-reads.Asked,
-  command-of-reads.Learnt,
-  effect-reads.Asked,
-  effect-reads.Learnt,
-  carry-out-reads.Asked,
-  carry-out-reads.Learnt,
-  rejoin-reads.Asked,
-  rejoin-reads.Learnt,
-  carry-fork-below t,
-  carry-fork.Post,
-  put-reads.Asked,
-  put-reads.Learnt,
-  with-pending-reads.Asked,
-  with-pending-reads.Learnt,
-  rest-window-reads.Asked,
-  rest-window-reads.Learnt,
-) (run-routine-at t) run-routine.Post run-routine-Inv-loop run-routine-μ-loop
-run-routine-loop-less-3 t c = let h = call-units (c .before .before .before .before .before .before .before .before .before .before .before .before .before .before .before .before .before .before .before .before .before .before .before .before .before .before .before .before .loop .inv) _ (cost-met (c .before .before .before .before .before .before .before .before .before .before .before .before .before .before .before .before .before .before .before .before .before .before .before .before .before .before .before .before .loop .inv) _ _ (c .before .before .before .before .before .before .before .before .before .before .before .before .before .before .before .before .before .before .before .before .before .before .before .before .before .before .before .before .before .before .before .code-start .ensures .0) (c .before .before .before .before .before .before .before .before .before .before .before .before .before .before .before .before .before .before .before .before .before .before .before .before .before .before .before .wide .ensures .0) _ (c .before .before .before .before .before .before .before .before .before .before .before .before .before .before .before .before .before .before .before .before .before .before .before .before .before .before .five-at .ensures) _ (c .before .before .before .before .before .before .before .before .before .before .before .before .before .before .before .before .before .before .before .before .before .before .before .before .before .before .before .before .before .before .before .before .weights .ensures) _ (c .before .before .before .before .before .before .before .before .before .before .before .before .before .before .before .before .before .before .before .before .before .before .before .before .cost-of .ensures)) (c .before .before .before .before .before .before .before .before .before .before .before .before .before .before .before .before .before .before .before .before .before .before .before .if1 .left) _ (effect-met (c .before .before .before .before .before .before .before .before .before .before .before .before .before .before .before .before .before .before .before .before .before .before .before .before .before .before .before .before .loop .inv) _ _ (c .before .before .before .before .before .before .before .before .before .before .before .before .before .before .before .before .before .before .before .before .before .before .before .before .before .before .before .before .before .before .before .code-start .ensures .0) (c .before .before .before .before .before .before .before .before .before .before .before .before .before .before .before .before .before .before .before .before .before .before .before .before .before .before .before .wide .ensures .0) _ (c .before .before .before .before .before .before .before .before .before .before .before .before .before .before .before .before .before .before .before .before .before .before .before .before .before .before .five-at .ensures) _ (c .before .before .before .before .before .before .before .before .before .before .before .before .before .before .before .before .before .before .before .before .before .before .command-of .ensures) _ (c .before .before .before .before .before .before .before .before .before .before .before .before .before .before .before .before .before .before .before .before .effect .ensures)) _ (c .before .before .before .before .before .before .before .before .before .before .before .before .before .before .before .before .before .carry-out .ensures .2) _ _ (c .before .before .before .before .before .before .before .before .before .before .before .before .before .before .before .before .before .carry-out .ensures .0) (c .before .before .before .before .before .before .before .before .before .before .before .before .before .before .before .before .before .carry-out .ensures .1) _ _ _ _ (c .before .before .before .before .before .before .before .before .before .before .before .before .before .ask2 .given .1) _ _ (c .before .before .before .before .before .before .before .before .before .carry-fork .ensures) _ _ (c .before .before .before .before .before .answer .given .1) in let w = some-cost (c .before .before .before .before .before .before .before .before .before .before .before .before .before .before .before .before .before .before .before .before .before .before .before .before .before .before .before .before .loop .inv) _ (cost-met (c .before .before .before .before .before .before .before .before .before .before .before .before .before .before .before .before .before .before .before .before .before .before .before .before .before .before .before .before .loop .inv) _ _ (c .before .before .before .before .before .before .before .before .before .before .before .before .before .before .before .before .before .before .before .before .before .before .before .before .before .before .before .before .before .before .before .code-start .ensures .0) (c .before .before .before .before .before .before .before .before .before .before .before .before .before .before .before .before .before .before .before .before .before .before .before .before .before .before .before .wide .ensures .0) _ (c .before .before .before .before .before .before .before .before .before .before .before .before .before .before .before .before .before .before .before .before .before .before .before .before .before .before .five-at .ensures) _ (c .before .before .before .before .before .before .before .before .before .before .before .before .before .before .before .before .before .before .before .before .before .before .before .before .before .before .before .before .before .before .before .before .weights .ensures) _ (c .before .before .before .before .before .before .before .before .before .before .before .before .before .before .before .before .before .before .before .before .before .before .before .before .cost-of .ensures)) in omega arith
-
-run-routine-loop-again-3 : (t : ℕ) → run-routine-lts.Need-loop-again-3 (
-  weights-reads.Asked,
-  weights-reads.Learnt,
-  code-start-reads.Asked,
-  code-start-reads.Learnt,
-  lay-reads.Asked,
-  lay-reads.Learnt,
-  wide-reads.Asked,
-  wide-reads.Learnt,
-  five-at-reads.Asked,
-  five-at-reads.Learnt,
-  cost-of-reads.Asked,
-  cost-of-reads.Learnt,
-  command-of-reads.Asked,
-  command-of-reads.Learnt,
-  effect-reads.Asked,
-  effect-reads.Learnt,
-  carry-out-reads.Asked,
-  carry-out-reads.Learnt,
-  rejoin-reads.Asked,
-  rejoin-reads.Learnt,
-  carry-fork-below t,
-  carry-fork.Post,
-  put-reads.Asked,
-  put-reads.Learnt,
-  with-pending-reads.Asked,
-  with-pending-reads.Learnt,
-  rest-window-reads.Asked,
-  rest-window-reads.Learnt,
-) (run-routine-at t) run-routine.Post run-routine-Inv-loop run-routine-μ-loop
-run-routine-loop-again-3 t c = call-again (c .before .before .before .before .before .before .before .before .before .before .before .before .before .before .before .before .before .before .before .before .before .before .before .before .before .before .before .before .loop .inv) _ (cost-met (c .before .before .before .before .before .before .before .before .before .before .before .before .before .before .before .before .before .before .before .before .before .before .before .before .before .before .before .before .loop .inv) _ _ (c .before .before .before .before .before .before .before .before .before .before .before .before .before .before .before .before .before .before .before .before .before .before .before .before .before .before .before .before .before .before .before .code-start .ensures .0) (c .before .before .before .before .before .before .before .before .before .before .before .before .before .before .before .before .before .before .before .before .before .before .before .before .before .before .before .wide .ensures .0) _ (c .before .before .before .before .before .before .before .before .before .before .before .before .before .before .before .before .before .before .before .before .before .before .before .before .before .before .five-at .ensures) _ (c .before .before .before .before .before .before .before .before .before .before .before .before .before .before .before .before .before .before .before .before .before .before .before .before .before .before .before .before .before .before .before .before .weights .ensures) _ (c .before .before .before .before .before .before .before .before .before .before .before .before .before .before .before .before .before .before .before .before .before .before .before .before .cost-of .ensures)) (c .before .before .before .before .before .before .before .before .before .before .before .before .before .before .before .before .before .before .before .before .before .before .before .if1 .left) _ (effect-met (c .before .before .before .before .before .before .before .before .before .before .before .before .before .before .before .before .before .before .before .before .before .before .before .before .before .before .before .before .loop .inv) _ _ (c .before .before .before .before .before .before .before .before .before .before .before .before .before .before .before .before .before .before .before .before .before .before .before .before .before .before .before .before .before .before .before .code-start .ensures .0) (c .before .before .before .before .before .before .before .before .before .before .before .before .before .before .before .before .before .before .before .before .before .before .before .before .before .before .before .wide .ensures .0) _ (c .before .before .before .before .before .before .before .before .before .before .before .before .before .before .before .before .before .before .before .before .before .before .before .before .before .before .five-at .ensures) _ (c .before .before .before .before .before .before .before .before .before .before .before .before .before .before .before .before .before .before .before .before .before .before .command-of .ensures) _ (c .before .before .before .before .before .before .before .before .before .before .before .before .before .before .before .before .before .before .before .before .effect .ensures)) _ (c .before .before .before .before .before .before .before .before .before .before .before .before .before .before .before .before .before .carry-out .ensures .2) _ _ (c .before .before .before .before .before .before .before .before .before .before .before .before .before .before .before .before .before .carry-out .ensures .0) (c .before .before .before .before .before .before .before .before .before .before .before .before .before .before .before .before .before .carry-out .ensures .1) _ _ _ _ (c .before .before .before .before .before .before .before .before .before .before .before .before .before .ask2 .given .1) _ _ (c .before .before .before .before .before .before .before .before .before .carry-fork .ensures) _ _ (c .before .before .before .before .before .answer .given .1) _ _ _ (c .before .with-pending .ensures .0 (call-slot (c .before .before .before .before .before .before .before .before .before .before .before .before .before .before .before .before .before .before .before .before .before .before .before .before .before .before .before .before .loop .inv) _ (cost-met (c .before .before .before .before .before .before .before .before .before .before .before .before .before .before .before .before .before .before .before .before .before .before .before .before .before .before .before .before .loop .inv) _ _ (c .before .before .before .before .before .before .before .before .before .before .before .before .before .before .before .before .before .before .before .before .before .before .before .before .before .before .before .before .before .before .before .code-start .ensures .0) (c .before .before .before .before .before .before .before .before .before .before .before .before .before .before .before .before .before .before .before .before .before .before .before .before .before .before .before .wide .ensures .0) _ (c .before .before .before .before .before .before .before .before .before .before .before .before .before .before .before .before .before .before .before .before .before .before .before .before .before .before .five-at .ensures) _ (c .before .before .before .before .before .before .before .before .before .before .before .before .before .before .before .before .before .before .before .before .before .before .before .before .before .before .before .before .before .before .before .before .weights .ensures) _ (c .before .before .before .before .before .before .before .before .before .before .before .before .before .before .before .before .before .before .before .before .before .before .before .before .cost-of .ensures)) (c .before .before .before .before .before .before .before .before .before .before .before .before .before .before .before .before .before .before .before .before .before .before .before .if1 .left) _ (effect-met (c .before .before .before .before .before .before .before .before .before .before .before .before .before .before .before .before .before .before .before .before .before .before .before .before .before .before .before .before .loop .inv) _ _ (c .before .before .before .before .before .before .before .before .before .before .before .before .before .before .before .before .before .before .before .before .before .before .before .before .before .before .before .before .before .before .before .code-start .ensures .0) (c .before .before .before .before .before .before .before .before .before .before .before .before .before .before .before .before .before .before .before .before .before .before .before .before .before .before .before .wide .ensures .0) _ (c .before .before .before .before .before .before .before .before .before .before .before .before .before .before .before .before .before .before .before .before .before .before .before .before .before .before .five-at .ensures) _ (c .before .before .before .before .before .before .before .before .before .before .before .before .before .before .before .before .before .before .before .before .before .before .command-of .ensures) _ (c .before .before .before .before .before .before .before .before .before .before .before .before .before .before .before .before .before .before .before .before .effect .ensures)) _ (c .before .before .before .before .before .before .before .before .before .before .before .before .before .before .before .before .before .carry-out .ensures .2) _ _ (c .before .before .before .before .before .before .before .before .before .before .before .before .before .before .before .before .before .carry-out .ensures .0) (c .before .before .before .before .before .before .before .before .before .before .before .before .before .before .before .before .before .carry-out .ensures .1) _ _ _ _ (c .before .before .before .before .before .before .before .before .before .before .before .before .before .ask2 .given .1))) (c .rest-window .ensures) (c .before .before .put .ensures)
-
-run-routine-enum-known-answer-2 : (t : ℕ) → run-routine-lts.Need-enum-known-answer-2 (
-  weights-reads.Asked,
-  weights-reads.Learnt,
-  code-start-reads.Asked,
-  code-start-reads.Learnt,
-  lay-reads.Asked,
-  lay-reads.Learnt,
-  wide-reads.Asked,
-  wide-reads.Learnt,
-  five-at-reads.Asked,
-  five-at-reads.Learnt,
-  cost-of-reads.Asked,
-  cost-of-reads.Learnt,
-  command-of-reads.Asked,
-  command-of-reads.Learnt,
-  effect-reads.Asked,
-  effect-reads.Learnt,
-  carry-out-reads.Asked,
-  carry-out-reads.Learnt,
-  rejoin-reads.Asked,
-  rejoin-reads.Learnt,
-  carry-fork-below t,
-  carry-fork.Post,
-  put-reads.Asked,
-  put-reads.Learnt,
-  with-pending-reads.Asked,
-  with-pending-reads.Learnt,
-  rest-window-reads.Asked,
-  rest-window-reads.Learnt,
-) (run-routine-at t) run-routine.Post run-routine-Inv-loop run-routine-μ-loop
-run-routine-enum-known-answer-2 t c = search needs
-
-run-routine-same-length-2 : (t : ℕ) → run-routine-lts.Need-same-length-2 (
-  weights-reads.Asked,
-  weights-reads.Learnt,
-  code-start-reads.Asked,
-  code-start-reads.Learnt,
-  lay-reads.Asked,
-  lay-reads.Learnt,
-  wide-reads.Asked,
-  wide-reads.Learnt,
-  five-at-reads.Asked,
-  five-at-reads.Learnt,
-  cost-of-reads.Asked,
-  cost-of-reads.Learnt,
-  command-of-reads.Asked,
-  command-of-reads.Learnt,
-  effect-reads.Asked,
-  effect-reads.Learnt,
-  carry-out-reads.Asked,
-  carry-out-reads.Learnt,
-  rejoin-reads.Asked,
-  rejoin-reads.Learnt,
-  carry-fork-below t,
-  carry-fork.Post,
-  put-reads.Asked,
-  put-reads.Learnt,
-  with-pending-reads.Asked,
-  with-pending-reads.Learnt,
-  rest-window-reads.Asked,
-  rest-window-reads.Learnt,
-) (run-routine-at t) run-routine.Post run-routine-Inv-loop run-routine-μ-loop
-run-routine-same-length-2 t c = c .before .before .before .before .before .carry-fork .kept .1 .1 .1 .0 ∙ c .before .before .before .before .before .before .before .before .before .before .before .before .before .carry-out .kept .1 .1 .1 .0 ∙ c .before .before .before .before .before .before .before .before .before .before .before .before .before .before .before .before .before .before .before .before .before .before .before .before .loop .inv .ready .memory ∙ sym (c .before .before .before .before .before .before .before .before .before .before .before .before .before .before .before .before .before .before .before .before .before .before .before .before .before .before .before .before .before .before .before .before .before .pre .1 .0 .memory)
-
-run-routine-returns-2 : (t : ℕ) → run-routine-lts.Need-returns-2 (
-  weights-reads.Asked,
-  weights-reads.Learnt,
-  code-start-reads.Asked,
-  code-start-reads.Learnt,
-  lay-reads.Asked,
-  lay-reads.Learnt,
-  wide-reads.Asked,
-  wide-reads.Learnt,
-  five-at-reads.Asked,
-  five-at-reads.Learnt,
-  cost-of-reads.Asked,
-  cost-of-reads.Learnt,
-  command-of-reads.Asked,
-  command-of-reads.Learnt,
-  effect-reads.Asked,
-  effect-reads.Learnt,
-  carry-out-reads.Asked,
-  carry-out-reads.Learnt,
-  rejoin-reads.Asked,
-  rejoin-reads.Learnt,
-  carry-fork-below t,
-  carry-fork.Post,
-  put-reads.Asked,
-  put-reads.Learnt,
-  with-pending-reads.Asked,
-  with-pending-reads.Learnt,
-  rest-window-reads.Asked,
-  rest-window-reads.Learnt,
-) (run-routine-at t) run-routine.Post run-routine-Inv-loop run-routine-μ-loop
-run-routine-returns-2 t c = call-stops (c .before .before .before .before .before .before .before .before .before .before .before .before .before .before .before .before .before .before .before .before .before .before .before .before .loop .inv) _ (cost-met (c .before .before .before .before .before .before .before .before .before .before .before .before .before .before .before .before .before .before .before .before .before .before .before .before .loop .inv) _ _ (c .before .before .before .before .before .before .before .before .before .before .before .before .before .before .before .before .before .before .before .before .before .before .before .before .before .before .before .code-start .ensures .0) (c .before .before .before .before .before .before .before .before .before .before .before .before .before .before .before .before .before .before .before .before .before .before .before .wide .ensures .0) _ (c .before .before .before .before .before .before .before .before .before .before .before .before .before .before .before .before .before .before .before .before .before .before .five-at .ensures) _ (c .before .before .before .before .before .before .before .before .before .before .before .before .before .before .before .before .before .before .before .before .before .before .before .before .before .before .before .before .weights .ensures) _ (c .before .before .before .before .before .before .before .before .before .before .before .before .before .before .before .before .before .before .before .before .cost-of .ensures)) (c .before .before .before .before .before .before .before .before .before .before .before .before .before .before .before .before .before .before .before .if1 .left) _ (effect-met (c .before .before .before .before .before .before .before .before .before .before .before .before .before .before .before .before .before .before .before .before .before .before .before .before .loop .inv) _ _ (c .before .before .before .before .before .before .before .before .before .before .before .before .before .before .before .before .before .before .before .before .before .before .before .before .before .before .before .code-start .ensures .0) (c .before .before .before .before .before .before .before .before .before .before .before .before .before .before .before .before .before .before .before .before .before .before .before .wide .ensures .0) _ (c .before .before .before .before .before .before .before .before .before .before .before .before .before .before .before .before .before .before .before .before .before .before .five-at .ensures) _ (c .before .before .before .before .before .before .before .before .before .before .before .before .before .before .before .before .before .before .command-of .ensures) _ (c .before .before .before .before .before .before .before .before .before .before .before .before .before .before .before .before .effect .ensures)) _ (c .before .before .before .before .before .before .before .before .before .before .before .before .before .carry-out .ensures .2) _ _ (c .before .before .before .before .before .before .before .before .before .before .before .before .before .carry-out .ensures .0) (c .before .before .before .before .before .before .before .before .before .before .before .before .before .carry-out .ensures .1) _ _ _ _ (c .before .before .before .before .before .before .before .before .before .ask2 .given .1) _ _ (c .before .before .before .before .before .carry-fork .ensures) _ _ (c .before .answer2 .given .1)
-
-run-routine-enum-known-ask-3 : (t : ℕ) → run-routine-lts.Need-enum-known-ask-3 (
-  weights-reads.Asked,
-  weights-reads.Learnt,
-  code-start-reads.Asked,
-  code-start-reads.Learnt,
-  lay-reads.Asked,
-  lay-reads.Learnt,
-  wide-reads.Asked,
-  wide-reads.Learnt,
-  five-at-reads.Asked,
-  five-at-reads.Learnt,
-  cost-of-reads.Asked,
-  cost-of-reads.Learnt,
-  command-of-reads.Asked,
-  command-of-reads.Learnt,
-  effect-reads.Asked,
-  effect-reads.Learnt,
-  carry-out-reads.Asked,
-  carry-out-reads.Learnt,
-  rejoin-reads.Asked,
-  rejoin-reads.Learnt,
-  carry-fork-below t,
-  carry-fork.Post,
-  put-reads.Asked,
-  put-reads.Learnt,
-  with-pending-reads.Asked,
-  with-pending-reads.Learnt,
-  rest-window-reads.Asked,
-  rest-window-reads.Learnt,
-) (run-routine-at t) run-routine.Post run-routine-Inv-loop run-routine-μ-loop
-run-routine-enum-known-ask-3 t c = search needs
-
-run-routine-same-length-3 : (t : ℕ) → run-routine-lts.Need-same-length-3 (
-  weights-reads.Asked,
-  weights-reads.Learnt,
-  code-start-reads.Asked,
-  code-start-reads.Learnt,
-  lay-reads.Asked,
-  lay-reads.Learnt,
-  wide-reads.Asked,
-  wide-reads.Learnt,
-  five-at-reads.Asked,
-  five-at-reads.Learnt,
-  cost-of-reads.Asked,
-  cost-of-reads.Learnt,
-  command-of-reads.Asked,
-  command-of-reads.Learnt,
-  effect-reads.Asked,
-  effect-reads.Learnt,
-  carry-out-reads.Asked,
-  carry-out-reads.Learnt,
-  rejoin-reads.Asked,
-  rejoin-reads.Learnt,
-  carry-fork-below t,
-  carry-fork.Post,
-  put-reads.Asked,
-  put-reads.Learnt,
-  with-pending-reads.Asked,
-  with-pending-reads.Learnt,
-  rest-window-reads.Asked,
-  rest-window-reads.Learnt,
-) (run-routine-at t) run-routine.Post run-routine-Inv-loop run-routine-μ-loop
-run-routine-same-length-3 t c = c .before .before .before .before .before .carry-out .kept .1 .1 .1 .0 ∙ c .before .before .before .before .before .before .before .before .before .before .before .before .before .before .before .before .loop .inv .ready .memory ∙ sym (c .before .before .before .before .before .before .before .before .before .before .before .before .before .before .before .before .before .before .before .before .before .before .before .before .before .pre .1 .0 .memory)
-
-run-routine-returns-3 : (t : ℕ) → run-routine-lts.Need-returns-3 (
-  weights-reads.Asked,
-  weights-reads.Learnt,
-  code-start-reads.Asked,
-  code-start-reads.Learnt,
-  lay-reads.Asked,
-  lay-reads.Learnt,
-  wide-reads.Asked,
-  wide-reads.Learnt,
-  five-at-reads.Asked,
-  five-at-reads.Learnt,
-  cost-of-reads.Asked,
-  cost-of-reads.Learnt,
-  command-of-reads.Asked,
-  command-of-reads.Learnt,
-  effect-reads.Asked,
-  effect-reads.Learnt,
-  carry-out-reads.Asked,
-  carry-out-reads.Learnt,
-  rejoin-reads.Asked,
-  rejoin-reads.Learnt,
-  carry-fork-below t,
-  carry-fork.Post,
-  put-reads.Asked,
-  put-reads.Learnt,
-  with-pending-reads.Asked,
-  with-pending-reads.Learnt,
-  rest-window-reads.Asked,
-  rest-window-reads.Learnt,
-) (run-routine-at t) run-routine.Post run-routine-Inv-loop run-routine-μ-loop
-run-routine-returns-3 t c = stops-run (c .before .before .before .before .before .before .before .before .before .before .before .before .before .before .before .before .loop .inv) _ (cost-met (c .before .before .before .before .before .before .before .before .before .before .before .before .before .before .before .before .loop .inv) _ _ (c .before .before .before .before .before .before .before .before .before .before .before .before .before .before .before .before .before .before .before .code-start .ensures .0) (c .before .before .before .before .before .before .before .before .before .before .before .before .before .before .before .wide .ensures .0) _ (c .before .before .before .before .before .before .before .before .before .before .before .before .before .before .five-at .ensures) _ (c .before .before .before .before .before .before .before .before .before .before .before .before .before .before .before .before .before .before .before .before .weights .ensures) _ (c .before .before .before .before .before .before .before .before .before .before .before .before .cost-of .ensures)) (c .before .before .before .before .before .before .before .before .before .before .before .if1 .left) _ (effect-met (c .before .before .before .before .before .before .before .before .before .before .before .before .before .before .before .before .loop .inv) _ _ (c .before .before .before .before .before .before .before .before .before .before .before .before .before .before .before .before .before .before .before .code-start .ensures .0) (c .before .before .before .before .before .before .before .before .before .before .before .before .before .before .before .wide .ensures .0) _ (c .before .before .before .before .before .before .before .before .before .before .before .before .before .before .five-at .ensures) _ (c .before .before .before .before .before .before .before .before .before .before .command-of .ensures) _ (c .before .before .before .before .before .before .before .before .effect .ensures)) _ (c .before .before .before .before .before .carry-out .ensures .2) _ _ (c .before .before .before .before .before .carry-out .ensures .0) (c .before .before .before .before .before .carry-out .ensures .1) _ (c .before .ask3 .given .1)
-
-run-routine-enum-known-ask-4 : (t : ℕ) → run-routine-lts.Need-enum-known-ask-4 (
-  weights-reads.Asked,
-  weights-reads.Learnt,
-  code-start-reads.Asked,
-  code-start-reads.Learnt,
-  lay-reads.Asked,
-  lay-reads.Learnt,
-  wide-reads.Asked,
-  wide-reads.Learnt,
-  five-at-reads.Asked,
-  five-at-reads.Learnt,
-  cost-of-reads.Asked,
-  cost-of-reads.Learnt,
-  command-of-reads.Asked,
-  command-of-reads.Learnt,
-  effect-reads.Asked,
-  effect-reads.Learnt,
-  carry-out-reads.Asked,
-  carry-out-reads.Learnt,
-  rejoin-reads.Asked,
-  rejoin-reads.Learnt,
-  carry-fork-below t,
-  carry-fork.Post,
-  put-reads.Asked,
-  put-reads.Learnt,
-  with-pending-reads.Asked,
-  with-pending-reads.Learnt,
-  rest-window-reads.Asked,
-  rest-window-reads.Learnt,
-) (run-routine-at t) run-routine.Post run-routine-Inv-loop run-routine-μ-loop
-run-routine-enum-known-ask-4 t c = search needs
-
-run-routine-add-t59 : (t : ℕ) → run-routine-lts.Need-add-t59 (
-  weights-reads.Asked,
-  weights-reads.Learnt,
-  code-start-reads.Asked,
-  code-start-reads.Learnt,
-  lay-reads.Asked,
-  lay-reads.Learnt,
-  wide-reads.Asked,
-  wide-reads.Learnt,
-  five-at-reads.Asked,
-  five-at-reads.Learnt,
-  cost-of-reads.Asked,
-  cost-of-reads.Learnt,
-  command-of-reads.Asked,
-  command-of-reads.Learnt,
-  effect-reads.Asked,
-  effect-reads.Learnt,
-  carry-out-reads.Asked,
-  carry-out-reads.Learnt,
-  rejoin-reads.Asked,
-  rejoin-reads.Learnt,
-  carry-fork-below t,
-  carry-fork.Post,
-  put-reads.Asked,
-  put-reads.Learnt,
-  with-pending-reads.Asked,
-  with-pending-reads.Learnt,
-  rest-window-reads.Asked,
-  rest-window-reads.Learnt,
-) (run-routine-at t) run-routine.Post run-routine-Inv-loop run-routine-μ-loop
-run-routine-add-t59 t c = let h = paid-units (c .before .before .before .before .before .before .before .before .before .before .before .before .before .before .before .before .loop .inv) _ (cost-met (c .before .before .before .before .before .before .before .before .before .before .before .before .before .before .before .before .loop .inv) _ _ (c .before .before .before .before .before .before .before .before .before .before .before .before .before .before .before .before .before .before .before .code-start .ensures .0) (c .before .before .before .before .before .before .before .before .before .before .before .before .before .before .before .wide .ensures .0) _ (c .before .before .before .before .before .before .before .before .before .before .before .before .before .before .five-at .ensures) _ (c .before .before .before .before .before .before .before .before .before .before .before .before .before .before .before .before .before .before .before .before .weights .ensures) _ (c .before .before .before .before .before .before .before .before .before .before .before .before .cost-of .ensures)) (c .before .before .before .before .before .before .before .before .before .before .before .if1 .left) _ (effect-met (c .before .before .before .before .before .before .before .before .before .before .before .before .before .before .before .before .loop .inv) _ _ (c .before .before .before .before .before .before .before .before .before .before .before .before .before .before .before .before .before .before .before .code-start .ensures .0) (c .before .before .before .before .before .before .before .before .before .before .before .before .before .before .before .wide .ensures .0) _ (c .before .before .before .before .before .before .before .before .before .before .before .before .before .before .five-at .ensures) _ (c .before .before .before .before .before .before .before .before .before .before .command-of .ensures) _ (c .before .before .before .before .before .before .before .before .effect .ensures)) in omega (arith, c .before .before .before .before .before .before .before .before .before .before .before .before .before .before .before .before .before .before .before .before .before .before .before .before .before .fits)
-
-run-routine-same-length-4 : (t : ℕ) → run-routine-lts.Need-same-length-4 (
-  weights-reads.Asked,
-  weights-reads.Learnt,
-  code-start-reads.Asked,
-  code-start-reads.Learnt,
-  lay-reads.Asked,
-  lay-reads.Learnt,
-  wide-reads.Asked,
-  wide-reads.Learnt,
-  five-at-reads.Asked,
-  five-at-reads.Learnt,
-  cost-of-reads.Asked,
-  cost-of-reads.Learnt,
-  command-of-reads.Asked,
-  command-of-reads.Learnt,
-  effect-reads.Asked,
-  effect-reads.Learnt,
-  carry-out-reads.Asked,
-  carry-out-reads.Learnt,
-  rejoin-reads.Asked,
-  rejoin-reads.Learnt,
-  carry-fork-below t,
-  carry-fork.Post,
-  put-reads.Asked,
-  put-reads.Learnt,
-  with-pending-reads.Asked,
-  with-pending-reads.Learnt,
-  rest-window-reads.Asked,
-  rest-window-reads.Learnt,
-) (run-routine-at t) run-routine.Post run-routine-Inv-loop run-routine-μ-loop
-run-routine-same-length-4 t c = c .before .before .before .before .before .carry-out .kept .1 .1 .1 .0 ∙ c .before .before .before .before .before .before .before .before .before .before .before .before .before .before .before .before .loop .inv .ready .memory ∙ sym (c .before .before .before .before .before .before .before .before .before .before .before .before .before .before .before .before .before .before .before .before .before .before .before .before .before .pre .1 .0 .memory)
-
-run-routine-returns-4 : (t : ℕ) → run-routine-lts.Need-returns-4 (
-  weights-reads.Asked,
-  weights-reads.Learnt,
-  code-start-reads.Asked,
-  code-start-reads.Learnt,
-  lay-reads.Asked,
-  lay-reads.Learnt,
-  wide-reads.Asked,
-  wide-reads.Learnt,
-  five-at-reads.Asked,
-  five-at-reads.Learnt,
-  cost-of-reads.Asked,
-  cost-of-reads.Learnt,
-  command-of-reads.Asked,
-  command-of-reads.Learnt,
-  effect-reads.Asked,
-  effect-reads.Learnt,
-  carry-out-reads.Asked,
-  carry-out-reads.Learnt,
-  rejoin-reads.Asked,
-  rejoin-reads.Learnt,
-  carry-fork-below t,
-  carry-fork.Post,
-  put-reads.Asked,
-  put-reads.Learnt,
-  with-pending-reads.Asked,
-  with-pending-reads.Learnt,
-  rest-window-reads.Asked,
-  rest-window-reads.Learnt,
-) (run-routine-at t) run-routine.Post run-routine-Inv-loop run-routine-μ-loop
-run-routine-returns-4 t c = returns-run (c .before .before .before .before .before .before .before .before .before .before .before .before .before .before .before .before .loop .inv) _ (cost-met (c .before .before .before .before .before .before .before .before .before .before .before .before .before .before .before .before .loop .inv) _ _ (c .before .before .before .before .before .before .before .before .before .before .before .before .before .before .before .before .before .before .before .code-start .ensures .0) (c .before .before .before .before .before .before .before .before .before .before .before .before .before .before .before .wide .ensures .0) _ (c .before .before .before .before .before .before .before .before .before .before .before .before .before .before .five-at .ensures) _ (c .before .before .before .before .before .before .before .before .before .before .before .before .before .before .before .before .before .before .before .before .weights .ensures) _ (c .before .before .before .before .before .before .before .before .before .before .before .before .cost-of .ensures)) (c .before .before .before .before .before .before .before .before .before .before .before .if1 .left) _ (effect-met (c .before .before .before .before .before .before .before .before .before .before .before .before .before .before .before .before .loop .inv) _ _ (c .before .before .before .before .before .before .before .before .before .before .before .before .before .before .before .before .before .before .before .code-start .ensures .0) (c .before .before .before .before .before .before .before .before .before .before .before .before .before .before .before .wide .ensures .0) _ (c .before .before .before .before .before .before .before .before .before .before .before .before .before .before .five-at .ensures) _ (c .before .before .before .before .before .before .before .before .before .before .command-of .ensures) _ (c .before .before .before .before .before .before .before .before .effect .ensures)) _ (c .before .before .before .before .before .carry-out .ensures .2) _ _ (c .before .before .before .before .before .carry-out .ensures .0) (c .before .before .before .before .before .carry-out .ensures .1) _ (c .before .ask4 .given .1)
-
-pub +carry-fork+run-routine-spec : {M : Type 1} → statement M
-+carry-fork+run-routine-spec = close μ-carry-fork μ-run-routine (λ t. carry-fork-lts.spec (
+-- what each asks of its callees, and learns from them
+abbrev carry-fork-calls : ℕ → fork.Claims
+carry-fork-calls t = (
   arguments-of-reads.Asked,
   arguments-of-reads.Learnt,
   wide-byte-reads.Asked,
@@ -1748,8 +71,327 @@ pub +carry-fork+run-routine-spec : {M : Type 1} → statement M
   run-routine-below t,
   run-routine.Post,
 )
-    (carry-fork-at t)
-    carry-fork.Post
+
+abbrev run-routine-calls : ℕ → lts.Claims
+run-routine-calls t = (
+  weights-reads.Asked,
+  weights-reads.Learnt,
+  code-start-reads.Asked,
+  code-start-reads.Learnt,
+  lay-reads.Asked,
+  lay-reads.Learnt,
+  wide-reads.Asked,
+  wide-reads.Learnt,
+  five-at-reads.Asked,
+  five-at-reads.Learnt,
+  cost-of-reads.Asked,
+  cost-of-reads.Learnt,
+  command-of-reads.Asked,
+  command-of-reads.Learnt,
+  effect-reads.Asked,
+  effect-reads.Learnt,
+  carry-out-reads.Asked,
+  carry-out-reads.Learnt,
+  rejoin-reads.Asked,
+  rejoin-reads.Learnt,
+  carry-fork-below t,
+  carry-fork.Post,
+  put-reads.Asked,
+  put-reads.Learnt,
+  with-pending-reads.Asked,
+  with-pending-reads.Learnt,
+  rest-window-reads.Asked,
+  rest-window-reads.Learnt,
+)
+
+abbrev Inv : lts.InvT-loop
+Inv image starts parameters memory₀ routine arguments allowance before depth weights code position₀ pending₀ window₀ slots₀ units₀ memory position pending window slots units =
+    let j = jobOf image starts parameters allowance in
+    Far j depth (runFrom j (33 - depth) (startedOn routine arguments window₀) memory₀ before) memory (openAt routine position pending window slots) units
+
+abbrev μ : lts.MeasureT-loop
+μ image starts parameters memory₀ routine arguments allowance before depth weights code position₀ pending₀ window₀ slots₀ units₀ memory position pending window slots units =
+    suc allowance - units
+
+module _ (t : ℕ) where
+  carry-fork-returns : fork.Need-returns (carry-fork-calls t) (carry-fork-at t) carry-fork.Post
+  carry-fork-returns c = fork-deep _ _ _ _ _ _ (c .if1 .taken)
+
+  carry-fork-arguments-of-requires : fork.Need-arguments-of-requires (carry-fork-calls t) (carry-fork-at t) carry-fork.Post
+  carry-fork-arguments-of-requires c κs = search needs
+
+  carry-fork-wide-byte-requires : fork.Need-wide-byte-requires (carry-fork-calls t) (carry-fork-at t) carry-fork.Post
+  carry-fork-wide-byte-requires c κs = search needs
+
+  carry-fork-add-end : fork.Need-add-end (carry-fork-calls t) (carry-fork-at t) carry-fork.Post
+  carry-fork-add-end c = omega (arith, c .wide-byte .ensures .1)
+
+  carry-fork-add-so-far : fork.Need-add-so-far (carry-fork-calls t) (carry-fork-at t) carry-fork.Post
+  carry-fork-add-so-far c = omega (arith, c .before .before .before .before .before .before .before .pre .1 .paid)
+
+  carry-fork-mul-run-routine : fork.Need-mul-run-routine (carry-fork-calls t) (carry-fork-at t) carry-fork.Post
+  carry-fork-mul-run-routine c = search needs
+
+  carry-fork-sub-run-routine : fork.Need-sub-run-routine (carry-fork-calls t) (carry-fork-at t) carry-fork.Post
+  carry-fork-sub-run-routine c = omega arith
+
+  carry-fork-part-run-routine-start : fork.Need-part-run-routine-start (carry-fork-calls t) (carry-fork-at t) carry-fork.Post
+  carry-fork-part-run-routine-start c = omega arith
+
+  carry-fork-part-run-routine-end : fork.Need-part-run-routine-end (carry-fork-calls t) (carry-fork-at t) carry-fork.Post
+  carry-fork-part-run-routine-end c =
+      let s = c .before .before .before .before .before .before .before .before in
+      omega (arith, fork-end _ _ _ _ _ _ _ _ _ _ (s .pre .1) _ (c .before .wide-byte .ensures .0 ∙ c .before .before .arguments-of .ensures))
+
+  carry-fork-child-window-requires : fork.Need-child-window-requires (carry-fork-calls t) (carry-fork-at t) carry-fork.Post
+  carry-fork-child-window-requires c κs = c .before .before .before .before .before .before .before .before .before .pre .1 .cut
+
+  carry-fork-sub-run-routine-2 : fork.Need-sub-run-routine-2 (carry-fork-calls t) (carry-fork-at t) carry-fork.Post
+  carry-fork-sub-run-routine-2 c = omega (arith, c .before .before .before .before .before .if1 .left)
+
+  carry-fork-run-routine-requires : fork.Need-run-routine-requires (carry-fork-calls t) (carry-fork-at t) carry-fork.Post
+  carry-fork-run-routine-requires c κs =
+      let s = c .before .before .before .before .before .before .before .before .before .before in
+      let deep = c .before .before .before .before .before .if1 .left in
+      let given = c .before .before .before .wide-byte .ensures .0 ∙ c .before .before .before .before .arguments-of .ensures in
+      (omega arith, fork-ready _ _ _ _ _ _ _ _ _ _ (s .pre .1) _ given _ (c .child-window .ensures) _ refl _ refl deep)
+
+  carry-fork-same-length : fork.Need-same-length (carry-fork-calls t) (carry-fork-at t) carry-fork.Post
+  carry-fork-same-length c = search needs
+
+  carry-fork-returns-2 : fork.Need-returns-2 (carry-fork-calls t) (carry-fork-at t) carry-fork.Post
+  carry-fork-returns-2 c =
+      let called = c .before .before in
+      let s = called .before .before .before .before .before .before .before .before .before .before .before in
+      let deep = called .before .before .before .before .before .before .if1 .left in
+      let given = called .before .before .before .before .wide-byte .ensures .0 ∙ called .before .before .before .before .before .arguments-of .ensures in
+      fork-runs _ _ _ _ _ _ _ _ _ _ (s .pre .1) _ given _ (called .before .child-window .ensures) _ refl _ deep (called .run-routine .ensures)
+
+  -- the places of the loop: where the routine starts, the loop's head, a command's weight read, its effect carried out
+  abbrev Start : Type 0
+  Start = lts.Start (run-routine-calls t) (run-routine-at t) run-routine.Post Inv μ
+
+  abbrev Head : Type 0
+  Head = lts.At-loop (run-routine-calls t) (run-routine-at t) run-routine.Post Inv μ
+
+  abbrev Priced : Type 0
+  Priced = lts.After-cost-of (run-routine-calls t) (run-routine-at t) run-routine.Post Inv μ
+
+  abbrev Ready-to-act : Type 0
+  Ready-to-act = lts.After-carry-out-arg (run-routine-calls t) (run-routine-at t) run-routine.Post Inv μ
+
+  abbrev Acted : Type 0
+  Acted = lts.After-carry-out (run-routine-calls t) (run-routine-at t) run-routine.Post Inv μ
+
+  -- a fork is to be carried out
+  abbrev Calling : Type 0
+  Calling = lts.After-slots4 (run-routine-calls t) (run-routine-at t) run-routine.Post Inv μ
+
+  abbrev start : Head → Start
+  start c = c .before .before .before .before .before .before .before .before .before
+
+  abbrev job : Head → Job
+  job c = let a = start c .args in jobOf (a .image .now) (a .starts .now) (a .parameters .now) (a .allowance)
+
+  abbrev whole : Head → Ended
+  whole c = let a = start c .args in runFrom (job c) (33 - a .depth) (startedOn (a .routine) (a .arguments .now) (a .start)) (a .memory .now) (a .before)
+
+  abbrev opened : Head → Routine
+  opened c = openAt (start c .args .routine) (c .loop .position) (c .loop .pending) (c .loop .window) (c .loop .slots)
+
+  abbrev head : Priced → Head
+  head c = c .before .before .before .before
+
+  cost-here : (c : Priced) → c .cost-of .result ≡ weightAt (job (head c)) (opened (head c))
+  cost-here c =
+      cost-met (job (head c)) (opened (head c)) _ _ (head c .before .before .before .code-start .ensures .0) (c .before .before .before .wide .ensures .0) _ (c .before .before .five-at .ensures)
+      _ (head c .before .before .before .before .weights .ensures) _ (c .cost-of .ensures)
+
+  abbrev priced : Ready-to-act → Priced
+  priced c = c .before .before .before .before .before .before
+
+  met : (c : Ready-to-act) → Met (job (head (priced c))) (start (head (priced c)) .args .depth) (whole (head (priced c)))
+      (head (priced c) .loop .memory) (opened (head (priced c))) (head (priced c) .loop .units) (priced c .cost-of .result) (c .before .before .effect .result)
+  met c = record {
+    far = head (priced c) .loop .inv;
+    weight = cost-here (priced c);
+    paid = c .before .before .before .before .before .if1 .left;
+    effect =
+        let h = head (priced c) in
+        effect-met (job h) (opened h) _ _ (h .before .before .before .code-start .ensures .0) (priced c .before .before .before .wide .ensures .0) _ (priced c .before .before .five-at .ensures)
+        _ (c .before .before .before .before .command-of .ensures) _ (c .before .before .effect .ensures);
+  }
+
+  abbrev at : Acted → Head
+  at c = head (priced (c .before))
+
+  turn : (c : Acted) → Turn (job (at c)) (start (at c) .args .depth) (whole (at c)) (at c .loop .memory) (opened (at c)) (at c .loop .units)
+      (priced (c .before) .cost-of .result) (c .before .before .before .effect .result) (c .carry-out .result) (c .carry-out .last .1 .0) (c .carry-out .last .1 .1 .1 .0)
+  turn c = record { met = met (c .before); asked = c .carry-out .ensures .2; slots = c .carry-out .ensures .0; memory = c .carry-out .ensures .1 }
+
+  -- the memory words stay as many
+  length-kept : (c : Acted) → length (c .carry-out .last .1 .1 .1 .0) ≡ length (start (at c) .args .memory .now)
+  length-kept c = c .carry-out .kept .1 .1 .1 .0 ∙ at c .loop .inv .ready .memory ∙ sym (start (at c) .pre .1 .0 .memory)
+
+  run-routine-weights-requires : lts.Need-weights-requires (run-routine-calls t) (run-routine-at t) run-routine.Post Inv μ
+  run-routine-weights-requires c κs = search needs
+
+  run-routine-code-start-requires : lts.Need-code-start-requires (run-routine-calls t) (run-routine-at t) run-routine.Post Inv μ
+  run-routine-code-start-requires c κs = search needs
+
+  run-routine-lay-requires : lts.Need-lay-requires (run-routine-calls t) (run-routine-at t) run-routine.Post Inv μ
+  run-routine-lay-requires c κs = (refl, c .before .before .before .before .before .before .before .pre .1 .1)
+
+  run-routine-loop-holds : lts.Need-loop-holds (run-routine-calls t) (run-routine-at t) run-routine.Post Inv μ
+  run-routine-loop-holds c = let s = c .before .before .before .before .before .before .before .before in far-starts _ _ _ _ (s .args .arguments .now) _ _ _ (c .lay .ensures) (s .pre .1 .0)
+
+  run-routine-wide-requires : lts.Need-wide-requires (run-routine-calls t) (run-routine-at t) run-routine.Post Inv μ
+  run-routine-wide-requires c κs = search needs
+
+  run-routine-add-five-at : lts.Need-add-five-at (run-routine-calls t) (run-routine-at t) run-routine.Post Inv μ
+  run-routine-add-five-at c = omega (arith, c .before .before .before .before .code-start .ensures .1, c .wide .ensures .1)
+
+  run-routine-five-at-requires : lts.Need-five-at-requires (run-routine-calls t) (run-routine-at t) run-routine.Post Inv μ
+  run-routine-five-at-requires c κs = search needs
+
+  run-routine-slice-aggregate-cost-of : lts.Need-slice-aggregate-cost-of (run-routine-calls t) (run-routine-at t) run-routine.Post Inv μ
+  run-routine-slice-aggregate-cost-of c = search needs
+
+  run-routine-array-read-cost-of : lts.Need-array-read-cost-of (run-routine-calls t) (run-routine-at t) run-routine.Post Inv μ
+  run-routine-array-read-cost-of c = search needs
+
+  run-routine-cost-of-requires : lts.Need-cost-of-requires (run-routine-calls t) (run-routine-at t) run-routine.Post Inv μ
+  run-routine-cost-of-requires c κs = search needs
+
+  run-routine-sub-if1 : lts.Need-sub-if1 (run-routine-calls t) (run-routine-at t) run-routine.Post Inv μ
+  run-routine-sub-if1 c = head c .loop .inv .ready .paid
+
+  run-routine-same-length : lts.Need-same-length (run-routine-calls t) (run-routine-at t) run-routine.Post Inv μ
+  run-routine-same-length c = let h = head (c .before) in h .loop .inv .ready .memory ∙ sym (start h .pre .1 .0 .memory)
+
+  run-routine-returns : lts.Need-returns (run-routine-calls t) (run-routine-at t) run-routine.Post Inv μ
+  run-routine-returns c = unpaid (head (c .before) .loop .inv) (cost-here (c .before)) (c .if1 .taken)
+
+  run-routine-command-of-requires : lts.Need-command-of-requires (run-routine-calls t) (run-routine-at t) run-routine.Post Inv μ
+  run-routine-command-of-requires c κs = search needs
+
+  run-routine-slice-aggregate-effect : lts.Need-slice-aggregate-effect (run-routine-calls t) (run-routine-at t) run-routine.Post Inv μ
+  run-routine-slice-aggregate-effect c = search needs
+
+  run-routine-effect-requires : lts.Need-effect-requires (run-routine-calls t) (run-routine-at t) run-routine.Post Inv μ
+  run-routine-effect-requires c κs = search needs
+
+  run-routine-carry-out-requires : lts.Need-carry-out-requires (run-routine-calls t) (run-routine-at t) run-routine.Post Inv μ
+  run-routine-carry-out-requires c κs = reach (met c)
+
+  run-routine-enum-known-ask : lts.Need-enum-known-ask (run-routine-calls t) (run-routine-at t) run-routine.Post Inv μ
+  run-routine-enum-known-ask c = search needs
+
+  run-routine-add-units : lts.Need-add-units (run-routine-calls t) (run-routine-at t) run-routine.Post Inv μ
+  run-routine-add-units c = let w = c .before .before .before .before .before in let h = paid-units (met (w .before)) in omega (arith, start (at w) .fits)
+
+  run-routine-loop-less : lts.Need-loop-less (run-routine-calls t) (run-routine-at t) run-routine.Post Inv μ
+  run-routine-loop-less c = let w = c .before .before .before .before .before in let h = paid-units (met (w .before)) in let s = some-cost (at w .loop .inv) (cost-here (priced (w .before))) in omega arith
+
+  run-routine-loop-again : lts.Need-loop-again (run-routine-calls t) (run-routine-at t) run-routine.Post Inv μ
+  run-routine-loop-again c = let w = c .before .before .before .before .before in goes-again (turn w) _ (c .before .ask .given .1)
+
+  run-routine-enum-told : lts.Need-enum-told (run-routine-calls t) (run-routine-at t) run-routine.Post Inv μ
+  run-routine-enum-told c = search needs
+
+  run-routine-add-position : lts.Need-add-position (run-routine-calls t) (run-routine-at t) run-routine.Post Inv μ
+  run-routine-add-position c = let w = c .before .before .before .before in omega (arith, join-fits (turn w) (c .enum-told .given .1))
+
+  run-routine-rejoin-requires : lts.Need-rejoin-requires (run-routine-calls t) (run-routine-at t) run-routine.Post Inv μ
+  run-routine-rejoin-requires c κs = search needs
+
+  run-routine-add-units-2 : lts.Need-add-units-2 (run-routine-calls t) (run-routine-at t) run-routine.Post Inv μ
+  run-routine-add-units-2 c = let w = c .before .before .before .before .before in let h = paid-units (met (w .before)) in omega (arith, start (at w) .fits)
+
+  run-routine-loop-less-2 : lts.Need-loop-less-2 (run-routine-calls t) (run-routine-at t) run-routine.Post Inv μ
+  run-routine-loop-less-2 c = let w = c .before .before .before .before .before in let h = paid-units (met (w .before)) in let s = some-cost (at w .loop .inv) (cost-here (priced (w .before))) in omega arith
+
+  run-routine-loop-again-2 : lts.Need-loop-again-2 (run-routine-calls t) (run-routine-at t) run-routine.Post Inv μ
+  run-routine-loop-again-2 c = let w = c .before .before .before .before .before in joins-again (turn w) _ (c .rejoin .ensures) (c .before .enum-told .given .1)
+
+  abbrev acted : Calling → Acted
+  acted c = c .before .before .before .before .before .before .before
+
+  run-routine-enum-known-ask-2 : lts.Need-enum-known-ask-2 (run-routine-calls t) (run-routine-at t) run-routine.Post Inv μ
+  run-routine-enum-known-ask-2 c = search needs
+
+  run-routine-slice-aggregate-carry-fork : lts.Need-slice-aggregate-carry-fork (run-routine-calls t) (run-routine-at t) run-routine.Post Inv μ
+  run-routine-slice-aggregate-carry-fork c = sym (call-ready (turn (acted c)) _ _ _ _ (c .before .before .before .ask2 .given .1) .sixteen)
+
+  run-routine-carry-fork-requires : lts.Need-carry-fork-requires (run-routine-calls t) (run-routine-at t) run-routine.Post Inv μ
+  run-routine-carry-fork-requires c κs = (omega (arith, start (at (acted c)) .pre .0), call-ready (turn (acted c)) _ _ _ _ (c .before .before .before .ask2 .given .1))
+
+  run-routine-enum-known-answer : lts.Need-enum-known-answer (run-routine-calls t) (run-routine-at t) run-routine.Post Inv μ
+  run-routine-enum-known-answer c = search needs
+
+  run-routine-put-requires : lts.Need-put-requires (run-routine-calls t) (run-routine-at t) run-routine.Post Inv μ
+  run-routine-put-requires c κs = let k = c .before .before .before .before .before .before .before in call-slot (turn (acted k)) _ _ _ _ (k .before .before .before .ask2 .given .1)
+
+  run-routine-add-position-2 : lts.Need-add-position-2 (run-routine-calls t) (run-routine-at t) run-routine.Post Inv μ
+  run-routine-add-position-2 c = let k = c .before .before .before .before .before .before .before .before in omega (arith, call-fits (turn (acted k)) _ _ _ _ (k .before .before .before .ask2 .given .1))
+
+  run-routine-with-pending-requires : lts.Need-with-pending-requires (run-routine-calls t) (run-routine-at t) run-routine.Post Inv μ
+  run-routine-with-pending-requires c κs = tt
+
+  run-routine-rest-window-requires : lts.Need-rest-window-requires (run-routine-calls t) (run-routine-at t) run-routine.Post Inv μ
+  run-routine-rest-window-requires c κs = let k = c .before .before .before .before .before .before .before .before .before in call-cut (turn (acted k)) _ _ _ _ (k .before .before .before .ask2 .given .1)
+
+  run-routine-loop-less-3 : lts.Need-loop-less-3 (run-routine-calls t) (run-routine-at t) run-routine.Post Inv μ
+  run-routine-loop-less-3 c =
+      let k = c .before .before .before .before .before .before .before .before .before .before in
+      let w = acted k in
+      let h = call-units (turn w) _ _ _ _ (k .before .before .before .ask2 .given .1) _ _ (c .before .before .before .before .before .before .before .before .before .carry-fork .ensures) _ _ (c .before .before .before .before .before .answer .given .1) in
+      let s = some-cost (at w .loop .inv) (cost-here (priced (w .before))) in
+      omega arith
+
+  run-routine-loop-again-3 : lts.Need-loop-again-3 (run-routine-calls t) (run-routine-at t) run-routine.Post Inv μ
+  run-routine-loop-again-3 c =
+      let k = c .before .before .before .before .before .before .before .before .before .before in
+      let asked = k .before .before .before .ask2 .given .1 in
+      call-again (turn (acted k)) _ _ _ _ asked _ _ (c .before .before .before .before .before .before .before .before .before .carry-fork .ensures) _ _ (c .before .before .before .before .before .answer .given .1)
+      _ _ _ (c .before .with-pending .ensures .0 (call-slot (turn (acted k)) _ _ _ _ asked)) (c .rest-window .ensures) (c .before .before .put .ensures)
+
+  run-routine-enum-known-answer-2 : lts.Need-enum-known-answer-2 (run-routine-calls t) (run-routine-at t) run-routine.Post Inv μ
+  run-routine-enum-known-answer-2 c = search needs
+
+  run-routine-same-length-2 : lts.Need-same-length-2 (run-routine-calls t) (run-routine-at t) run-routine.Post Inv μ
+  run-routine-same-length-2 c = c .before .before .before .before .before .carry-fork .kept .1 .1 .1 .0 ∙ length-kept (acted (c .before .before .before .before .before .before))
+
+  run-routine-returns-2 : lts.Need-returns-2 (run-routine-calls t) (run-routine-at t) run-routine.Post Inv μ
+  run-routine-returns-2 c =
+      let k = c .before .before .before .before .before .before in
+      call-stops (turn (acted k)) _ _ _ _ (k .before .before .before .ask2 .given .1) _ _ (c .before .before .before .before .before .carry-fork .ensures) _ _ (c .before .answer2 .given .1)
+
+  run-routine-enum-known-ask-3 : lts.Need-enum-known-ask-3 (run-routine-calls t) (run-routine-at t) run-routine.Post Inv μ
+  run-routine-enum-known-ask-3 c = search needs
+
+  run-routine-same-length-3 : lts.Need-same-length-3 (run-routine-calls t) (run-routine-at t) run-routine.Post Inv μ
+  run-routine-same-length-3 c = length-kept (c .before .before .before .before .before)
+
+  run-routine-returns-3 : lts.Need-returns-3 (run-routine-calls t) (run-routine-at t) run-routine.Post Inv μ
+  run-routine-returns-3 c = let w = c .before .before .before .before .before in stops-run (turn w) _ (c .before .ask3 .given .1)
+
+  run-routine-enum-known-ask-4 : lts.Need-enum-known-ask-4 (run-routine-calls t) (run-routine-at t) run-routine.Post Inv μ
+  run-routine-enum-known-ask-4 c = search needs
+
+  run-routine-add-t59 : lts.Need-add-t59 (run-routine-calls t) (run-routine-at t) run-routine.Post Inv μ
+  run-routine-add-t59 c = let w = c .before .before .before .before .before in let h = paid-units (met (w .before)) in omega (arith, start (at w) .fits)
+
+  run-routine-same-length-4 : lts.Need-same-length-4 (run-routine-calls t) (run-routine-at t) run-routine.Post Inv μ
+  run-routine-same-length-4 c = length-kept (c .before .before .before .before .before)
+
+  run-routine-returns-4 : lts.Need-returns-4 (run-routine-calls t) (run-routine-at t) run-routine.Post Inv μ
+  run-routine-returns-4 c = let w = c .before .before .before .before .before in returns-run (turn w) _ (c .before .ask4 .given .1)
+
+pub +carry-fork+run-routine-spec : {M : Type 1} → statement M
++carry-fork+run-routine-spec =
+    close μ-carry-fork μ-run-routine
+    (λ t. fork.spec (carry-fork-calls t) (carry-fork-at t) carry-fork.Post
     (carry-fork-returns t)
     (carry-fork-arguments-of-requires t)
     (carry-fork-wide-byte-requires t)
@@ -1764,40 +406,7 @@ pub +carry-fork+run-routine-spec : {M : Type 1} → statement M
     (carry-fork-run-routine-requires t)
     (carry-fork-same-length t)
     (carry-fork-returns-2 t))
-    λ t. run-routine-lts.spec (
-      weights-reads.Asked,
-      weights-reads.Learnt,
-      code-start-reads.Asked,
-      code-start-reads.Learnt,
-      lay-reads.Asked,
-      lay-reads.Learnt,
-      wide-reads.Asked,
-      wide-reads.Learnt,
-      five-at-reads.Asked,
-      five-at-reads.Learnt,
-      cost-of-reads.Asked,
-      cost-of-reads.Learnt,
-      command-of-reads.Asked,
-      command-of-reads.Learnt,
-      effect-reads.Asked,
-      effect-reads.Learnt,
-      carry-out-reads.Asked,
-      carry-out-reads.Learnt,
-      rejoin-reads.Asked,
-      rejoin-reads.Learnt,
-      carry-fork-below t,
-      carry-fork.Post,
-      put-reads.Asked,
-      put-reads.Learnt,
-      with-pending-reads.Asked,
-      with-pending-reads.Learnt,
-      rest-window-reads.Asked,
-      rest-window-reads.Learnt,
-    )
-    (run-routine-at t)
-    run-routine.Post
-    run-routine-Inv-loop
-    run-routine-μ-loop
+    λ t. lts.spec (run-routine-calls t) (run-routine-at t) run-routine.Post Inv μ
     (run-routine-weights-requires t)
     (run-routine-code-start-requires t)
     (run-routine-lay-requires t)
