@@ -11,7 +11,10 @@ use Rattle.command.specs.Command.{decodedAt, fiveAt}
 use Rattle.command.specs.Weight.{weightOf}
 use Rattle.image.specs.Layout.{argumentsOf}
 use Rattle.window.specs.declared.Window.{Window}
-use Rattle.window.specs.Rights.{childOf, restOf, rejoined}
+use Rattle.window.specs.declared.Cut.{Cut}
+use Rattle.window.specs.declared.Cut.the-variants.{Parts, OutOfRange}
+use Rattle.window.specs.Rights.{childOf, cutAt, rejoined}
+use Rattle.window.proofs.Laws.{Cutting, cut-means, cut-made}
 use Rattle.stacklets.specs.Frames.{slotOf}
 use Rattle.thread.specs.declared.Effect.{Effect}
 use Rattle.thread.specs.declared.Effect.the-variants.{Faults, Sets, Loads, Stores, Goes, Continues, Lforks, Forks, Joins, Suspends, Yields, Returns}
@@ -45,18 +48,17 @@ far-starts j depth m r arguments w u slots e x = rw e (record { ready = x; is = 
 pub fork-deep : (j : Job) (child : Routine) (m : List ℕ) (u w depth : ℕ) → depth ≤ 1 → stopped 26 m u ≡ forkOf j (33 - depth) child m u w
 fork-deep j child m u w depth h = rw (le-leb 32 (33 - depth) (omega arith))
 
-module _ (j : Job) (slots : List ℕ) (w : Window) (e r a : ℕ) (m : List ℕ) (u cost depth : ℕ) (f : ForkReady j slots w e r a m u cost depth) where
+module _ (j : Job) (slots : List ℕ) (w : Window) (r a : ℕ) (m : List ℕ) (u cost depth : ℕ) (f : ForkReady j slots w r a m u cost depth) where
   pub fork-end : (count : ℕ) → count ≡ argumentsOf (j .image) r → a + count ≤ length slots
   fork-end count q = omega (arith, f .arguments, f .sixteen)
 
-  module _ (count : ℕ) (q : count ≡ argumentsOf (j .image) r) (child : Window) (child-is : child ≡ childOf w e) (arguments : List ℕ)
-      (arguments-are : arguments ≡ take (a + count - a) (drop a slots)) where
+  module _ (count : ℕ) (q : count ≡ argumentsOf (j .image) r) (arguments : List ℕ) (arguments-are : arguments ≡ take (a + count - a) (drop a slots)) where
     same-arguments : arguments ≡ take (argumentsOf (j .image) r) (drop a slots)
     same-arguments = let z : a + count - a ≡ argumentsOf (j .image) r = omega (arith, q) in arguments-are ∙ ap (λ i. take i (drop a slots)) z
 
-    pub fork-ready : (so-far : ℕ) → so-far ≡ u + cost → 1 < depth → Ready j (startedOn r arguments child) m so-far (depth - 1) × (length arguments ≤ 16)
+    pub fork-ready : (so-far : ℕ) → so-far ≡ u + cost → 1 < depth → Ready j (startedOn r arguments w) m so-far (depth - 1) × (length arguments ≤ 16)
     fork-ready so-far s h = (
-      rw (same-arguments, child-is, s) (record {
+      rw (same-arguments, s) (record {
         job = f .job;
         routine = f .routine;
         memory = f .memory;
@@ -67,11 +69,11 @@ module _ (j : Job) (slots : List ℕ) (w : Window) (e r a : ℕ) (m : List ℕ) 
       rw same-arguments (simp (length-take, length-drop) (omega (arith, f .arguments))),
     )
 
-    pub fork-runs : (o : Ended) → 1 < depth → o ≡ runFrom j (33 - (depth - 1)) (startedOn r arguments child) m (u + cost)
-        → o ≡ forkOf j (33 - depth) (childFrom (j .image) slots w e r a) m u cost
+    pub fork-runs : (o : Ended) → 1 < depth → o ≡ runFrom j (33 - (depth - 1)) (startedOn r arguments w) m (u + cost)
+        → o ≡ forkOf j (33 - depth) (childFrom (j .image) slots w r a) m u cost
     fork-runs o h p =
         let d : 33 - (depth - 1) ≡ suc (33 - depth) = omega (arith, f .most) in
-        rw (lt-leb 32 (33 - depth) (omega arith)) (rw (same-arguments, child-is, d) at p)
+        rw (lt-leb 32 (33 - depth) (omega arith)) (rw (same-arguments, d) at p)
 
 -- a fork, as the child's run and what follows it
 fork-splits : (b : Bool) (o x : Ended) (k : ℕ → List ℕ → ℕ → Ended) → andThen o k ≡ o → cond b o (andThen x k) ≡ andThen (cond b o x) k
@@ -214,68 +216,75 @@ module _ {j : Job} {depth : ℕ} {whole : Ended} {m : List ℕ} {l : Routine} {u
     same-memory : m' ≡ m
     same-memory = t .memory ∙ called .1 .memory
 
-    pub call-ready : ForkReady j slots (l .window) c r a m' u cost depth
-    call-ready = record {
-      job = good;
-      routine = rw same-slots (called .1 .child);
-      sixteen = ap length same-slots ∙ well .slots;
-      arguments = omega (arith, called .1 .asks .arguments, slots-few j good l well);
-      cut = called .1 .asks .high;
-      memory = same-length;
-      paid = paid-units (t .met);
-      some = far .ready .some;
-      most = far .ready .most;
-    }
-
     pub call-slot : d < 16
     call-slot = omega (arith, called .1 .asks .result, slots-few j good l well)
-
-    pub call-cut : c ≤ l .window .hi
-    call-cut = called .1 .asks .high
 
     pub call-fits : l .position + 5 < 65536
     call-fits = omega (arith, called .1 .five, next-small j good l well)
 
-    module _ (answer : SerialAnswer) (m'' : List ℕ)
-        (ran : endedBy answer m'' ≡ forkOf j n (childFrom (j .image) slots (l .window) c r a) m' u cost) where
-      abbrev onward : ℕ → List ℕ → ℕ → Ended
-      onward v x y = runFrom j n (withSlot d v (goesOn j (forked d c l))) x y
+    -- the cut is in range
+    pub call-cuts : (o : Cut) → o ≡ cutAt (l .window) c → o ≡ OutOfRange → ⊥
+    call-cuts o made q =
+        let x = cut-made (l .window) c (called .1 .asks .low) (called .1 .asks .high) in
+        let z : _≡_ {A = ℕ} 0 1 = cc in
+        omega arith
 
-      abbrev child : Routine
-      child = childFrom (j .image) (l .slots) (l .window) c r a
+    module _ (o : Cut) (made : o ≡ cutAt (l .window) c) (child rest : Window) (cut : o ≡ Parts child rest) where
+      parts : Cutting (l .window) c child rest
+      parts = cut-means (l .window) c child rest (sym made ∙ cut)
 
-      ran-here : endedBy answer m'' ≡ forkOf j n child m u (weightAt j l)
-      ran-here = rw (same-slots, same-memory, cost-is) at ran
+      pub call-ready : ForkReady j slots child r a m' u cost depth
+      call-ready = record {
+        job = good;
+        routine = rw (same-slots, parts .is-child) (called .1 .child);
+        sixteen = ap length same-slots ∙ well .slots;
+        arguments = omega (arith, called .1 .asks .arguments, slots-few j good l well);
+        memory = same-length;
+        paid = paid-units (t .met);
+        some = far .ready .some;
+        most = far .ready .most;
+      }
 
-      led : andThen (endedBy answer m'') onward ≡ whole
-      led = ap (λ o. andThen o onward) ran-here
-          ∙ sym (fork-splits (leb 32 n) (stopped 26 m u) (runFrom j (suc n) child m (u + weightAt j l)) onward refl)
-          ∙ sym (called .0) ∙ far .is
+      module _ (answer : SerialAnswer) (m'' : List ℕ)
+          (ran : endedBy answer m'' ≡ forkOf j n (childFrom (j .image) slots child r a) m' u cost) where
+        abbrev onward : ℕ → List ℕ → ℕ → Ended
+        onward v x y = runFrom j n (withSlot d v (goesOn j (forked d c l))) x y
 
-      -- it ended by a number
-      pub call-stops : (x u' : ℕ) → answer ≡ Stopped x u' → endedBy (Stopped x u') m'' ≡ whole
-      call-stops x u' s = rw s at led
+        abbrev young : Routine
+        young = childFrom (j .image) (l .slots) (childOf (l .window) c) r a
 
-      module _ (v u' : ℕ) (s : answer ≡ Finished v u') where
-        pub call-units : (u + cost ≤ u') × (u' ≤ j .allowance) × (length m'' ≡ 992)
-        call-units =
-            let x = between-done {v = v} {m = m''} (subst (Between (u + weightAt j l) (j .allowance) (length m))
-            (sym ran-here ∙ ap (λ z. endedBy z m'') s)
-            (fork-bounded j (leb 32 n) (suc n) child m u (weightAt j l) (rw cost-is at (paid-units (t .met))))) in
-            (omega (arith, x .0, cost-is), x .1, x .2 ∙ far .ready .memory)
+        ran-here : endedBy answer m'' ≡ forkOf j n young m u (weightAt j l)
+        ran-here = rw (same-slots, same-memory, cost-is, parts .is-child) at ran
 
-        pub call-again : (q : ℕ) (w : Window) (slots' : List ℕ) → q ≡ withPending (l .pending) d → w ≡ restOf (l .window) c → slots' ≡ set slots d v
-            → Far j depth whole m'' (openAt (l .routine) (l .position + 5) q w slots') u'
-        call-again q w slots' f g i =
-            let next : l .position + 5 ≡ nextOf j l = omega (arith, called .1 .five) in
-            rw (f, g, i, same-slots, next) (record {
-              ready = record {
-                job = good;
-                routine = called .1 .parent v;
-                memory = call-units .2;
-                paid = call-units .1;
-                some = far .ready .some;
-                most = far .ready .most;
-              };
-              is = rw s at led;
-            })
+        led : andThen (endedBy answer m'') onward ≡ whole
+        led = ap (λ o. andThen o onward) ran-here
+            ∙ sym (fork-splits (leb 32 n) (stopped 26 m u) (runFrom j (suc n) young m (u + weightAt j l)) onward refl)
+            ∙ sym (called .0) ∙ far .is
+
+        -- it ended by a number
+        pub call-stops : (x u' : ℕ) → answer ≡ Stopped x u' → endedBy (Stopped x u') m'' ≡ whole
+        call-stops x u' s = rw s at led
+
+        module _ (v u' : ℕ) (s : answer ≡ Finished v u') where
+          pub call-units : (u + cost ≤ u') × (u' ≤ j .allowance) × (length m'' ≡ 992)
+          call-units =
+              let x = between-done {v = v} {m = m''} (subst (Between (u + weightAt j l) (j .allowance) (length m))
+              (sym ran-here ∙ ap (λ z. endedBy z m'') s)
+              (fork-bounded j (leb 32 n) (suc n) young m u (weightAt j l) (rw cost-is at (paid-units (t .met))))) in
+              (omega (arith, x .0, cost-is), x .1, x .2 ∙ far .ready .memory)
+
+          pub call-again : (q : ℕ) (slots' : List ℕ) → q ≡ withPending (l .pending) d → slots' ≡ set slots d v
+              → Far j depth whole m'' (openAt (l .routine) (l .position + 5) q rest slots') u'
+          call-again q slots' f i =
+              let next : l .position + 5 ≡ nextOf j l = omega (arith, called .1 .five) in
+              rw (f, parts .is-rest, i, same-slots, next) (record {
+                ready = record {
+                  job = good;
+                  routine = called .1 .parent v;
+                  memory = call-units .2;
+                  paid = call-units .1;
+                  some = far .ready .some;
+                  most = far .ready .most;
+                };
+                is = rw s at led;
+              })

@@ -8,7 +8,7 @@ use lib.ListN.{getD, set, take, drop, length, replicate}
 use Rattle.image.specs.Layout.{countOf, codeOf, argumentsOf}
 use Rattle.image.specs.Code.{commandsOf, isStart}
 use Rattle.window.specs.declared.Window.{Window}
-use Rattle.window.specs.Rights.{Fits, childOf}
+use Rattle.window.specs.Rights.{Fits}
 use Rattle.thread.specs.declared.Effect.{Effect}
 use Rattle.thread.specs.declared.Effect.the-variants.{Faults, Sets, Loads, Stores, Goes, Continues, Lforks, Forks, Joins, Suspends, Yields, Returns}
 use Rattle.thread.specs.Job.{Job, GoodJob}
@@ -106,17 +106,16 @@ pub record Ready (j : Job) (l : Routine) (m : List ℕ) (units depth : ℕ) : Ty
   pub some : 1 ≤ depth
   pub most : depth ≤ 32
 
--- a child, as a fork of routine r by the cut e starts it: on its arguments, the parent's slots from a on, in its part of the parent's window
-abbrev pub childFrom : List ℕ → List ℕ → Window → ℕ → ℕ → ℕ → Routine
-childFrom image slots w e r a = startedOn r (take (argumentsOf image r) (drop a slots)) (childOf w e)
+-- a child, as a fork of routine r starts it: on its arguments, the parent's slots from a on, in its window
+abbrev pub childFrom : List ℕ → List ℕ → Window → ℕ → ℕ → Routine
+childFrom image slots w r a = startedOn r (take (argumentsOf image r) (drop a slots)) w
 
--- what carrying out a fork relies on: the child is good, its arguments and its cut are there, and the fork's weight is paid for
-pub record ForkReady (j : Job) (slots : List ℕ) (w : Window) (e r a : ℕ) (m : List ℕ) (units cost depth : ℕ) : Type 0 where
+-- what carrying out a fork relies on: the child is good, its arguments are there, and the fork's weight is paid for
+pub record ForkReady (j : Job) (slots : List ℕ) (w : Window) (r a : ℕ) (m : List ℕ) (units cost depth : ℕ) : Type 0 where
   pub job : GoodJob j
-  pub routine : GoodRoutine j (childFrom (j .image) slots w e r a)
+  pub routine : GoodRoutine j (childFrom (j .image) slots w r a)
   pub sixteen : length slots ≡ 16
   pub arguments : a + argumentsOf (j .image) r ≤ 16
-  pub cut : e ≤ w .hi
   pub memory : length m ≡ 992
   pub paid : units + cost ≤ j .allowance
   pub some : 1 ≤ depth

@@ -1,9 +1,7 @@
-// An open routine's frame: its arguments, its first slots, and the parts of its window at a fork.
-use window::Window;
+// An open routine's slots: its arguments, and a slot written.
 ghost use mathlib.Core.Path.{_≡_};
-ghost use Prim.Native.Nat.{_+_, _≤_, _<_};
+ghost use Prim.Native.Nat.{_≤_, _<_};
 ghost use lib.ListN.{length, replicate, set};
-ghost use Rattle.window.specs.Rights.{childOf, restOf};
 ghost use Rattle.serial.specs.Steps.{firstSlots};
 
 // A byte, as an index.
@@ -23,29 +21,6 @@ pub fn lay(slots: &mut [u32; 16], arguments: &[u32])
     while k < n {
         slots[k] = arguments[k];
         k = k + 1;
-    }
-}
-
-// The child's part of a window, up to the cut e.
-pub fn child_window(window: Window, e: u32) -> Window
-    requires { ⌜ e ≤ window .hi ⌝ }
-    ensures { λ r. ⌜ r ≡ childOf window e ⌝ }
-{
-    let mark = window.mark;
-    let hi = e as u16;
-    Window { lo: mark, mark, hi }
-}
-
-// What is left of a window, from the cut e on.
-pub fn rest_window(window: Window, e: u32) -> Window
-    requires { ⌜ e ≤ window .hi ⌝ }
-    ensures { λ r. ⌜ r ≡ restOf window e ⌝ }
-{
-    let mark = e as u16;
-    Window {
-        lo: window.lo,
-        mark,
-        hi: window.hi,
     }
 }
 

@@ -7,10 +7,8 @@ use crate::act::carry_out;
 use crate::act::code_start;
 use crate::act::cost_of;
 use crate::act::wide;
-use crate::frame::child_window;
 use crate::frame::lay;
 use crate::frame::put;
-use crate::frame::rest_window;
 use crate::frame::wide_byte;
 use command::command_of;
 use command::five_at;
@@ -20,6 +18,7 @@ use image::number::number_of;
 use image::routines::arguments_of;
 use thread::effects::effect;
 use thread::pending::with_pending;
+use window::Cut;
 use window::Window;
 ghost use mathlib.Core.Path.{_≡_};
 ghost use Prim.Native.Nat.{_+_, _-_, _≤_};
@@ -59,16 +58,15 @@ enum Ask {
     Return(u32),
 }
 
-// Carries out a fork: the child starts on its arguments, the parent's slots from a on, in the parent's window up to the cut e, and runs to
-// its end. `depth` routines may be open from the parent on, itself included.
+// Carries out a fork: the child starts on its arguments, the parent's slots from a on, in its part of the parent's window, and runs to its
+// end. `depth` routines may be open from the parent on, itself included.
 fn carry_fork(
     image: &[u8],
     starts: &[u16; 32],
     parameters: &[u32],
     memory: &mut [u32],
     slots: &[u32],
-    window: Window,
-    e: u32,
+    child: Window,
     r: u8,
     a: u8,
     allowance: u32,
@@ -76,8 +74,8 @@ fn carry_fork(
     cost: u32,
     depth: u8,
 ) -> SerialAnswer
-    requires { ⌜ ForkReady (jobOf (now image) (now starts) (now parameters) allowance) (now slots) window e r a (now memory) units cost depth ⌝ }
-    ensures { λ o. ⌜ endedBy o (now (memory .exit)) ≡ forkOf (jobOf (now (image .entry)) (now (starts .entry)) (now (parameters .entry)) allowance) (33 - depth) (childFrom (now (image .entry)) (now (slots .entry)) window e r a) (now (memory .entry)) units cost ⌝ }
+    requires { ⌜ ForkReady (jobOf (now image) (now starts) (now parameters) allowance) (now slots) child r a (now memory) units cost depth ⌝ }
+    ensures { λ o. ⌜ endedBy o (now (memory .exit)) ≡ forkOf (jobOf (now (image .entry)) (now (starts .entry)) (now (parameters .entry)) allowance) (33 - depth) (childFrom (now (image .entry)) (now (slots .entry)) child r a) (now (memory .entry)) units cost ⌝ }
 {
     if depth <= 1 {
         return SerialAnswer::Stopped(26, units);
@@ -92,7 +90,7 @@ fn carry_fork(
         memory,
         r,
         &slots[from..end],
-        child_window(window, e),
+        child,
         allowance,
         so_far,
         depth - 1,
@@ -144,31 +142,39 @@ fn run_routine(
                 units = units + cost;
             }
             Ask::Call(e, r, d, a) => {
-                let answer = carry_fork(
-                    image,
-                    starts,
-                    parameters,
-                    memory,
-                    &slots,
-                    window,
-                    e,
-                    r,
-                    a,
-                    allowance,
-                    units,
-                    cost,
-                    depth,
-                );
-                match answer {
-                    SerialAnswer::Finished(value, so_far) => {
-                        put(&mut slots, d, value);
-                        position = position + 5;
-                        pending = with_pending(pending, d);
-                        window = rest_window(window, e);
-                        units = so_far;
+                let cut = window.cut(e);
+                match cut {
+                    Cut::Parts { child, rest } => {
+                        let answer = carry_fork(
+                            image,
+                            starts,
+                            parameters,
+                            memory,
+                            &slots,
+                            child,
+                            r,
+                            a,
+                            allowance,
+                            units,
+                            cost,
+                            depth,
+                        );
+                        match answer {
+                            SerialAnswer::Finished(value, so_far) => {
+                                put(&mut slots, d, value);
+                                position = position + 5;
+                                pending = with_pending(pending, d);
+                                window = rest;
+                                units = so_far;
+                            }
+                            SerialAnswer::Stopped(number, so_far) => {
+                                return SerialAnswer::Stopped(number, so_far);
+                            }
+                        }
                     }
-                    SerialAnswer::Stopped(number, so_far) => {
-                        return SerialAnswer::Stopped(number, so_far);
+                    // not met: the effect is a fork only where the cut is in range
+                    Cut::OutOfRange => {
+                        return SerialAnswer::Stopped(11, units);
                     }
                 }
             }

@@ -11,6 +11,7 @@ use Rattle.command.proofs.command_of.Reads as command-of-reads
 use Rattle.command.proofs.five_at.Reads as five-at-reads
 use Rattle.command.proofs.weights.Reads as weights-reads
 use Rattle.image.proofs.routines.arguments_of.Reads as arguments-of-reads
+use Rattle.window.proofs.Window.cut.Reads as cut-reads
 use Rattle.window.proofs.Window.rejoin.Reads as rejoin-reads
 use Rattle.thread.specs.Job.{Job, jobOf}
 use Rattle.thread.proofs.effects.effect.Reads as effect-reads
@@ -18,7 +19,7 @@ use Rattle.thread.proofs.pending.with_pending.Reads as with-pending-reads
 use Rattle.serial.specs.declared.Routine.{Routine}
 use Rattle.serial.specs.Serial.{Ended, startedOn, weightAt, runFrom}
 use Rattle.serial.specs.Steps.{openAt}
-use Rattle.serial.proofs.Loop.{Met, Turn, Far, far-starts, fork-deep, fork-end, fork-ready, fork-runs, cost-met, effect-met, some-cost, unpaid, paid-units, reach, goes-again, join-fits, joins-again, stops-run, returns-run, call-ready, call-slot, call-cut, call-fits, call-stops, call-units, call-again}
+use Rattle.serial.proofs.Loop.{Met, Turn, Far, far-starts, fork-deep, fork-end, fork-ready, fork-runs, cost-met, effect-met, some-cost, unpaid, paid-units, reach, goes-again, join-fits, joins-again, stops-run, returns-run, call-ready, call-slot, call-cuts, call-fits, call-stops, call-units, call-again}
 use Rattle.serial.proofs.carry_fork.Reads as carry-fork
 use Rattle.serial.proofs.carry_fork.Kinds as carry-fork-kinds
 use Rattle.serial.proofs.+carry_fork+run_routine.Lts-carry_fork as fork
@@ -29,16 +30,14 @@ use Rattle.serial.proofs.act.carry_out.Reads as carry-out-reads
 use Rattle.serial.proofs.act.code_start.Reads as code-start-reads
 use Rattle.serial.proofs.act.cost_of.Reads as cost-of-reads
 use Rattle.serial.proofs.act.wide.Reads as wide-reads
-use Rattle.serial.proofs.frame.child_window.Reads as child-window-reads
 use Rattle.serial.proofs.frame.lay.Reads as lay-reads
 use Rattle.serial.proofs.frame.put.Reads as put-reads
-use Rattle.serial.proofs.frame.rest_window.Reads as rest-window-reads
 use Rattle.serial.proofs.frame.wide_byte.Reads as wide-byte-reads
 use Rattle.serial.proofs.+carry_fork+run_routine.{statement}
 use Rattle.serial.proofs.+carry_fork+run_routine.Tie.{close}
 
 abbrev μ-carry-fork : Measures 5 carry-fork-kinds.ps ℕ
-μ-carry-fork κs a = a .1 .1 .1 .1 .1 .1 .1 .1 .1 .1 .1 .1 .0 + a .1 .1 .1 .1 .1 .1 .1 .1 .1 .1 .1 .1 .0
+μ-carry-fork κs a = a .1 .1 .1 .1 .1 .1 .1 .1 .1 .1 .1 .0 + a .1 .1 .1 .1 .1 .1 .1 .1 .1 .1 .1 .0
 
 abbrev μ-run-routine : Measures 5 run-routine-kinds.ps ℕ
 μ-run-routine κs a = a .1 .1 .1 .1 .1 .1 .1 .1 .1 .0 + a .1 .1 .1 .1 .1 .1 .1 .1 .1 .0 + 1
@@ -66,8 +65,6 @@ carry-fork-calls t = (
   arguments-of-reads.Learnt,
   wide-byte-reads.Asked,
   wide-byte-reads.Learnt,
-  child-window-reads.Asked,
-  child-window-reads.Learnt,
   run-routine-below t,
   run-routine.Post,
 )
@@ -94,14 +91,14 @@ run-routine-calls t = (
   carry-out-reads.Learnt,
   rejoin-reads.Asked,
   rejoin-reads.Learnt,
+  cut-reads.Asked,
+  cut-reads.Learnt,
   carry-fork-below t,
   carry-fork.Post,
   put-reads.Asked,
   put-reads.Learnt,
   with-pending-reads.Asked,
   with-pending-reads.Learnt,
-  rest-window-reads.Asked,
-  rest-window-reads.Learnt,
 )
 
 abbrev Inv : lts.InvT-loop
@@ -141,20 +138,17 @@ module _ (t : ℕ) where
   carry-fork-part-run-routine-end : fork.Need-part-run-routine-end (carry-fork-calls t) (carry-fork-at t) carry-fork.Post
   carry-fork-part-run-routine-end c =
       let s = c .before .before .before .before .before .before .before .before in
-      omega (arith, fork-end _ _ _ _ _ _ _ _ _ _ (s .pre .1) _ (c .before .wide-byte .ensures .0 ∙ c .before .before .arguments-of .ensures))
-
-  carry-fork-child-window-requires : fork.Need-child-window-requires (carry-fork-calls t) (carry-fork-at t) carry-fork.Post
-  carry-fork-child-window-requires c κs = c .before .before .before .before .before .before .before .before .before .pre .1 .cut
+      omega (arith, fork-end _ _ _ _ _ _ _ _ _ (s .pre .1) _ (c .before .wide-byte .ensures .0 ∙ c .before .before .arguments-of .ensures))
 
   carry-fork-sub-run-routine-2 : fork.Need-sub-run-routine-2 (carry-fork-calls t) (carry-fork-at t) carry-fork.Post
-  carry-fork-sub-run-routine-2 c = omega (arith, c .before .before .before .before .before .if1 .left)
+  carry-fork-sub-run-routine-2 c = omega (arith, c .before .before .before .before .if1 .left)
 
   carry-fork-run-routine-requires : fork.Need-run-routine-requires (carry-fork-calls t) (carry-fork-at t) carry-fork.Post
   carry-fork-run-routine-requires c κs =
-      let s = c .before .before .before .before .before .before .before .before .before .before in
-      let deep = c .before .before .before .before .before .if1 .left in
-      let given = c .before .before .before .wide-byte .ensures .0 ∙ c .before .before .before .before .arguments-of .ensures in
-      (omega arith, fork-ready _ _ _ _ _ _ _ _ _ _ (s .pre .1) _ given _ (c .child-window .ensures) _ refl _ refl deep)
+      let s = c .before .before .before .before .before .before .before .before .before in
+      let deep = c .before .before .before .before .if1 .left in
+      let given = c .before .before .wide-byte .ensures .0 ∙ c .before .before .before .arguments-of .ensures in
+      (omega arith, fork-ready _ _ _ _ _ _ _ _ _ (s .pre .1) _ given _ refl _ refl deep)
 
   carry-fork-same-length : fork.Need-same-length (carry-fork-calls t) (carry-fork-at t) carry-fork.Post
   carry-fork-same-length c = search needs
@@ -162,10 +156,10 @@ module _ (t : ℕ) where
   carry-fork-returns-2 : fork.Need-returns-2 (carry-fork-calls t) (carry-fork-at t) carry-fork.Post
   carry-fork-returns-2 c =
       let called = c .before .before in
-      let s = called .before .before .before .before .before .before .before .before .before .before .before in
-      let deep = called .before .before .before .before .before .before .if1 .left in
-      let given = called .before .before .before .before .wide-byte .ensures .0 ∙ called .before .before .before .before .before .arguments-of .ensures in
-      fork-runs _ _ _ _ _ _ _ _ _ _ (s .pre .1) _ given _ (called .before .child-window .ensures) _ refl _ deep (called .run-routine .ensures)
+      let s = called .before .before .before .before .before .before .before .before .before .before in
+      let deep = called .before .before .before .before .before .if1 .left in
+      let given = called .before .before .before .wide-byte .ensures .0 ∙ called .before .before .before .before .arguments-of .ensures in
+      fork-runs _ _ _ _ _ _ _ _ _ (s .pre .1) _ given _ refl _ deep (called .run-routine .ensures)
 
   -- the places of the loop: where the routine starts, the loop's head, a command's weight read, its effect carried out
   abbrev Start : Type 0
@@ -183,7 +177,10 @@ module _ (t : ℕ) where
   abbrev Acted : Type 0
   Acted = lts.After-carry-out (run-routine-calls t) (run-routine-at t) run-routine.Post Inv μ
 
-  -- a fork is to be carried out
+  -- a fork cuts the window, and is to be carried out
+  abbrev Cutting : Type 0
+  Cutting = lts.After-cut (run-routine-calls t) (run-routine-at t) run-routine.Post Inv μ
+
   abbrev Calling : Type 0
   Calling = lts.After-slots4 (run-routine-calls t) (run-routine-at t) run-routine.Post Inv μ
 
@@ -314,79 +311,99 @@ module _ (t : ℕ) where
   run-routine-loop-again-2 : lts.Need-loop-again-2 (run-routine-calls t) (run-routine-at t) run-routine.Post Inv μ
   run-routine-loop-again-2 c = let w = c .before .before .before .before .before in joins-again (turn w) _ (c .rejoin .ensures) (c .before .enum-told .given .1)
 
-  abbrev acted : Calling → Acted
-  acted c = c .before .before .before .before .before .before .before
+  abbrev acted : Cutting → Acted
+  acted c = c .before .before .before .before .before .before
+
+  abbrev cutting : Calling → Cutting
+  cutting c = c .before .before .before .before .before
 
   run-routine-enum-known-ask-2 : lts.Need-enum-known-ask-2 (run-routine-calls t) (run-routine-at t) run-routine.Post Inv μ
   run-routine-enum-known-ask-2 c = search needs
 
+  run-routine-cut-requires : lts.Need-cut-requires (run-routine-calls t) (run-routine-at t) run-routine.Post Inv μ
+  run-routine-cut-requires c κs = search needs
+
+  run-routine-enum-known-cut : lts.Need-enum-known-cut (run-routine-calls t) (run-routine-at t) run-routine.Post Inv μ
+  run-routine-enum-known-cut c = search needs
+
   run-routine-slice-aggregate-carry-fork : lts.Need-slice-aggregate-carry-fork (run-routine-calls t) (run-routine-at t) run-routine.Post Inv μ
-  run-routine-slice-aggregate-carry-fork c = sym (call-ready (turn (acted c)) _ _ _ _ (c .before .before .before .ask2 .given .1) .sixteen)
+  run-routine-slice-aggregate-carry-fork c = let q = c in let k = cutting q in sym (call-ready (turn (acted k)) _ _ _ _ (k .before .before .ask2 .given .1) _ (k .cut .ensures) _ _ (q .before .before .before .cut2 .given .1) .sixteen)
 
   run-routine-carry-fork-requires : lts.Need-carry-fork-requires (run-routine-calls t) (run-routine-at t) run-routine.Post Inv μ
-  run-routine-carry-fork-requires c κs = (omega (arith, start (at (acted c)) .pre .0), call-ready (turn (acted c)) _ _ _ _ (c .before .before .before .ask2 .given .1))
+  run-routine-carry-fork-requires c κs =
+      let q = c in
+      let k = cutting q in
+      (omega (arith, start (at (acted k)) .pre .0), call-ready (turn (acted k)) _ _ _ _ (k .before .before .ask2 .given .1) _ (k .cut .ensures) _ _ (q .before .before .before .cut2 .given .1))
 
   run-routine-enum-known-answer : lts.Need-enum-known-answer (run-routine-calls t) (run-routine-at t) run-routine.Post Inv μ
   run-routine-enum-known-answer c = search needs
 
   run-routine-put-requires : lts.Need-put-requires (run-routine-calls t) (run-routine-at t) run-routine.Post Inv μ
-  run-routine-put-requires c κs = let k = c .before .before .before .before .before .before .before in call-slot (turn (acted k)) _ _ _ _ (k .before .before .before .ask2 .given .1)
+  run-routine-put-requires c κs = let q = c .before .before .before .before .before .before .before in let k = cutting q in call-slot (turn (acted k)) _ _ _ _ (k .before .before .ask2 .given .1)
 
   run-routine-add-position-2 : lts.Need-add-position-2 (run-routine-calls t) (run-routine-at t) run-routine.Post Inv μ
-  run-routine-add-position-2 c = let k = c .before .before .before .before .before .before .before .before in omega (arith, call-fits (turn (acted k)) _ _ _ _ (k .before .before .before .ask2 .given .1))
+  run-routine-add-position-2 c = let q = c .before .before .before .before .before .before .before .before in let k = cutting q in omega (arith, call-fits (turn (acted k)) _ _ _ _ (k .before .before .ask2 .given .1))
 
   run-routine-with-pending-requires : lts.Need-with-pending-requires (run-routine-calls t) (run-routine-at t) run-routine.Post Inv μ
   run-routine-with-pending-requires c κs = tt
 
-  run-routine-rest-window-requires : lts.Need-rest-window-requires (run-routine-calls t) (run-routine-at t) run-routine.Post Inv μ
-  run-routine-rest-window-requires c κs = let k = c .before .before .before .before .before .before .before .before .before in call-cut (turn (acted k)) _ _ _ _ (k .before .before .before .ask2 .given .1)
-
   run-routine-loop-less-3 : lts.Need-loop-less-3 (run-routine-calls t) (run-routine-at t) run-routine.Post Inv μ
   run-routine-loop-less-3 c =
-      let k = c .before .before .before .before .before .before .before .before .before .before in
+      let q = c .before .before .before .before .before .before .before .before .before in
+      let k = cutting q in
       let w = acted k in
-      let h = call-units (turn w) _ _ _ _ (k .before .before .before .ask2 .given .1) _ _ (c .before .before .before .before .before .before .before .before .before .carry-fork .ensures) _ _ (c .before .before .before .before .before .answer .given .1) in
+      let h = call-units (turn w) _ _ _ _ (k .before .before .ask2 .given .1) _ (k .cut .ensures) _ _ (q .before .before .before .cut2 .given .1) _ _ (c .before .before .before .before .before .before .before .before .carry-fork .ensures) _ _ (c .before .before .before .before .answer .given .1) in
       let s = some-cost (at w .loop .inv) (cost-here (priced (w .before))) in
       omega arith
 
   run-routine-loop-again-3 : lts.Need-loop-again-3 (run-routine-calls t) (run-routine-at t) run-routine.Post Inv μ
   run-routine-loop-again-3 c =
-      let k = c .before .before .before .before .before .before .before .before .before .before in
-      let asked = k .before .before .before .ask2 .given .1 in
-      call-again (turn (acted k)) _ _ _ _ asked _ _ (c .before .before .before .before .before .before .before .before .before .carry-fork .ensures) _ _ (c .before .before .before .before .before .answer .given .1)
-      _ _ _ (c .before .with-pending .ensures .0 (call-slot (turn (acted k)) _ _ _ _ asked)) (c .rest-window .ensures) (c .before .before .put .ensures)
+      let q = c .before .before .before .before .before .before .before .before .before in
+      let k = cutting q in
+      call-again (turn (acted k)) _ _ _ _ (k .before .before .ask2 .given .1) _ (k .cut .ensures) _ _ (q .before .before .before .cut2 .given .1) _ _ (c .before .before .before .before .before .before .before .before .carry-fork .ensures) _ _ (c .before .before .before .before .answer .given .1)
+      _ _ (c .with-pending .ensures .0 (call-slot (turn (acted k)) _ _ _ _ (k .before .before .ask2 .given .1))) (c .before .put .ensures)
 
   run-routine-enum-known-answer-2 : lts.Need-enum-known-answer-2 (run-routine-calls t) (run-routine-at t) run-routine.Post Inv μ
   run-routine-enum-known-answer-2 c = search needs
 
   run-routine-same-length-2 : lts.Need-same-length-2 (run-routine-calls t) (run-routine-at t) run-routine.Post Inv μ
-  run-routine-same-length-2 c = c .before .before .before .before .before .carry-fork .kept .1 .1 .1 .0 ∙ length-kept (acted (c .before .before .before .before .before .before))
+  run-routine-same-length-2 c = c .before .before .before .before .before .carry-fork .kept .1 .1 .1 .0 ∙ length-kept (acted (cutting (c .before .before .before .before .before .before)))
 
   run-routine-returns-2 : lts.Need-returns-2 (run-routine-calls t) (run-routine-at t) run-routine.Post Inv μ
   run-routine-returns-2 c =
-      let k = c .before .before .before .before .before .before in
-      call-stops (turn (acted k)) _ _ _ _ (k .before .before .before .ask2 .given .1) _ _ (c .before .before .before .before .before .carry-fork .ensures) _ _ (c .before .answer2 .given .1)
+      let q = c .before .before .before .before .before .before in
+      let k = cutting q in
+      call-stops (turn (acted k)) _ _ _ _ (k .before .before .ask2 .given .1) _ (k .cut .ensures) _ _ (q .before .before .before .cut2 .given .1) _ _ (c .before .before .before .before .before .carry-fork .ensures) _ _ (c .before .answer2 .given .1)
+
+  run-routine-enum-told-2 : lts.Need-enum-told-2 (run-routine-calls t) (run-routine-at t) run-routine.Post Inv μ
+  run-routine-enum-told-2 c = search needs
+
+  run-routine-same-length-3 : lts.Need-same-length-3 (run-routine-calls t) (run-routine-at t) run-routine.Post Inv μ
+  run-routine-same-length-3 c = length-kept (acted (c .before .before))
+
+  run-routine-returns-3 : lts.Need-returns-3 (run-routine-calls t) (run-routine-at t) run-routine.Post Inv μ
+  run-routine-returns-3 c = let k = c .before .before in absurd (call-cuts (turn (acted k)) _ _ _ _ (k .before .before .ask2 .given .1) _ (k .cut .ensures) (c .enum-told2 .given .1))
 
   run-routine-enum-known-ask-3 : lts.Need-enum-known-ask-3 (run-routine-calls t) (run-routine-at t) run-routine.Post Inv μ
   run-routine-enum-known-ask-3 c = search needs
-
-  run-routine-same-length-3 : lts.Need-same-length-3 (run-routine-calls t) (run-routine-at t) run-routine.Post Inv μ
-  run-routine-same-length-3 c = length-kept (c .before .before .before .before .before)
-
-  run-routine-returns-3 : lts.Need-returns-3 (run-routine-calls t) (run-routine-at t) run-routine.Post Inv μ
-  run-routine-returns-3 c = let w = c .before .before .before .before .before in stops-run (turn w) _ (c .before .ask3 .given .1)
-
-  run-routine-enum-known-ask-4 : lts.Need-enum-known-ask-4 (run-routine-calls t) (run-routine-at t) run-routine.Post Inv μ
-  run-routine-enum-known-ask-4 c = search needs
-
-  run-routine-add-t59 : lts.Need-add-t59 (run-routine-calls t) (run-routine-at t) run-routine.Post Inv μ
-  run-routine-add-t59 c = let w = c .before .before .before .before .before in let h = paid-units (met (w .before)) in omega (arith, start (at w) .fits)
 
   run-routine-same-length-4 : lts.Need-same-length-4 (run-routine-calls t) (run-routine-at t) run-routine.Post Inv μ
   run-routine-same-length-4 c = length-kept (c .before .before .before .before .before)
 
   run-routine-returns-4 : lts.Need-returns-4 (run-routine-calls t) (run-routine-at t) run-routine.Post Inv μ
-  run-routine-returns-4 c = let w = c .before .before .before .before .before in returns-run (turn w) _ (c .before .ask4 .given .1)
+  run-routine-returns-4 c = let w = c .before .before .before .before .before in stops-run (turn w) _ (c .before .ask3 .given .1)
+
+  run-routine-enum-known-ask-4 : lts.Need-enum-known-ask-4 (run-routine-calls t) (run-routine-at t) run-routine.Post Inv μ
+  run-routine-enum-known-ask-4 c = search needs
+
+  run-routine-add-t62 : lts.Need-add-t62 (run-routine-calls t) (run-routine-at t) run-routine.Post Inv μ
+  run-routine-add-t62 c = let w = c .before .before .before .before .before in let h = paid-units (met (w .before)) in omega (arith, start (at w) .fits)
+
+  run-routine-same-length-5 : lts.Need-same-length-5 (run-routine-calls t) (run-routine-at t) run-routine.Post Inv μ
+  run-routine-same-length-5 c = length-kept (c .before .before .before .before .before)
+
+  run-routine-returns-5 : lts.Need-returns-5 (run-routine-calls t) (run-routine-at t) run-routine.Post Inv μ
+  run-routine-returns-5 c = let w = c .before .before .before .before .before in returns-run (turn w) _ (c .before .ask4 .given .1)
 
 pub +carry-fork+run-routine-spec : {M : Type 1} → statement M
 +carry-fork+run-routine-spec =
@@ -401,7 +418,6 @@ pub +carry-fork+run-routine-spec : {M : Type 1} → statement M
     (carry-fork-sub-run-routine t)
     (carry-fork-part-run-routine-start t)
     (carry-fork-part-run-routine-end t)
-    (carry-fork-child-window-requires t)
     (carry-fork-sub-run-routine-2 t)
     (carry-fork-run-routine-requires t)
     (carry-fork-same-length t)
@@ -435,22 +451,26 @@ pub +carry-fork+run-routine-spec : {M : Type 1} → statement M
     (run-routine-loop-less-2 t)
     (run-routine-loop-again-2 t)
     (run-routine-enum-known-ask-2 t)
+    (run-routine-cut-requires t)
+    (run-routine-enum-known-cut t)
     (run-routine-slice-aggregate-carry-fork t)
     (run-routine-carry-fork-requires t)
     (run-routine-enum-known-answer t)
     (run-routine-put-requires t)
     (run-routine-add-position-2 t)
     (run-routine-with-pending-requires t)
-    (run-routine-rest-window-requires t)
     (run-routine-loop-less-3 t)
     (run-routine-loop-again-3 t)
     (run-routine-enum-known-answer-2 t)
     (run-routine-same-length-2 t)
     (run-routine-returns-2 t)
-    (run-routine-enum-known-ask-3 t)
+    (run-routine-enum-told-2 t)
     (run-routine-same-length-3 t)
     (run-routine-returns-3 t)
-    (run-routine-enum-known-ask-4 t)
-    (run-routine-add-t59 t)
+    (run-routine-enum-known-ask-3 t)
     (run-routine-same-length-4 t)
     (run-routine-returns-4 t)
+    (run-routine-enum-known-ask-4 t)
+    (run-routine-add-t62 t)
+    (run-routine-same-length-5 t)
+    (run-routine-returns-5 t)
