@@ -30,19 +30,22 @@ use Rattle.serial.specs.declared.SerialAnswer.{SerialAnswer}
 use Rattle.serial.specs.declared.SerialAnswer.the-variants.{Finished, Stopped}
 use Rattle.serial.specs.Serial.{Ended, done, stopped, andThen, endedBy, withSlot, goesOn, forked, startedOn, weightAt, effectAt, forkCalled, runFrom}
 use Rattle.serial.specs.Steps.{openAt, firstSlots, askedOf, slotsAfter, memoryAfter, childFrom, GoodRoutine, InReach, Ready, ForkReady, forkOf}
-use Rattle.serial.proofs.CommandMet.{met, weighs, slots-few, next-small, nextOf}
+use Rattle.serial.proofs.CommandMet.{met, weighs, byte-few, slots-few, next-small, nextOf}
 use Rattle.serial.proofs.Unrolled.{Between, ended, between, between-done}
 use Rattle.serial.proofs.Turns.{Calls, wide-here, turn-22, turn-goes, turn-joins, turn-stops, turn-returns, turn-calls}
 
--- what is left of the run gives what the whole run gives
-pub record Far (j : Job) (depth : ℕ) (whole : Ended) (m : List ℕ) (l : Routine) (u : ℕ) : Type 0 where
-  pub ready : Ready j l m u depth
-  pub is : runFrom j (33 - depth) l m u ≡ whole
+-- what is left of the run gives what the whole run gives; `left` is what is left of the allowance
+pub record Far (j : Job) (depth : ℕ) (whole : Ended) (m : List ℕ) (l : Routine) (left : ℕ) : Type 0 where
+  pub ready : Ready j l m (j .allowance - left) depth
+  pub most : left ≤ j .allowance
+  pub is : runFrom j (33 - depth) l m (j .allowance - left) ≡ whole
 
 pub far-starts : (j : Job) (depth : ℕ) (m : List ℕ) (r : ℕ) (arguments : List ℕ) (w : Window) (u : ℕ) (slots : List ℕ) → slots ≡ firstSlots arguments
     → Ready j (startedOn r arguments w) m u depth
-    → Far j depth (runFrom j (33 - depth) (startedOn r arguments w) m u) m (openAt r 0 0 w slots) u
-far-starts j depth m r arguments w u slots e x = rw e (record { ready = x; is = refl })
+    → Far j depth (runFrom j (33 - depth) (startedOn r arguments w) m u) m (openAt r 0 0 w slots) (j .allowance - u)
+far-starts j depth m r arguments w u slots e x =
+    let z : j .allowance - (j .allowance - u) ≡ u = omega (arith, x .paid) in
+    rw e (record { ready = rw z x; most = omega arith; is = rw z })
 
 -- carrying out a fork: too deep, and else
 pub fork-deep : (j : Job) (child : Routine) (m : List ℕ) (u w depth : ℕ) → depth ≤ 1 → stopped 26 m u ≡ forkOf j (33 - depth) child m u w
@@ -101,43 +104,46 @@ length-after m Yields = refl
 length-after m (Returns v) = refl
 
 -- the command that is met, as the code reads it
-module _ (j : Job) (l : Routine) (code p : ℕ) (code-is : code ≡ getD (j .starts) (l .routine) 0) (p-is : p ≡ l .position)
-    (five : List ℕ) (five-are : five ≡ fiveAt (j .image) (code + p)) where
+module _ (j : Job) (l : Routine) (code : ℕ) (code-is : code ≡ getD (j .starts) (l .routine) 0) (five : List ℕ)
+    (five-are : five ≡ fiveAt (j .image) (code + l .position)) where
+  pub byte-met : GoodJob j → GoodRoutine j l → getD five 0 0 < length (j .weights)
+  byte-met good well = rw (five-are, code-is) (byte-few j good l well)
+
   pub cost-met : (weights : List ℕ) → weights ≡ j .weights → (cost : ℕ) → cost ≡ weightOf weights (getD five 0 0) → cost ≡ weightAt j l
-  cost-met weights w cost c = c ∙ rw (w, five-are, code-is, p-is)
+  cost-met weights w cost c = c ∙ rw (w, five-are, code-is)
 
   pub effect-met : (command : _) → command ≡ decodedAt five 0 → (e : Effect)
       → e ≡ effectOf (argumentsOf (j .image)) (viewOf (slotOf (l .slots) 0) (isPending (l .pending)) (l .window)) command → e ≡ effectAt j l
   unfolding effectAt
-  effect-met command c e x = x ∙ rw (c, five-are, code-is, p-is)
+  effect-met command c e x = x ∙ rw (c, five-are, code-is)
 
-module _ {j : Job} {depth : ℕ} {whole : Ended} {m : List ℕ} {l : Routine} {u cost : ℕ} (far : Far j depth whole m l u) (cost-is : cost ≡ weightAt j l) where
+module _ {j : Job} {depth : ℕ} {whole : Ended} {m : List ℕ} {l : Routine} {left cost : ℕ} (far : Far j depth whole m l left) (cost-is : cost ≡ weightAt j l) where
   pub some-cost : 1 ≤ cost
   some-cost = rw cost-is (weighs j (far .ready .job) l (far .ready .routine))
 
-  pub unpaid : j .allowance - u < cost → stopped 22 m u ≡ whole
-  unpaid h = turn-22 j (33 - depth) l m u (far .ready .job) (far .ready .routine) (omega (arith, cost-is)) ∙ far .is
+  pub unpaid : left < cost → stopped 22 m (j .allowance - left) ≡ whole
+  unpaid h = turn-22 j (33 - depth) l m (j .allowance - left) (far .ready .job) (far .ready .routine) (omega (arith, cost-is, far .most)) ∙ far .is
 
 -- a command's weight, which is paid for, and its effect
-pub record Met (j : Job) (depth : ℕ) (whole : Ended) (m : List ℕ) (l : Routine) (u cost : ℕ) (e : Effect) : Type 0 where
-  pub far : Far j depth whole m l u
+pub record Met (j : Job) (depth : ℕ) (whole : Ended) (m : List ℕ) (l : Routine) (left cost : ℕ) (e : Effect) : Type 0 where
+  pub far : Far j depth whole m l left
   pub weight : cost ≡ weightAt j l
-  pub paid : cost ≤ j .allowance - u
+  pub paid : cost ≤ left
   pub effect : e ≡ effectAt j l
 
 -- what the code has once the effect is carried out: what it leaves to the run, the slots and the memory words
-pub record Turn (j : Job) (depth : ℕ) (whole : Ended) (m : List ℕ) (l : Routine) (u cost : ℕ) (e : Effect) (k : Ask) (slots' m' : List ℕ) : Type 0 where
-  pub met : Met j depth whole m l u cost e
+pub record Turn (j : Job) (depth : ℕ) (whole : Ended) (m : List ℕ) (l : Routine) (left cost : ℕ) (e : Effect) (k : Ask) (slots' m' : List ℕ) : Type 0 where
+  pub met : Met j depth whole m l left cost e
   pub asked : k ≡ askedOf e (l .position)
   pub slots : slots' ≡ slotsAfter (j .parameters) m (l .slots) e
   pub memory : m' ≡ memoryAfter m e
 
-module _ {j : Job} {depth : ℕ} {whole : Ended} {m : List ℕ} {l : Routine} {u cost : ℕ} {e : Effect} (x : Met j depth whole m l u cost e) where
-  paid-weight : weightAt j l ≤ j .allowance - u
-  paid-weight = omega (arith, x .weight, x .paid)
+module _ {j : Job} {depth : ℕ} {whole : Ended} {m : List ℕ} {l : Routine} {left cost : ℕ} {e : Effect} (x : Met j depth whole m l left cost e) where
+  paid-weight : weightAt j l ≤ j .allowance - (j .allowance - left)
+  paid-weight = omega (arith, x .weight, x .paid, x .far .most)
 
-  pub paid-units : u + cost ≤ j .allowance
-  paid-units = omega (arith, x .paid, x .far .ready .paid)
+  pub paid-units : j .allowance - left + cost ≤ j .allowance
+  paid-units = omega (arith, x .paid, x .far .most)
 
   pub reach : (length (j .parameters) ≡ 32) × (length m ≡ 992) × InReach e × (l .position + bytesBy e < 65536)
   reach =
@@ -146,15 +152,19 @@ module _ {j : Job} {depth : ℕ} {whole : Ended} {m : List ℕ} {l : Routine} {u
         g .parameters,
         x .far .ready .memory,
         rw (x .effect) (met j g l w .reach),
-        bytes-below (l .position) _ 65536 e (wide-here j (33 - depth) l m u g w paid-weight e (x .effect)) (next-small j g l w),
+        bytes-below (l .position) _ 65536 e (wide-here j (33 - depth) l m (j .allowance - left) g w paid-weight e (x .effect)) (next-small j g l w),
       )
 
-module _ {j : Job} {depth : ℕ} {whole : Ended} {m : List ℕ} {l : Routine} {u cost : ℕ} {e : Effect} {k : Ask} {slots m' : List ℕ}
-    (t : Turn j depth whole m l u cost e k slots m') where
+module _ {j : Job} {depth : ℕ} {whole : Ended} {m : List ℕ} {l : Routine} {left cost : ℕ} {e : Effect} {k : Ask} {slots m' : List ℕ}
+    (t : Turn j depth whole m l left cost e k slots m') where
   abbrev n : ℕ
   n = 33 - depth
 
-  far : Far j depth whole m l u
+  -- the units so far
+  abbrev u : ℕ
+  u = j .allowance - left
+
+  far : Far j depth whole m l left
   far = t .met .far
 
   good : GoodJob j
@@ -174,27 +184,30 @@ module _ {j : Job} {depth : ℕ} {whole : Ended} {m : List ℕ} {l : Routine} {u
 
   -- the run goes on from another routine
   far-on : (l' : Routine) → (runFrom j n l' (memoryAfter m e) (u + weightAt j l) ≡ runFrom j n l m u) × GoodRoutine j l'
-      → Far j depth whole m' l' (u + cost)
-  far-on l' x = record {
-    ready = record {
-      job = good;
-      routine = x .1;
-      memory = same-length;
-      paid = paid-units (t .met);
-      some = far .ready .some;
-      most = far .ready .most;
-    };
-    is = rw (t .memory, cost-is) (x .0 ∙ far .is);
-  }
+      → Far j depth whole m' l' (left - cost)
+  far-on l' x =
+      let z : j .allowance - (left - cost) ≡ u + cost = omega (arith, t .met .paid, far .most) in
+      record {
+        ready = record {
+          job = good;
+          routine = x .1;
+          memory = same-length;
+          paid = omega arith;
+          some = far .ready .some;
+          most = far .ready .most;
+        };
+        most = omega (arith, far .most);
+        is = rw (z, t .memory, cost-is) (x .0 ∙ far .is);
+      }
 
-  pub goes-again : (p : ℕ) → k ≡ GoOn p → Far j depth whole m' (openAt (l .routine) p (l .pending) (l .window) slots) (u + cost)
+  pub goes-again : (p : ℕ) → k ≡ GoOn p → Far j depth whole m' (openAt (l .routine) p (l .pending) (l .window) slots) (left - cost)
   goes-again p h = far-on _ (rw (t .slots) (turn-goes j n l m u good well paid e (t .met .effect) p (sym (t .asked) ∙ h)))
 
   pub join-fits : k ≡ Join → l .position + 1 < 65536
   join-fits h = omega (arith, turn-joins j n l m u good well paid e (t .met .effect) (sym (t .asked) ∙ h) .2, next-small j good l well)
 
   pub joins-again : (w : Window) → w ≡ rejoined (l .window) → k ≡ Join
-      → Far j depth whole m' (openAt (l .routine) (l .position + 1) 0 w slots) (u + cost)
+      → Far j depth whole m' (openAt (l .routine) (l .position + 1) 0 w slots) (left - cost)
   joins-again w f h =
       let x = turn-joins j n l m u good well paid e (t .met .effect) (sym (t .asked) ∙ h) in
       far-on _ (rw (t .slots, f) (x .0, x .1))
@@ -274,17 +287,19 @@ module _ {j : Job} {depth : ℕ} {whole : Ended} {m : List ℕ} {l : Routine} {u
               (omega (arith, x .0, cost-is), x .1, x .2 ∙ far .ready .memory)
 
           pub call-again : (q : ℕ) (slots' : List ℕ) → q ≡ withPending (l .pending) d → slots' ≡ set slots d v
-              → Far j depth whole m'' (openAt (l .routine) (l .position + 5) q rest slots') u'
+              → Far j depth whole m'' (openAt (l .routine) (l .position + 5) q rest slots') (j .allowance - u')
           call-again q slots' f i =
               let next : l .position + 5 ≡ nextOf j l = omega (arith, called .1 .five) in
+              let z : j .allowance - (j .allowance - u') ≡ u' = omega (arith, call-units .1) in
               rw (f, parts .is-rest, i, same-slots, next) (record {
-                ready = record {
+                ready = rw z (record {
                   job = good;
                   routine = called .1 .parent v;
                   memory = call-units .2;
                   paid = call-units .1;
                   some = far .ready .some;
                   most = far .ready .most;
-                };
-                is = rw s at led;
+                });
+                most = omega arith;
+                is = rw z (rw s at led);
               })

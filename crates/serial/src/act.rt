@@ -1,22 +1,16 @@
-// The command that a routine meets: where its code starts, its weight, and what its effect does to slots and memory.
+// The command that a routine meets: where its code starts, its bytes, its weight, and what its effect does to slots and memory.
 use crate::Ask;
 use crate::frame::put;
-use command::byte_at;
+use command::five_at;
 use image::routines::place_in_image;
 use thread::Effect;
 ghost use mathlib.Core.Path.{_≡_};
-ghost use Prim.Native.Nat.{_+_, _<_};
+ghost use Prim.Native.Nat.{_+_, _≤_, _<_};
 ghost use lib.ListN.{length, getD};
+ghost use Rattle.command.specs.Command.{fiveAt};
 ghost use Rattle.command.specs.Weight.{weightOf};
 ghost use Rattle.thread.specs.Effect.{bytesBy};
 ghost use Rattle.serial.specs.Steps.{wordIn, slotsAfter, memoryAfter, askedOf, InReach};
-
-// A number of two bytes, as an index.
-pub fn wide(x: u16) -> usize
-    ensures { λ r. ⌜ (r ≡ x) × (r < 65536) ⌝ }
-{
-    x as usize
-}
 
 // Where a routine's code starts.
 pub fn code_start(starts: &[u16; 32], routine: u8) -> usize
@@ -25,11 +19,38 @@ pub fn code_start(starts: &[u16; 32], routine: u8) -> usize
     place_in_image(starts, routine, 0)
 }
 
+// The five bytes at a position of a routine's code. An image has more than five, so that one test tells whether all are there.
+pub fn five_of(image: &[u8], code: usize, position: u16) -> [u8; 5]
+    requires { ⌜ (5 ≤ length (now image)) × (code < 131072) ⌝ }
+    ensures { λ r. ⌜ r ≡ fiveAt (now (image .entry)) (code + position) ⌝ }
+{
+    let at = code + (position as usize);
+    if at <= image.len() - 5 {
+        return [
+            image[at],
+            image[at + 1],
+            image[at + 2],
+            image[at + 3],
+            image[at + 4],
+        ];
+    }
+    five_at(image, at)
+}
+
+// A byte of the table of weights, as units.
+fn units_of(x: u8) -> u32
+    ensures { λ r. ⌜ r ≡ x ⌝ }
+{
+    x as u32
+}
+
 // The weight, in a table, of the command with this first byte.
-pub fn cost_of(weights: &[u8], byte: u8) -> u32
+pub fn cost_of(weights: &[u8; 14], byte: u8) -> u32
+    requires { ⌜ byte < 14 ⌝ }
     ensures { λ r. ⌜ r ≡ weightOf (now (weights .entry)) byte ⌝ }
 {
-    byte_at(weights, byte as usize) as u32
+    let k = byte as usize;
+    units_of(weights[k])
 }
 
 // The word at an address.

@@ -6,12 +6,11 @@ mod frame;
 use crate::act::carry_out;
 use crate::act::code_start;
 use crate::act::cost_of;
-use crate::act::wide;
+use crate::act::five_of;
 use crate::frame::lay;
 use crate::frame::put;
 use crate::frame::wide_byte;
 use command::command_of;
-use command::five_at;
 use command::weights;
 use image::Verdict;
 use image::number::number_of;
@@ -121,25 +120,26 @@ fn run_routine(
     let mut window = start;
     let mut slots = [0u32; 16];
     lay(&mut slots, arguments);
-    let mut units = before;
+    // of the allowance
+    let mut left = allowance - before;
     loop {
-        let five = five_at(image, code + wide(position));
+        let five = five_of(image, code, position);
         let cost = cost_of(&weights, five[0]);
-        if allowance - units < cost {
-            return SerialAnswer::Stopped(22, units);
+        if left < cost {
+            return SerialAnswer::Stopped(22, allowance - left);
         }
         let effect = effect(command_of(five), image, &slots, 0, pending, window);
         let ask = carry_out(effect, &mut slots, parameters, memory, position);
         match ask {
             Ask::GoOn(next) => {
                 position = next;
-                units = units + cost;
+                left = left - cost;
             }
             Ask::Join => {
                 position = position + 1;
                 pending = 0;
                 window = window.rejoin();
-                units = units + cost;
+                left = left - cost;
             }
             Ask::Call(e, r, d, a) => {
                 let cut = window.cut(e);
@@ -155,7 +155,7 @@ fn run_routine(
                             r,
                             a,
                             allowance,
-                            units,
+                            allowance - left,
                             cost,
                             depth,
                         );
@@ -165,7 +165,7 @@ fn run_routine(
                                 position = position + 5;
                                 pending = with_pending(pending, d);
                                 window = rest;
-                                units = so_far;
+                                left = allowance - so_far;
                             }
                             SerialAnswer::Stopped(number, so_far) => {
                                 return SerialAnswer::Stopped(number, so_far);
@@ -174,15 +174,15 @@ fn run_routine(
                     }
                     // not met: the effect is a fork only where the cut is in range
                     Cut::OutOfRange => {
-                        return SerialAnswer::Stopped(11, units);
+                        return SerialAnswer::Stopped(11, allowance - left);
                     }
                 }
             }
             Ask::Stop(number) => {
-                return SerialAnswer::Stopped(number, units);
+                return SerialAnswer::Stopped(number, allowance - left);
             }
             Ask::Return(value) => {
-                return SerialAnswer::Finished(value, units + cost);
+                return SerialAnswer::Finished(value, allowance - left + cost);
             }
         }
     }

@@ -4,11 +4,10 @@ use mathlib.Core.Path.{_≡_, refl, sym, _∙_}
 use lib.ListN.{length}
 use native.Mathlib.Omega.{arith}
 use borrow.Author.Needs.{needs}
-use Prim.Native.Nat.{ℕ, suc, _<_, _+_, _-_}
+use Prim.Native.Nat.{ℕ, _<_, _+_, _-_}
 use borrow.Fn.Kinds.{In}
 use borrow.Fn.PlainCycle.{Measures, is, falls, and}
 use Rattle.command.proofs.command_of.Reads as command-of-reads
-use Rattle.command.proofs.five_at.Reads as five-at-reads
 use Rattle.command.proofs.weights.Reads as weights-reads
 use Rattle.image.proofs.routines.arguments_of.Reads as arguments-of-reads
 use Rattle.window.proofs.Window.cut.Reads as cut-reads
@@ -19,7 +18,8 @@ use Rattle.thread.proofs.pending.with_pending.Reads as with-pending-reads
 use Rattle.serial.specs.declared.Routine.{Routine}
 use Rattle.serial.specs.Serial.{Ended, startedOn, weightAt, runFrom}
 use Rattle.serial.specs.Steps.{openAt}
-use Rattle.serial.proofs.Loop.{Met, Turn, Far, far-starts, fork-deep, fork-end, fork-ready, fork-runs, cost-met, effect-met, some-cost, unpaid, paid-units, reach, goes-again, join-fits, joins-again, stops-run, returns-run, call-ready, call-slot, call-cuts, call-fits, call-stops, call-units, call-again}
+use Rattle.serial.proofs.Loop.{Met, Turn, Far, far-starts, fork-deep, fork-end, fork-ready, fork-runs, cost-met, effect-met, some-cost, unpaid, paid-units, reach, goes-again, join-fits, joins-again, stops-run, returns-run, call-ready, call-slot, call-cuts, call-fits, call-stops, call-units, call-again, byte-met}
+use Rattle.serial.proofs.CommandMet.{image-long}
 use Rattle.serial.proofs.carry_fork.Reads as carry-fork
 use Rattle.serial.proofs.carry_fork.Kinds as carry-fork-kinds
 use Rattle.serial.proofs.+carry_fork+run_routine.Lts-carry_fork as fork
@@ -29,7 +29,7 @@ use Rattle.serial.proofs.+carry_fork+run_routine.Lts-run_routine as lts
 use Rattle.serial.proofs.act.carry_out.Reads as carry-out-reads
 use Rattle.serial.proofs.act.code_start.Reads as code-start-reads
 use Rattle.serial.proofs.act.cost_of.Reads as cost-of-reads
-use Rattle.serial.proofs.act.wide.Reads as wide-reads
+use Rattle.serial.proofs.act.five_of.Reads as five-of-reads
 use Rattle.serial.proofs.frame.lay.Reads as lay-reads
 use Rattle.serial.proofs.frame.put.Reads as put-reads
 use Rattle.serial.proofs.frame.wide_byte.Reads as wide-byte-reads
@@ -77,10 +77,8 @@ run-routine-calls t = (
   code-start-reads.Learnt,
   lay-reads.Asked,
   lay-reads.Learnt,
-  wide-reads.Asked,
-  wide-reads.Learnt,
-  five-at-reads.Asked,
-  five-at-reads.Learnt,
+  five-of-reads.Asked,
+  five-of-reads.Learnt,
   cost-of-reads.Asked,
   cost-of-reads.Learnt,
   command-of-reads.Asked,
@@ -102,13 +100,13 @@ run-routine-calls t = (
 )
 
 abbrev Inv : lts.InvT-loop
-Inv image starts parameters memory₀ routine arguments allowance before depth weights code position₀ pending₀ window₀ slots₀ units₀ memory position pending window slots units =
+Inv image starts parameters memory₀ routine arguments allowance before depth weights code position₀ pending₀ window₀ slots₀ left₀ memory position pending window slots left =
     let j = jobOf image starts parameters allowance in
-    Far j depth (runFrom j (33 - depth) (startedOn routine arguments window₀) memory₀ before) memory (openAt routine position pending window slots) units
+    Far j depth (runFrom j (33 - depth) (startedOn routine arguments window₀) memory₀ before) memory (openAt routine position pending window slots) left
 
 abbrev μ : lts.MeasureT-loop
-μ image starts parameters memory₀ routine arguments allowance before depth weights code position₀ pending₀ window₀ slots₀ units₀ memory position pending window slots units =
-    suc allowance - units
+μ image starts parameters memory₀ routine arguments allowance before depth weights code position₀ pending₀ window₀ slots₀ left₀ memory position pending window slots left =
+    left
 
 module _ (t : ℕ) where
   carry-fork-returns : fork.Need-returns (carry-fork-calls t) (carry-fork-at t) carry-fork.Post
@@ -197,32 +195,33 @@ module _ (t : ℕ) where
   opened c = openAt (start c .args .routine) (c .loop .position) (c .loop .pending) (c .loop .window) (c .loop .slots)
 
   abbrev head : Priced → Head
-  head c = c .before .before .before .before
+  head c = c .before .before .before
 
   cost-here : (c : Priced) → c .cost-of .result ≡ weightAt (job (head c)) (opened (head c))
   cost-here c =
-      cost-met (job (head c)) (opened (head c)) _ _ (head c .before .before .before .code-start .ensures .0) (c .before .before .before .wide .ensures .0) _ (c .before .before .five-at .ensures)
-      _ (head c .before .before .before .before .weights .ensures) _ (c .cost-of .ensures)
+      let h = head c in
+      cost-met (job h) (opened h) _ (h .before .before .before .code-start .ensures .0) _ (c .before .before .five-of .ensures)
+      _ (h .before .before .before .before .weights .ensures) _ (c .cost-of .ensures)
 
   abbrev priced : Ready-to-act → Priced
   priced c = c .before .before .before .before .before .before
 
   met : (c : Ready-to-act) → Met (job (head (priced c))) (start (head (priced c)) .args .depth) (whole (head (priced c)))
-      (head (priced c) .loop .memory) (opened (head (priced c))) (head (priced c) .loop .units) (priced c .cost-of .result) (c .before .before .effect .result)
+      (head (priced c) .loop .memory) (opened (head (priced c))) (head (priced c) .loop .left) (priced c .cost-of .result) (c .before .before .effect .result)
   met c = record {
     far = head (priced c) .loop .inv;
     weight = cost-here (priced c);
     paid = c .before .before .before .before .before .if1 .left;
     effect =
         let h = head (priced c) in
-        effect-met (job h) (opened h) _ _ (h .before .before .before .code-start .ensures .0) (priced c .before .before .before .wide .ensures .0) _ (priced c .before .before .five-at .ensures)
+        effect-met (job h) (opened h) _ (h .before .before .before .code-start .ensures .0) _ (priced c .before .before .five-of .ensures)
         _ (c .before .before .before .before .command-of .ensures) _ (c .before .before .effect .ensures);
   }
 
   abbrev at : Acted → Head
   at c = head (priced (c .before))
 
-  turn : (c : Acted) → Turn (job (at c)) (start (at c) .args .depth) (whole (at c)) (at c .loop .memory) (opened (at c)) (at c .loop .units)
+  turn : (c : Acted) → Turn (job (at c)) (start (at c) .args .depth) (whole (at c)) (at c .loop .memory) (opened (at c)) (at c .loop .left)
       (priced (c .before) .cost-of .result) (c .before .before .before .effect .result) (c .carry-out .result) (c .carry-out .last .1 .0) (c .carry-out .last .1 .1 .1 .0)
   turn c = record { met = met (c .before); asked = c .carry-out .ensures .2; slots = c .carry-out .ensures .0; memory = c .carry-out .ensures .1 }
 
@@ -239,29 +238,26 @@ module _ (t : ℕ) where
   run-routine-lay-requires : lts.Need-lay-requires (run-routine-calls t) (run-routine-at t) run-routine.Post Inv μ
   run-routine-lay-requires c κs = (refl, c .before .before .before .before .before .before .before .pre .1 .1)
 
+  run-routine-sub-left : lts.Need-sub-left (run-routine-calls t) (run-routine-at t) run-routine.Post Inv μ
+  run-routine-sub-left c = c .before .before .before .before .before .before .before .before .pre .1 .0 .paid
+
   run-routine-loop-holds : lts.Need-loop-holds (run-routine-calls t) (run-routine-at t) run-routine.Post Inv μ
   run-routine-loop-holds c = let s = c .before .before .before .before .before .before .before .before in far-starts _ _ _ _ (s .args .arguments .now) _ _ _ (c .lay .ensures) (s .pre .1 .0)
 
-  run-routine-wide-requires : lts.Need-wide-requires (run-routine-calls t) (run-routine-at t) run-routine.Post Inv μ
-  run-routine-wide-requires c κs = search needs
-
-  run-routine-add-five-at : lts.Need-add-five-at (run-routine-calls t) (run-routine-at t) run-routine.Post Inv μ
-  run-routine-add-five-at c = omega (arith, c .before .before .before .before .code-start .ensures .1, c .wide .ensures .1)
-
-  run-routine-five-at-requires : lts.Need-five-at-requires (run-routine-calls t) (run-routine-at t) run-routine.Post Inv μ
-  run-routine-five-at-requires c κs = search needs
-
-  run-routine-slice-aggregate-cost-of : lts.Need-slice-aggregate-cost-of (run-routine-calls t) (run-routine-at t) run-routine.Post Inv μ
-  run-routine-slice-aggregate-cost-of c = search needs
+  run-routine-five-of-requires : lts.Need-five-of-requires (run-routine-calls t) (run-routine-at t) run-routine.Post Inv μ
+  run-routine-five-of-requires c κs = (image-long (job c) (c .loop .inv .ready .job), c .before .before .before .code-start .ensures .1)
 
   run-routine-array-read-cost-of : lts.Need-array-read-cost-of (run-routine-calls t) (run-routine-at t) run-routine.Post Inv μ
   run-routine-array-read-cost-of c = search needs
 
   run-routine-cost-of-requires : lts.Need-cost-of-requires (run-routine-calls t) (run-routine-at t) run-routine.Post Inv μ
-  run-routine-cost-of-requires c κs = search needs
+  run-routine-cost-of-requires c κs =
+      let h = c .before .before in
+      let ready = h .loop .inv .ready in
+      byte-met (job h) (opened h) _ (h .before .before .before .code-start .ensures .0) _ (c .before .five-of .ensures) (ready .job) (ready .routine)
 
-  run-routine-sub-if1 : lts.Need-sub-if1 (run-routine-calls t) (run-routine-at t) run-routine.Post Inv μ
-  run-routine-sub-if1 c = head c .loop .inv .ready .paid
+  run-routine-sub-t46 : lts.Need-sub-t46 (run-routine-calls t) (run-routine-at t) run-routine.Post Inv μ
+  run-routine-sub-t46 c = head (c .before) .loop .inv .most
 
   run-routine-same-length : lts.Need-same-length (run-routine-calls t) (run-routine-at t) run-routine.Post Inv μ
   run-routine-same-length c = let h = head (c .before) in h .loop .inv .ready .memory ∙ sym (start h .pre .1 .0 .memory)
@@ -284,11 +280,8 @@ module _ (t : ℕ) where
   run-routine-enum-known-ask : lts.Need-enum-known-ask (run-routine-calls t) (run-routine-at t) run-routine.Post Inv μ
   run-routine-enum-known-ask c = search needs
 
-  run-routine-add-units : lts.Need-add-units (run-routine-calls t) (run-routine-at t) run-routine.Post Inv μ
-  run-routine-add-units c = let w = c .before .before .before .before .before in let h = paid-units (met (w .before)) in omega (arith, start (at w) .fits)
-
   run-routine-loop-less : lts.Need-loop-less (run-routine-calls t) (run-routine-at t) run-routine.Post Inv μ
-  run-routine-loop-less c = let w = c .before .before .before .before .before in let h = paid-units (met (w .before)) in let s = some-cost (at w .loop .inv) (cost-here (priced (w .before))) in omega arith
+  run-routine-loop-less c = let w = c .before .before .before .before .before in let s = some-cost (at w .loop .inv) (cost-here (priced (w .before))) in omega (arith, met (w .before) .paid)
 
   run-routine-loop-again : lts.Need-loop-again (run-routine-calls t) (run-routine-at t) run-routine.Post Inv μ
   run-routine-loop-again c = let w = c .before .before .before .before .before in goes-again (turn w) _ (c .before .ask .given .1)
@@ -302,11 +295,8 @@ module _ (t : ℕ) where
   run-routine-rejoin-requires : lts.Need-rejoin-requires (run-routine-calls t) (run-routine-at t) run-routine.Post Inv μ
   run-routine-rejoin-requires c κs = search needs
 
-  run-routine-add-units-2 : lts.Need-add-units-2 (run-routine-calls t) (run-routine-at t) run-routine.Post Inv μ
-  run-routine-add-units-2 c = let w = c .before .before .before .before .before in let h = paid-units (met (w .before)) in omega (arith, start (at w) .fits)
-
   run-routine-loop-less-2 : lts.Need-loop-less-2 (run-routine-calls t) (run-routine-at t) run-routine.Post Inv μ
-  run-routine-loop-less-2 c = let w = c .before .before .before .before .before in let h = paid-units (met (w .before)) in let s = some-cost (at w .loop .inv) (cost-here (priced (w .before))) in omega arith
+  run-routine-loop-less-2 c = let w = c .before .before .before .before .before in let s = some-cost (at w .loop .inv) (cost-here (priced (w .before))) in omega (arith, met (w .before) .paid)
 
   run-routine-loop-again-2 : lts.Need-loop-again-2 (run-routine-calls t) (run-routine-at t) run-routine.Post Inv μ
   run-routine-loop-again-2 c = let w = c .before .before .before .before .before in joins-again (turn w) _ (c .rejoin .ensures) (c .before .enum-told .given .1)
@@ -329,6 +319,9 @@ module _ (t : ℕ) where
   run-routine-slice-aggregate-carry-fork : lts.Need-slice-aggregate-carry-fork (run-routine-calls t) (run-routine-at t) run-routine.Post Inv μ
   run-routine-slice-aggregate-carry-fork c = let q = c in let k = cutting q in sym (call-ready (turn (acted k)) _ _ _ _ (k .before .before .ask2 .given .1) _ (k .cut .ensures) _ _ (q .before .before .before .cut2 .given .1) .sixteen)
 
+  run-routine-sub-carry-fork : lts.Need-sub-carry-fork (run-routine-calls t) (run-routine-at t) run-routine.Post Inv μ
+  run-routine-sub-carry-fork c = at (acted (cutting c)) .loop .inv .most
+
   run-routine-carry-fork-requires : lts.Need-carry-fork-requires (run-routine-calls t) (run-routine-at t) run-routine.Post Inv μ
   run-routine-carry-fork-requires c κs =
       let q = c in
@@ -347,6 +340,12 @@ module _ (t : ℕ) where
   run-routine-with-pending-requires : lts.Need-with-pending-requires (run-routine-calls t) (run-routine-at t) run-routine.Post Inv μ
   run-routine-with-pending-requires c κs = tt
 
+  run-routine-sub-left-2 : lts.Need-sub-left-2 (run-routine-calls t) (run-routine-at t) run-routine.Post Inv μ
+  run-routine-sub-left-2 c =
+      let q = c .before .before .before .before .before .before .before .before .before in
+      let k = cutting q in
+      call-units (turn (acted k)) _ _ _ _ (k .before .before .ask2 .given .1) _ (k .cut .ensures) _ _ (q .before .before .before .cut2 .given .1) _ _ (c .before .before .before .before .before .before .before .before .carry-fork .ensures) _ _ (c .before .before .before .before .answer .given .1) .1
+
   run-routine-loop-less-3 : lts.Need-loop-less-3 (run-routine-calls t) (run-routine-at t) run-routine.Post Inv μ
   run-routine-loop-less-3 c =
       let q = c .before .before .before .before .before .before .before .before .before in
@@ -354,7 +353,7 @@ module _ (t : ℕ) where
       let w = acted k in
       let h = call-units (turn w) _ _ _ _ (k .before .before .ask2 .given .1) _ (k .cut .ensures) _ _ (q .before .before .before .cut2 .given .1) _ _ (c .before .before .before .before .before .before .before .before .carry-fork .ensures) _ _ (c .before .before .before .before .answer .given .1) in
       let s = some-cost (at w .loop .inv) (cost-here (priced (w .before))) in
-      omega arith
+      omega (arith, at w .loop .inv .most)
 
   run-routine-loop-again-3 : lts.Need-loop-again-3 (run-routine-calls t) (run-routine-at t) run-routine.Post Inv μ
   run-routine-loop-again-3 c =
@@ -378,6 +377,9 @@ module _ (t : ℕ) where
   run-routine-enum-told-2 : lts.Need-enum-told-2 (run-routine-calls t) (run-routine-at t) run-routine.Post Inv μ
   run-routine-enum-told-2 c = search needs
 
+  run-routine-sub-t60 : lts.Need-sub-t60 (run-routine-calls t) (run-routine-at t) run-routine.Post Inv μ
+  run-routine-sub-t60 c = at (acted (c .before .before)) .loop .inv .most
+
   run-routine-same-length-3 : lts.Need-same-length-3 (run-routine-calls t) (run-routine-at t) run-routine.Post Inv μ
   run-routine-same-length-3 c = length-kept (acted (c .before .before))
 
@@ -386,6 +388,9 @@ module _ (t : ℕ) where
 
   run-routine-enum-known-ask-3 : lts.Need-enum-known-ask-3 (run-routine-calls t) (run-routine-at t) run-routine.Post Inv μ
   run-routine-enum-known-ask-3 c = search needs
+
+  run-routine-sub-t61 : lts.Need-sub-t61 (run-routine-calls t) (run-routine-at t) run-routine.Post Inv μ
+  run-routine-sub-t61 c = at (c .before .before .before .before .before) .loop .inv .most
 
   run-routine-same-length-4 : lts.Need-same-length-4 (run-routine-calls t) (run-routine-at t) run-routine.Post Inv μ
   run-routine-same-length-4 c = length-kept (c .before .before .before .before .before)
@@ -396,8 +401,11 @@ module _ (t : ℕ) where
   run-routine-enum-known-ask-4 : lts.Need-enum-known-ask-4 (run-routine-calls t) (run-routine-at t) run-routine.Post Inv μ
   run-routine-enum-known-ask-4 c = search needs
 
-  run-routine-add-t62 : lts.Need-add-t62 (run-routine-calls t) (run-routine-at t) run-routine.Post Inv μ
-  run-routine-add-t62 c = let w = c .before .before .before .before .before in let h = paid-units (met (w .before)) in omega (arith, start (at w) .fits)
+  run-routine-sub-t62 : lts.Need-sub-t62 (run-routine-calls t) (run-routine-at t) run-routine.Post Inv μ
+  run-routine-sub-t62 c = at (c .before .before .before .before .before) .loop .inv .most
+
+  run-routine-add-t63 : lts.Need-add-t63 (run-routine-calls t) (run-routine-at t) run-routine.Post Inv μ
+  run-routine-add-t63 c = let w = c .before .before .before .before .before in let h = paid-units (met (w .before)) in omega (arith, start (at w) .fits)
 
   run-routine-same-length-5 : lts.Need-same-length-5 (run-routine-calls t) (run-routine-at t) run-routine.Post Inv μ
   run-routine-same-length-5 c = length-kept (c .before .before .before .before .before)
@@ -426,14 +434,12 @@ pub +carry-fork+run-routine-spec : {M : Type 1} → statement M
     (run-routine-weights-requires t)
     (run-routine-code-start-requires t)
     (run-routine-lay-requires t)
+    (run-routine-sub-left t)
     (run-routine-loop-holds t)
-    (run-routine-wide-requires t)
-    (run-routine-add-five-at t)
-    (run-routine-five-at-requires t)
-    (run-routine-slice-aggregate-cost-of t)
+    (run-routine-five-of-requires t)
     (run-routine-array-read-cost-of t)
     (run-routine-cost-of-requires t)
-    (run-routine-sub-if1 t)
+    (run-routine-sub-t46 t)
     (run-routine-same-length t)
     (run-routine-returns t)
     (run-routine-command-of-requires t)
@@ -441,36 +447,39 @@ pub +carry-fork+run-routine-spec : {M : Type 1} → statement M
     (run-routine-effect-requires t)
     (run-routine-carry-out-requires t)
     (run-routine-enum-known-ask t)
-    (run-routine-add-units t)
     (run-routine-loop-less t)
     (run-routine-loop-again t)
     (run-routine-enum-told t)
     (run-routine-add-position t)
     (run-routine-rejoin-requires t)
-    (run-routine-add-units-2 t)
     (run-routine-loop-less-2 t)
     (run-routine-loop-again-2 t)
     (run-routine-enum-known-ask-2 t)
     (run-routine-cut-requires t)
     (run-routine-enum-known-cut t)
     (run-routine-slice-aggregate-carry-fork t)
+    (run-routine-sub-carry-fork t)
     (run-routine-carry-fork-requires t)
     (run-routine-enum-known-answer t)
     (run-routine-put-requires t)
     (run-routine-add-position-2 t)
     (run-routine-with-pending-requires t)
+    (run-routine-sub-left-2 t)
     (run-routine-loop-less-3 t)
     (run-routine-loop-again-3 t)
     (run-routine-enum-known-answer-2 t)
     (run-routine-same-length-2 t)
     (run-routine-returns-2 t)
     (run-routine-enum-told-2 t)
+    (run-routine-sub-t60 t)
     (run-routine-same-length-3 t)
     (run-routine-returns-3 t)
     (run-routine-enum-known-ask-3 t)
+    (run-routine-sub-t61 t)
     (run-routine-same-length-4 t)
     (run-routine-returns-4 t)
     (run-routine-enum-known-ask-4 t)
-    (run-routine-add-t62 t)
+    (run-routine-sub-t62 t)
+    (run-routine-add-t63 t)
     (run-routine-same-length-5 t)
     (run-routine-returns-5 t)
