@@ -7,6 +7,7 @@ use native.Mathlib.Omega.{arith}
 use borrow.Author.Tests.{le-leb, lt-leb}
 use lib.Dec.{leb}
 use lib.ListN.{length, getD, set, take, drop, length-set, length-take, length-drop}
+use Rattle.command.specs.declared.Command.{Command}
 use Rattle.command.specs.Command.{decodedAt, fiveAt}
 use Rattle.command.specs.Weight.{weightOf}
 use Rattle.image.specs.Layout.{argumentsOf}
@@ -51,16 +52,16 @@ far-starts j depth m r arguments w u slots e x =
 pub fork-deep : (j : Job) (child : Routine) (m : List ℕ) (u w depth : ℕ) → depth ≤ 1 → stopped 26 m u ≡ forkOf j (33 - depth) child m u w
 fork-deep j child m u w depth h = rw (le-leb 32 (33 - depth) (omega arith))
 
-module _ (j : Job) (slots : List ℕ) (w : Window) (r a : ℕ) (m : List ℕ) (u cost depth : ℕ) (f : ForkReady j slots w r a m u cost depth) where
-  pub fork-end : (count : ℕ) → count ≡ argumentsOf (j .image) r → a + count ≤ length slots
-  fork-end count q = omega (arith, f .arguments, f .sixteen)
+module _ {j : Job} {slots : List ℕ} {w : Window} {r a : ℕ} {m : List ℕ} {u cost depth : ℕ} (f : ForkReady j slots w r a m u cost depth) where
+  pub fork-end : {count : ℕ} → count ≡ argumentsOf (j .image) r → a + count ≤ length slots
+  fork-end q = omega (arith, f .arguments, f .sixteen)
 
-  module _ (count : ℕ) (q : count ≡ argumentsOf (j .image) r) (arguments : List ℕ) (arguments-are : arguments ≡ take (a + count - a) (drop a slots)) where
+  module _ {count : ℕ} (q : count ≡ argumentsOf (j .image) r) {arguments : List ℕ} (arguments-are : arguments ≡ take (a + count - a) (drop a slots)) where
     same-arguments : arguments ≡ take (argumentsOf (j .image) r) (drop a slots)
     same-arguments = let z : a + count - a ≡ argumentsOf (j .image) r = omega (arith, q) in arguments-are ∙ ap (λ i. take i (drop a slots)) z
 
-    pub fork-ready : (so-far : ℕ) → so-far ≡ u + cost → 1 < depth → Ready j (startedOn r arguments w) m so-far (depth - 1) × (length arguments ≤ 16)
-    fork-ready so-far s h = (
+    pub fork-ready : {so-far : ℕ} → so-far ≡ u + cost → 1 < depth → Ready j (startedOn r arguments w) m so-far (depth - 1) × (length arguments ≤ 16)
+    fork-ready s h = (
       rw (same-arguments, s) (record {
         job = f .job;
         routine = f .routine;
@@ -72,9 +73,9 @@ module _ (j : Job) (slots : List ℕ) (w : Window) (r a : ℕ) (m : List ℕ) (u
       rw same-arguments (simp (length-take, length-drop) (omega (arith, f .arguments))),
     )
 
-    pub fork-runs : (o : Ended) → 1 < depth → o ≡ runFrom j (33 - (depth - 1)) (startedOn r arguments w) m (u + cost)
+    pub fork-runs : {o : Ended} → 1 < depth → o ≡ runFrom j (33 - (depth - 1)) (startedOn r arguments w) m (u + cost)
         → o ≡ forkOf j (33 - depth) (childFrom (j .image) slots w r a) m u cost
-    fork-runs o h p =
+    fork-runs h p =
         let d : 33 - (depth - 1) ≡ suc (33 - depth) = omega (arith, f .most) in
         rw (lt-leb 32 (33 - depth) (omega arith)) (rw (same-arguments, d) at p)
 
@@ -104,18 +105,18 @@ length-after m Yields = refl
 length-after m (Returns v) = refl
 
 -- the command that is met, as the code reads it
-module _ (j : Job) (l : Routine) (code : ℕ) (code-is : code ≡ getD (j .starts) (l .routine) 0) (five : List ℕ)
+module _ (j : Job) (l : Routine) {code : ℕ} (code-is : code ≡ getD (j .starts) (l .routine) 0) {five : List ℕ}
     (five-are : five ≡ fiveAt (j .image) (code + l .position)) where
   pub byte-met : GoodJob j → GoodRoutine j l → getD five 0 0 < length (j .weights)
   byte-met good well = rw (five-are, code-is) (byte-few j good l well)
 
-  pub cost-met : (weights : List ℕ) → weights ≡ j .weights → (cost : ℕ) → cost ≡ weightOf weights (getD five 0 0) → cost ≡ weightAt j l
-  cost-met weights w cost c = c ∙ rw (w, five-are, code-is)
+  pub cost-met : {weights : List ℕ} → weights ≡ j .weights → {cost : ℕ} → cost ≡ weightOf weights (getD five 0 0) → cost ≡ weightAt j l
+  cost-met w c = c ∙ rw (w, five-are, code-is)
 
-  pub effect-met : (command : _) → command ≡ decodedAt five 0 → (e : Effect)
+  pub effect-met : {command : Command} → command ≡ decodedAt five 0 → {e : Effect}
       → e ≡ effectOf (argumentsOf (j .image)) (viewOf (slotOf (l .slots) 0) (isPending (l .pending)) (l .window)) command → e ≡ effectAt j l
   unfolding effectAt
-  effect-met command c e x = x ∙ rw (c, five-are, code-is)
+  effect-met c x = x ∙ rw (c, five-are, code-is)
 
 module _ {j : Job} {depth : ℕ} {whole : Ended} {m : List ℕ} {l : Routine} {left cost : ℕ} (far : Far j depth whole m l left) (cost-is : cost ≡ weightAt j l) where
   pub some-cost : 1 ≤ cost
@@ -200,26 +201,26 @@ module _ {j : Job} {depth : ℕ} {whole : Ended} {m : List ℕ} {l : Routine} {l
         is = rw (z, t .memory, cost-is) (x .0 ∙ far .is);
       }
 
-  pub goes-again : (p : ℕ) → k ≡ GoOn p → Far j depth whole m' (openAt (l .routine) p (l .pending) (l .window) slots) (left - cost)
-  goes-again p h = far-on _ (rw (t .slots) (turn-goes j n l m u good well paid e (t .met .effect) p (sym (t .asked) ∙ h)))
+  pub goes-again : {p : ℕ} → k ≡ GoOn p → Far j depth whole m' (openAt (l .routine) p (l .pending) (l .window) slots) (left - cost)
+  goes-again {p} h = far-on _ (rw (t .slots) (turn-goes j n l m u good well paid e (t .met .effect) p (sym (t .asked) ∙ h)))
 
   pub join-fits : k ≡ Join → l .position + 1 < 65536
   join-fits h = omega (arith, turn-joins j n l m u good well paid e (t .met .effect) (sym (t .asked) ∙ h) .2, next-small j good l well)
 
-  pub joins-again : (w : Window) → w ≡ rejoined (l .window) → k ≡ Join
+  pub joins-again : {w : Window} → w ≡ rejoined (l .window) → k ≡ Join
       → Far j depth whole m' (openAt (l .routine) (l .position + 1) 0 w slots) (left - cost)
-  joins-again w f h =
+  joins-again f h =
       let x = turn-joins j n l m u good well paid e (t .met .effect) (sym (t .asked) ∙ h) in
       far-on _ (rw (t .slots, f) (x .0, x .1))
 
-  pub stops-run : (x : ℕ) → k ≡ Stop x → stopped x m' u ≡ whole
-  stops-run x h = rw (t .memory) (turn-stops j n l m u good well paid e (t .met .effect) x (sym (t .asked) ∙ h) ∙ far .is)
+  pub stops-run : {x : ℕ} → k ≡ Stop x → stopped x m' u ≡ whole
+  stops-run {x} h = rw (t .memory) (turn-stops j n l m u good well paid e (t .met .effect) x (sym (t .asked) ∙ h) ∙ far .is)
 
-  pub returns-run : (v : ℕ) → k ≡ Return v → done v m' (u + cost) ≡ whole
-  returns-run v h = rw (t .memory, cost-is) (turn-returns j n l m u good well paid e (t .met .effect) v (sym (t .asked) ∙ h) ∙ far .is)
+  pub returns-run : {v : ℕ} → k ≡ Return v → done v m' (u + cost) ≡ whole
+  returns-run {v} h = rw (t .memory, cost-is) (turn-returns j n l m u good well paid e (t .met .effect) v (sym (t .asked) ∙ h) ∙ far .is)
 
   -- a child runs first
-  module _ (c r d a : ℕ) (h : k ≡ Call c r d a) where
+  module _ {c r d a : ℕ} (h : k ≡ Call c r d a) where
     called : (runFrom j n l m u ≡ forkCalled j (runFrom j) n l r d a c m u) × Calls j n l m u c r d a e
     called = turn-calls j n l m u good well paid e (t .met .effect) c r d a (sym (t .asked) ∙ h)
 
@@ -236,13 +237,13 @@ module _ {j : Job} {depth : ℕ} {whole : Ended} {m : List ℕ} {l : Routine} {l
     call-fits = omega (arith, called .1 .five, next-small j good l well)
 
     -- the cut is in range
-    pub call-cuts : (o : Cut) → o ≡ cutAt (l .window) c → o ≡ OutOfRange → ⊥
-    call-cuts o made q =
+    pub call-cuts : {o : Cut} → o ≡ cutAt (l .window) c → o ≡ OutOfRange → ⊥
+    call-cuts made q =
         let x = cut-made (l .window) c (called .1 .asks .low) (called .1 .asks .high) in
         let z : _≡_ {A = ℕ} 0 1 = cc in
         omega arith
 
-    module _ (o : Cut) (made : o ≡ cutAt (l .window) c) (child rest : Window) (cut : o ≡ Parts child rest) where
+    module _ {o : Cut} (made : o ≡ cutAt (l .window) c) {child rest : Window} (cut : o ≡ Parts child rest) where
       parts : Cutting (l .window) c child rest
       parts = cut-means (l .window) c child rest (sym made ∙ cut)
 
@@ -275,10 +276,10 @@ module _ {j : Job} {depth : ℕ} {whole : Ended} {m : List ℕ} {l : Routine} {l
             ∙ sym (called .0) ∙ far .is
 
         -- it ended by a number
-        pub call-stops : (x u' : ℕ) → answer ≡ Stopped x u' → endedBy (Stopped x u') m'' ≡ whole
-        call-stops x u' s = rw s at led
+        pub call-stops : {x u' : ℕ} → answer ≡ Stopped x u' → endedBy (Stopped x u') m'' ≡ whole
+        call-stops s = rw s at led
 
-        module _ (v u' : ℕ) (s : answer ≡ Finished v u') where
+        module _ {v u' : ℕ} (s : answer ≡ Finished v u') where
           pub call-units : (u + cost ≤ u') × (u' ≤ j .allowance) × (length m'' ≡ 992)
           call-units =
               let x = between-done {v = v} {m = m''} (subst (Between (u + weightAt j l) (j .allowance) (length m))
@@ -286,9 +287,9 @@ module _ {j : Job} {depth : ℕ} {whole : Ended} {m : List ℕ} {l : Routine} {l
               (fork-bounded j (leb 32 n) (suc n) young m u (weightAt j l) (rw cost-is at (paid-units (t .met))))) in
               (omega (arith, x .0, cost-is), x .1, x .2 ∙ far .ready .memory)
 
-          pub call-again : (q : ℕ) (slots' : List ℕ) → q ≡ withPending (l .pending) d → slots' ≡ set slots d v
+          pub call-again : {q : ℕ} {slots' : List ℕ} → q ≡ withPending (l .pending) d → slots' ≡ set slots d v
               → Far j depth whole m'' (openAt (l .routine) (l .position + 5) q rest slots') (j .allowance - u')
-          call-again q slots' f i =
+          call-again f i =
               let next : l .position + 5 ≡ nextOf j l = omega (arith, called .1 .five) in
               let z : j .allowance - (j .allowance - u') ≡ u' = omega (arith, call-units .1) in
               rw (f, parts .is-rest, i, same-slots, next) (record {

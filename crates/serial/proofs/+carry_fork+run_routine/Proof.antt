@@ -109,6 +109,7 @@ abbrev μ : lts.MeasureT-loop
     left
 
 module _ (t : ℕ) where
+  -- carrying out a fork
   carry-fork-returns : fork.Need-returns (carry-fork-calls t) (carry-fork-at t) carry-fork.Post
   carry-fork-returns c = fork-deep _ _ _ _ _ _ (c .if1 .taken)
 
@@ -136,7 +137,7 @@ module _ (t : ℕ) where
   carry-fork-part-run-routine-end : fork.Need-part-run-routine-end (carry-fork-calls t) (carry-fork-at t) carry-fork.Post
   carry-fork-part-run-routine-end c =
       let s = c .before .before .before .before .before .before .before .before in
-      omega (arith, fork-end _ _ _ _ _ _ _ _ _ (s .pre .1) _ (c .before .wide-byte .ensures .0 ∙ c .before .before .arguments-of .ensures))
+      omega (arith, fork-end (s .pre .1) (c .before .wide-byte .ensures .0 ∙ c .before .before .arguments-of .ensures))
 
   carry-fork-sub-run-routine-2 : fork.Need-sub-run-routine-2 (carry-fork-calls t) (carry-fork-at t) carry-fork.Post
   carry-fork-sub-run-routine-2 c = omega (arith, c .before .before .before .before .if1 .left)
@@ -146,7 +147,7 @@ module _ (t : ℕ) where
       let s = c .before .before .before .before .before .before .before .before .before in
       let deep = c .before .before .before .before .if1 .left in
       let given = c .before .before .wide-byte .ensures .0 ∙ c .before .before .before .arguments-of .ensures in
-      (omega arith, fork-ready _ _ _ _ _ _ _ _ _ (s .pre .1) _ given _ refl _ refl deep)
+      (omega arith, fork-ready (s .pre .1) given refl refl deep)
 
   carry-fork-same-length : fork.Need-same-length (carry-fork-calls t) (carry-fork-at t) carry-fork.Post
   carry-fork-same-length c = search needs
@@ -157,7 +158,7 @@ module _ (t : ℕ) where
       let s = called .before .before .before .before .before .before .before .before .before .before in
       let deep = called .before .before .before .before .before .if1 .left in
       let given = called .before .before .before .wide-byte .ensures .0 ∙ called .before .before .before .before .arguments-of .ensures in
-      fork-runs _ _ _ _ _ _ _ _ _ (s .pre .1) _ given _ refl _ deep (called .run-routine .ensures)
+      fork-runs (s .pre .1) given refl deep (called .run-routine .ensures)
 
   -- the places of the loop: where the routine starts, the loop's head, a command's weight read, its effect carried out
   abbrev Start : Type 0
@@ -200,8 +201,7 @@ module _ (t : ℕ) where
   cost-here : (c : Priced) → c .cost-of .result ≡ weightAt (job (head c)) (opened (head c))
   cost-here c =
       let h = head c in
-      cost-met (job h) (opened h) _ (h .before .before .before .code-start .ensures .0) _ (c .before .before .five-of .ensures)
-      _ (h .before .before .before .before .weights .ensures) _ (c .cost-of .ensures)
+      cost-met (job h) (opened h) (h .before .before .before .code-start .ensures .0) (c .before .before .five-of .ensures) (h .before .before .before .before .weights .ensures) (c .cost-of .ensures)
 
   abbrev priced : Ready-to-act → Priced
   priced c = c .before .before .before .before .before .before
@@ -214,8 +214,7 @@ module _ (t : ℕ) where
     paid = c .before .before .before .before .before .if1 .left;
     effect =
         let h = head (priced c) in
-        effect-met (job h) (opened h) _ (h .before .before .before .code-start .ensures .0) _ (priced c .before .before .five-of .ensures)
-        _ (c .before .before .before .before .command-of .ensures) _ (c .before .before .effect .ensures);
+        effect-met (job h) (opened h) (h .before .before .before .code-start .ensures .0) (priced c .before .before .five-of .ensures) (c .before .before .before .before .command-of .ensures) (c .before .before .effect .ensures);
   }
 
   abbrev at : Acted → Head
@@ -229,6 +228,7 @@ module _ (t : ℕ) where
   length-kept : (c : Acted) → length (c .carry-out .last .1 .1 .1 .0) ≡ length (start (at c) .args .memory .now)
   length-kept c = c .carry-out .kept .1 .1 .1 .0 ∙ at c .loop .inv .ready .memory ∙ sym (start (at c) .pre .1 .0 .memory)
 
+  -- the loop, up to its match
   run-routine-weights-requires : lts.Need-weights-requires (run-routine-calls t) (run-routine-at t) run-routine.Post Inv μ
   run-routine-weights-requires c κs = search needs
 
@@ -254,7 +254,7 @@ module _ (t : ℕ) where
   run-routine-cost-of-requires c κs =
       let h = c .before .before in
       let ready = h .loop .inv .ready in
-      byte-met (job h) (opened h) _ (h .before .before .before .code-start .ensures .0) _ (c .before .five-of .ensures) (ready .job) (ready .routine)
+      byte-met (job h) (opened h) (h .before .before .before .code-start .ensures .0) (c .before .five-of .ensures) (ready .job) (ready .routine)
 
   run-routine-sub-t46 : lts.Need-sub-t46 (run-routine-calls t) (run-routine-at t) run-routine.Post Inv μ
   run-routine-sub-t46 c = head (c .before) .loop .inv .most
@@ -277,29 +277,43 @@ module _ (t : ℕ) where
   run-routine-carry-out-requires : lts.Need-carry-out-requires (run-routine-calls t) (run-routine-at t) run-routine.Post Inv μ
   run-routine-carry-out-requires c κs = reach (met c)
 
+  -- the routine goes on
   run-routine-enum-known-ask : lts.Need-enum-known-ask (run-routine-calls t) (run-routine-at t) run-routine.Post Inv μ
   run-routine-enum-known-ask c = search needs
 
   run-routine-loop-less : lts.Need-loop-less (run-routine-calls t) (run-routine-at t) run-routine.Post Inv μ
-  run-routine-loop-less c = let w = c .before .before .before .before .before in let s = some-cost (at w .loop .inv) (cost-here (priced (w .before))) in omega (arith, met (w .before) .paid)
+  run-routine-loop-less c =
+      let w = c .before .before .before .before .before in
+      let s = some-cost (at w .loop .inv) (cost-here (priced (w .before))) in
+      omega (arith, met (w .before) .paid)
 
   run-routine-loop-again : lts.Need-loop-again (run-routine-calls t) (run-routine-at t) run-routine.Post Inv μ
-  run-routine-loop-again c = let w = c .before .before .before .before .before in goes-again (turn w) _ (c .before .ask .given .1)
+  run-routine-loop-again c =
+      let w = c .before .before .before .before .before in
+      goes-again (turn w) (c .before .ask .given .1)
 
+  -- behind a join
   run-routine-enum-told : lts.Need-enum-told (run-routine-calls t) (run-routine-at t) run-routine.Post Inv μ
   run-routine-enum-told c = search needs
 
   run-routine-add-position : lts.Need-add-position (run-routine-calls t) (run-routine-at t) run-routine.Post Inv μ
-  run-routine-add-position c = let w = c .before .before .before .before in omega (arith, join-fits (turn w) (c .enum-told .given .1))
+  run-routine-add-position c =
+      let w = c .before .before .before .before in
+      omega (arith, join-fits (turn w) (c .enum-told .given .1))
 
   run-routine-rejoin-requires : lts.Need-rejoin-requires (run-routine-calls t) (run-routine-at t) run-routine.Post Inv μ
   run-routine-rejoin-requires c κs = search needs
 
   run-routine-loop-less-2 : lts.Need-loop-less-2 (run-routine-calls t) (run-routine-at t) run-routine.Post Inv μ
-  run-routine-loop-less-2 c = let w = c .before .before .before .before .before in let s = some-cost (at w .loop .inv) (cost-here (priced (w .before))) in omega (arith, met (w .before) .paid)
+  run-routine-loop-less-2 c =
+      let w = c .before .before .before .before .before in
+      let s = some-cost (at w .loop .inv) (cost-here (priced (w .before))) in
+      omega (arith, met (w .before) .paid)
 
   run-routine-loop-again-2 : lts.Need-loop-again-2 (run-routine-calls t) (run-routine-at t) run-routine.Post Inv μ
-  run-routine-loop-again-2 c = let w = c .before .before .before .before .before in joins-again (turn w) _ (c .rejoin .ensures) (c .before .enum-told .given .1)
+  run-routine-loop-again-2 c =
+      let w = c .before .before .before .before .before in
+      joins-again (turn w) (c .rejoin .ensures) (c .before .enum-told .given .1)
 
   abbrev acted : Cutting → Acted
   acted c = c .before .before .before .before .before .before
@@ -307,6 +321,7 @@ module _ (t : ℕ) where
   abbrev cutting : Calling → Cutting
   cutting c = c .before .before .before .before .before
 
+  -- a child runs first: its cut, its call, and the ways it ends
   run-routine-enum-known-ask-2 : lts.Need-enum-known-ask-2 (run-routine-calls t) (run-routine-at t) run-routine.Post Inv μ
   run-routine-enum-known-ask-2 c = search needs
 
@@ -317,25 +332,30 @@ module _ (t : ℕ) where
   run-routine-enum-known-cut c = search needs
 
   run-routine-slice-aggregate-carry-fork : lts.Need-slice-aggregate-carry-fork (run-routine-calls t) (run-routine-at t) run-routine.Post Inv μ
-  run-routine-slice-aggregate-carry-fork c = let q = c in let k = cutting q in sym (call-ready (turn (acted k)) _ _ _ _ (k .before .before .ask2 .given .1) _ (k .cut .ensures) _ _ (q .before .before .before .cut2 .given .1) .sixteen)
+  run-routine-slice-aggregate-carry-fork c =
+      let k = cutting c in
+      sym (call-ready (turn (acted k)) (k .before .before .ask2 .given .1) (k .cut .ensures) (c .before .before .before .cut2 .given .1) .sixteen)
 
   run-routine-sub-carry-fork : lts.Need-sub-carry-fork (run-routine-calls t) (run-routine-at t) run-routine.Post Inv μ
   run-routine-sub-carry-fork c = at (acted (cutting c)) .loop .inv .most
 
   run-routine-carry-fork-requires : lts.Need-carry-fork-requires (run-routine-calls t) (run-routine-at t) run-routine.Post Inv μ
   run-routine-carry-fork-requires c κs =
-      let q = c in
-      let k = cutting q in
-      (omega (arith, start (at (acted k)) .pre .0), call-ready (turn (acted k)) _ _ _ _ (k .before .before .ask2 .given .1) _ (k .cut .ensures) _ _ (q .before .before .before .cut2 .given .1))
+      let k = cutting c in
+      (omega (arith, start (at (acted k)) .pre .0), call-ready (turn (acted k)) (k .before .before .ask2 .given .1) (k .cut .ensures) (c .before .before .before .cut2 .given .1))
 
   run-routine-enum-known-answer : lts.Need-enum-known-answer (run-routine-calls t) (run-routine-at t) run-routine.Post Inv μ
   run-routine-enum-known-answer c = search needs
 
   run-routine-put-requires : lts.Need-put-requires (run-routine-calls t) (run-routine-at t) run-routine.Post Inv μ
-  run-routine-put-requires c κs = let q = c .before .before .before .before .before .before .before in let k = cutting q in call-slot (turn (acted k)) _ _ _ _ (k .before .before .ask2 .given .1)
+  run-routine-put-requires c κs =
+      let k = cutting (c .before .before .before .before .before .before .before) in
+      call-slot (turn (acted k)) (k .before .before .ask2 .given .1)
 
   run-routine-add-position-2 : lts.Need-add-position-2 (run-routine-calls t) (run-routine-at t) run-routine.Post Inv μ
-  run-routine-add-position-2 c = let q = c .before .before .before .before .before .before .before .before in let k = cutting q in omega (arith, call-fits (turn (acted k)) _ _ _ _ (k .before .before .ask2 .given .1))
+  run-routine-add-position-2 c =
+      let k = cutting (c .before .before .before .before .before .before .before .before) in
+      omega (arith, call-fits (turn (acted k)) (k .before .before .ask2 .given .1))
 
   run-routine-with-pending-requires : lts.Need-with-pending-requires (run-routine-calls t) (run-routine-at t) run-routine.Post Inv μ
   run-routine-with-pending-requires c κs = tt
@@ -344,14 +364,14 @@ module _ (t : ℕ) where
   run-routine-sub-left-2 c =
       let q = c .before .before .before .before .before .before .before .before .before in
       let k = cutting q in
-      call-units (turn (acted k)) _ _ _ _ (k .before .before .ask2 .given .1) _ (k .cut .ensures) _ _ (q .before .before .before .cut2 .given .1) _ _ (c .before .before .before .before .before .before .before .before .carry-fork .ensures) _ _ (c .before .before .before .before .answer .given .1) .1
+      call-units (turn (acted k)) (k .before .before .ask2 .given .1) (k .cut .ensures) (q .before .before .before .cut2 .given .1) _ _ (c .before .before .before .before .before .before .before .before .carry-fork .ensures) (c .before .before .before .before .answer .given .1) .1
 
   run-routine-loop-less-3 : lts.Need-loop-less-3 (run-routine-calls t) (run-routine-at t) run-routine.Post Inv μ
   run-routine-loop-less-3 c =
       let q = c .before .before .before .before .before .before .before .before .before in
       let k = cutting q in
       let w = acted k in
-      let h = call-units (turn w) _ _ _ _ (k .before .before .ask2 .given .1) _ (k .cut .ensures) _ _ (q .before .before .before .cut2 .given .1) _ _ (c .before .before .before .before .before .before .before .before .carry-fork .ensures) _ _ (c .before .before .before .before .answer .given .1) in
+      let h = call-units (turn w) (k .before .before .ask2 .given .1) (k .cut .ensures) (q .before .before .before .cut2 .given .1) _ _ (c .before .before .before .before .before .before .before .before .carry-fork .ensures) (c .before .before .before .before .answer .given .1) in
       let s = some-cost (at w .loop .inv) (cost-here (priced (w .before))) in
       omega (arith, at w .loop .inv .most)
 
@@ -359,8 +379,8 @@ module _ (t : ℕ) where
   run-routine-loop-again-3 c =
       let q = c .before .before .before .before .before .before .before .before .before in
       let k = cutting q in
-      call-again (turn (acted k)) _ _ _ _ (k .before .before .ask2 .given .1) _ (k .cut .ensures) _ _ (q .before .before .before .cut2 .given .1) _ _ (c .before .before .before .before .before .before .before .before .carry-fork .ensures) _ _ (c .before .before .before .before .answer .given .1)
-      _ _ (c .with-pending .ensures .0 (call-slot (turn (acted k)) _ _ _ _ (k .before .before .ask2 .given .1))) (c .before .put .ensures)
+      call-again (turn (acted k)) (k .before .before .ask2 .given .1) (k .cut .ensures) (q .before .before .before .cut2 .given .1) _ _ (c .before .before .before .before .before .before .before .before .carry-fork .ensures) (c .before .before .before .before .answer .given .1)
+      (c .with-pending .ensures .0 (call-slot (turn (acted k)) (k .before .before .ask2 .given .1))) (c .before .put .ensures)
 
   run-routine-enum-known-answer-2 : lts.Need-enum-known-answer-2 (run-routine-calls t) (run-routine-at t) run-routine.Post Inv μ
   run-routine-enum-known-answer-2 c = search needs
@@ -372,8 +392,9 @@ module _ (t : ℕ) where
   run-routine-returns-2 c =
       let q = c .before .before .before .before .before .before in
       let k = cutting q in
-      call-stops (turn (acted k)) _ _ _ _ (k .before .before .ask2 .given .1) _ (k .cut .ensures) _ _ (q .before .before .before .cut2 .given .1) _ _ (c .before .before .before .before .before .carry-fork .ensures) _ _ (c .before .answer2 .given .1)
+      call-stops (turn (acted k)) (k .before .before .ask2 .given .1) (k .cut .ensures) (q .before .before .before .cut2 .given .1) _ _ (c .before .before .before .before .before .carry-fork .ensures) (c .before .answer2 .given .1)
 
+  -- a cut out of range is not met
   run-routine-enum-told-2 : lts.Need-enum-told-2 (run-routine-calls t) (run-routine-at t) run-routine.Post Inv μ
   run-routine-enum-told-2 c = search needs
 
@@ -384,8 +405,9 @@ module _ (t : ℕ) where
   run-routine-same-length-3 c = length-kept (acted (c .before .before))
 
   run-routine-returns-3 : lts.Need-returns-3 (run-routine-calls t) (run-routine-at t) run-routine.Post Inv μ
-  run-routine-returns-3 c = let k = c .before .before in absurd (call-cuts (turn (acted k)) _ _ _ _ (k .before .before .ask2 .given .1) _ (k .cut .ensures) (c .enum-told2 .given .1))
+  run-routine-returns-3 c = let k = c .before .before in absurd (call-cuts (turn (acted k)) (k .before .before .ask2 .given .1) (k .cut .ensures) (c .enum-told2 .given .1))
 
+  -- the run ends by a number
   run-routine-enum-known-ask-3 : lts.Need-enum-known-ask-3 (run-routine-calls t) (run-routine-at t) run-routine.Post Inv μ
   run-routine-enum-known-ask-3 c = search needs
 
@@ -396,8 +418,11 @@ module _ (t : ℕ) where
   run-routine-same-length-4 c = length-kept (c .before .before .before .before .before)
 
   run-routine-returns-4 : lts.Need-returns-4 (run-routine-calls t) (run-routine-at t) run-routine.Post Inv μ
-  run-routine-returns-4 c = let w = c .before .before .before .before .before in stops-run (turn w) _ (c .before .ask3 .given .1)
+  run-routine-returns-4 c =
+      let w = c .before .before .before .before .before in
+      stops-run (turn w) (c .before .ask3 .given .1)
 
+  -- the routine returns
   run-routine-enum-known-ask-4 : lts.Need-enum-known-ask-4 (run-routine-calls t) (run-routine-at t) run-routine.Post Inv μ
   run-routine-enum-known-ask-4 c = search needs
 
@@ -405,13 +430,18 @@ module _ (t : ℕ) where
   run-routine-sub-t62 c = at (c .before .before .before .before .before) .loop .inv .most
 
   run-routine-add-t63 : lts.Need-add-t63 (run-routine-calls t) (run-routine-at t) run-routine.Post Inv μ
-  run-routine-add-t63 c = let w = c .before .before .before .before .before in let h = paid-units (met (w .before)) in omega (arith, start (at w) .fits)
+  run-routine-add-t63 c =
+      let w = c .before .before .before .before .before in
+      let h = paid-units (met (w .before)) in
+      omega (arith, start (at w) .fits)
 
   run-routine-same-length-5 : lts.Need-same-length-5 (run-routine-calls t) (run-routine-at t) run-routine.Post Inv μ
   run-routine-same-length-5 c = length-kept (c .before .before .before .before .before)
 
   run-routine-returns-5 : lts.Need-returns-5 (run-routine-calls t) (run-routine-at t) run-routine.Post Inv μ
-  run-routine-returns-5 c = let w = c .before .before .before .before .before in returns-run (turn w) _ (c .before .ask4 .given .1)
+  run-routine-returns-5 c =
+      let w = c .before .before .before .before .before in
+      returns-run (turn w) (c .before .ask4 .given .1)
 
 pub +carry-fork+run-routine-spec : {M : Type 1} → statement M
 +carry-fork+run-routine-spec =

@@ -18,7 +18,11 @@ number-of-requires : tie.Need-number-of-requires
 number-of-requires c κs = search needs
 
 returns : tie.Need-returns
-returns c = ap (λ x. stopped x (c .before .before .before .before .before .before .before .before .before .args .memory .now) 0) (c .number-of .ensures) ∙ refused (c .before .before .before .before .before .before .before .before .before .args .image .now) (c .before .before .before .before .before .before .before .before .before .args .parameters .now) (c .before .before .before .before .before .before .before .before .before .args .arguments .now) (c .before .before .before .before .before .before .before .before .before .args .memory .now) (c .before .before .before .before .before .before .before .before .before .args .allowance) _ (sym (verdict-is _ _ (c .before .before .before .before .check .ensures)) ∙ c .before .before .verdict .given .1)
+returns c =
+    let a = c .before .before .before .before .before .before .before .before .before .args in
+    let checked = c .before .before .before .before .check .ensures in
+    let verdict = c .before .before .verdict .given .1 in
+    ap (λ x. stopped x (a .memory .now) 0) (c .number-of .ensures) ∙ refused (a .image .now) (a .parameters .now) (a .arguments .now) (a .memory .now) (a .allowance) _ (sym (verdict-is _ _ checked) ∙ verdict)
 
 enum-told : tie.Need-enum-told
 enum-told c = search needs
@@ -45,13 +49,21 @@ root-requires : tie.Need-root-requires
 root-requires c κs = search needs
 
 run-routine-requires : tie.Need-run-routine-requires
-run-routine-requires c κs = whole-ready (c .before .before .before .before .before .before .before .before .before .before .before .before .before .before .before .before .args .image .now) (c .before .before .before .before .before .before .before .before .before .before .before .before .before .before .before .before .args .parameters .now) (c .before .before .before .before .before .before .before .before .before .before .before .before .before .before .before .before .args .arguments .now) (c .before .before .before .before .before .before .before .before .before .before .before .before .before .before .before .before .args .memory .now) (c .before .before .before .before .before .before .before .before .before .before .before .before .before .before .before .before .args .allowance) (sym (verdict-is _ _ (c .before .before .before .before .before .before .before .before .before .before .before .check .ensures)) ∙ c .before .before .before .before .before .before .before .before .before .enum-told .given .1) _ (c .before .before .before .starts .ensures ∙ ap startsIn (program-is _ _ (c .before .before .before .before .before .before .before .before .before .before .before .check .ensures) (c .before .before .before .before .before .before .before .before .before .enum-told .given .1))) _ (c .root .ensures) (c .before .before .before .before .before .before .before .if1 .left ∙ c .before .before .before .before .before .before .before .before .arguments-of .ensures) (λ i. omega (arith, c .before .before .before .before .before .before .before .before .before .before .before .before .before .before .before .shared-slice-known .given i)) (c .before .before .before .before .before .before .if2 .left) (c .before .before .before .before .before .if3 .left)
+run-routine-requires c κs =
+    let a = c .before .before .before .before .before .before .before .before .before .before .before .before .before .before .before .before .args in
+    let checked = c .before .before .before .before .before .before .before .before .before .before .before .check .ensures in
+    let verdict = c .before .before .before .before .before .before .before .before .before .enum-told .given .1 in
+    whole-ready (a .image .now) (a .parameters .now) (a .arguments .now) (a .memory .now) (a .allowance) (sym (verdict-is _ _ checked) ∙ verdict) _ (c .before .before .before .starts .ensures ∙ ap startsIn (program-is _ _ checked verdict)) _ (c .root .ensures) (c .before .before .before .before .before .before .before .if1 .left ∙ c .before .before .before .before .before .before .before .before .arguments-of .ensures) (λ i. omega (arith, c .before .before .before .before .before .before .before .before .before .before .before .before .before .before .before .shared-slice-known .given i)) (c .before .before .before .before .before .before .if2 .left) (c .before .before .before .before .before .if3 .left)
 
 same-length : tie.Need-same-length
 same-length c = search needs
 
 returns-5 : tie.Need-returns-5
-returns-5 c = whole-run (c .before .before .before .before .before .before .before .before .before .before .before .before .before .before .before .before .before .before .before .args .image .now) (c .before .before .before .before .before .before .before .before .before .before .before .before .before .before .before .before .before .before .before .args .parameters .now) (c .before .before .before .before .before .before .before .before .before .before .before .before .before .before .before .before .before .before .before .args .arguments .now) (c .before .before .before .before .before .before .before .before .before .before .before .before .before .before .before .before .before .before .before .args .memory .now) (c .before .before .before .before .before .before .before .before .before .before .before .before .before .before .before .before .before .before .before .args .allowance) (sym (verdict-is _ _ (c .before .before .before .before .before .before .before .before .before .before .before .before .before .before .check .ensures)) ∙ c .before .before .before .before .before .before .before .before .before .before .before .before .enum-told .given .1) _ (c .before .before .before .before .before .before .starts .ensures ∙ ap startsIn (program-is _ _ (c .before .before .before .before .before .before .before .before .before .before .before .before .before .before .check .ensures) (c .before .before .before .before .before .before .before .before .before .before .before .before .enum-told .given .1))) _ (c .before .before .before .root .ensures) (c .before .before .before .before .before .before .before .before .before .before .if1 .left ∙ c .before .before .before .before .before .before .before .before .before .before .before .arguments-of .ensures) _ (c .before .before .before .before .before .before .before .before .before .if2 .left) (c .before .before .before .before .before .before .before .before .if3 .left) (c .before .before .run-routine .ensures)
+returns-5 c =
+    let a = c .before .before .before .before .before .before .before .before .before .before .before .before .before .before .before .before .before .before .before .args in
+    let checked = c .before .before .before .before .before .before .before .before .before .before .before .before .before .before .check .ensures in
+    let verdict = c .before .before .before .before .before .before .before .before .before .before .before .before .enum-told .given .1 in
+    whole-run (a .image .now) (a .parameters .now) (a .arguments .now) (a .memory .now) (a .allowance) (sym (verdict-is _ _ checked) ∙ verdict) _ (c .before .before .before .before .before .before .starts .ensures ∙ ap startsIn (program-is _ _ checked verdict)) _ (c .before .before .before .root .ensures) (c .before .before .before .before .before .before .before .before .before .before .if1 .left ∙ c .before .before .before .before .before .before .before .before .before .before .before .arguments-of .ensures) _ (c .before .before .before .before .before .before .before .before .before .if2 .left) (c .before .before .before .before .before .before .before .before .if3 .left) (c .before .before .run-routine .ensures)
 
 pub serial-spec : {M : Type 1} → statement M
 serial-spec =
