@@ -8,11 +8,10 @@ use native.Mathlib.Decide.{decLt}
 use native.Mathlib.Omega.{arith}
 use lib.ListN.{length, take, replicate, length-set, length-take, length-append, length-replicate, List·getD-eq-default}
 use Rattle.command.specs.Command.{widthOf}
-use Rattle.image.specs.Layout.{countOf, startOf, slotsOf, argumentsOf, codeOf}
+use Rattle.image.specs.Layout.{countOf, slotsOf, argumentsOf, codeOf}
 use Rattle.image.specs.Code.{commandsOf, isStart}
 use Rattle.image.proofs.Accepted.{accepted}
 use Rattle.image.proofs.Laws.{start-good}
-use Rattle.image.proofs.Places.{start-mono}
 use Rattle.window.specs.declared.Window.{Window}
 use Rattle.window.specs.Rights.{Fits, mayLoad, childOf}
 use Rattle.window.proofs.Laws.{store-in-memory, load-memory, rejoined-fits}
@@ -21,7 +20,7 @@ use Rattle.thread.specs.declared.Effect.{Effect}
 use Rattle.thread.specs.declared.Effect.the-variants.{Faults, Sets, Loads, Stores, Goes, Continues, Lforks, Forks, Joins, Suspends, Yields, Returns}
 use Rattle.thread.specs.View.{viewOf}
 use Rattle.thread.specs.Thread.{isPending}
-use Rattle.thread.specs.Job.{Job, GoodJob, byteAt}
+use Rattle.thread.specs.Job.{Job, GoodJob, offsetAt, byteAt}
 use Rattle.met.proofs.CommandMet as command
 use Rattle.thread.proofs.EffectFacts.{Guarded}
 use Rattle.thread.proofs.Widths.{Widened}
@@ -47,13 +46,6 @@ nextOf j l = l .position + widthOf (byteAt j (l .routine) (l .position))
 pub length-first : (xs : List ℕ) → length (take 16 (xs ++ replicate 16 0)) ≡ 16
 length-first xs = simp (length-take, length-append, length-replicate) (omega arith)
 
--- an accepted image has a row and a byte for its count
-pub image-long : (j : Job) → GoodJob j → 5 ≤ length (j .image)
-unfolding startOf
-image-long j good =
-    let a = accepted (j .image) (good .image) in
-    omega (arith, start-mono (j .image) 0 (countOf (j .image)) (omega arith), a .total, a .some)
-
 module _ (j : Job) (good : GoodJob j) (l : Routine) (g : GoodRoutine j l) where
   pub slots-few : slotsOf (j .image) (l .routine) ≤ 16
   slots-few = command.slots-few j good (l .routine) (l .position) (g .routine) (g .position)
@@ -69,6 +61,17 @@ module _ (j : Job) (good : GoodJob j) (l : Routine) (g : GoodRoutine j l) where
       go : Dec (byteAt j (l .routine) (l .position) < length (j .weights)) → byteAt j (l .routine) (l .position) < length (j .weights)
       go (yes h) = h
       go (no h) = omega (arith, weighs, List·getD-eq-default (j .weights) 0 {n = byteAt j (l .routine) (l .position)} (omega arith))
+
+  -- past the image's end there is no command
+  pub place-inside : offsetAt j (l .routine) (l .position) < length (j .image)
+  place-inside = go (decLt (offsetAt j (l .routine) (l .position)) (length (j .image)))
+    where
+      go : Dec (offsetAt j (l .routine) (l .position) < length (j .image)) → offsetAt j (l .routine) (l .position) < length (j .image)
+      go (yes h) = h
+      go (no h) =
+          let z : byteAt j (l .routine) (l .position) ≡ 0 = List·getD-eq-default (j .image) 0 (omega arith) in
+          let some = rw z at (command.some-bytes j good (l .routine) (l .position) (g .routine) (g .position)) in
+          absurd (omega arith)
 
   pub next-small : nextOf j l < 65536
   next-small = command.next-small j good (l .routine) (l .position) (g .routine) (g .position)

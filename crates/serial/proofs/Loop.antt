@@ -11,6 +11,7 @@ use Rattle.command.specs.declared.Command.{Command}
 use Rattle.command.specs.Command.{decodedAt, fiveAt}
 use Rattle.command.specs.Weight.{weightOf}
 use Rattle.image.specs.Layout.{argumentsOf}
+use Rattle.image.proofs.Accepted.{accepted}
 use Rattle.window.specs.declared.Window.{Window}
 use Rattle.window.specs.declared.Cut.{Cut}
 use Rattle.window.specs.declared.Cut.the-variants.{Parts, OutOfRange}
@@ -30,8 +31,8 @@ use Rattle.serial.specs.declared.Ask.the-variants.{GoOn, Join, Call, Sto
 use Rattle.serial.specs.declared.SerialAnswer.{SerialAnswer}
 use Rattle.serial.specs.declared.SerialAnswer.the-variants.{Finished, Stopped}
 use Rattle.serial.specs.Serial.{Ended, done, stopped, andThen, endedBy, withSlot, goesOn, forked, startedOn, weightAt, effectAt, forkCalled, runFrom}
-use Rattle.serial.specs.Steps.{openAt, firstSlots, askedOf, slotsAfter, memoryAfter, childFrom, GoodRoutine, InReach, Ready, ForkReady, forkOf}
-use Rattle.serial.proofs.CommandMet.{met, weighs, byte-few, slots-few, next-small, nextOf}
+use Rattle.serial.specs.Steps.{openAt, firstSlots, Padded, askedOf, slotsAfter, memoryAfter, childFrom, GoodRoutine, InReach, Ready, ForkReady, forkOf}
+use Rattle.serial.proofs.CommandMet.{met, weighs, byte-few, place-inside, slots-few, next-small, nextOf}
 use Rattle.serial.proofs.Unrolled.{Between, ended, between, between-done}
 use Rattle.serial.proofs.Turns.{Calls, wide-here, turn-22, turn-goes, turn-joins, turn-stops, turn-returns, turn-calls}
 
@@ -105,18 +106,24 @@ length-after m Yields = refl
 length-after m (Returns v) = refl
 
 -- the command that is met, as the code reads it
-module _ (j : Job) (l : Routine) {code : ℕ} (code-is : code ≡ getD (j .starts) (l .routine) 0) {five : List ℕ}
-    (five-are : five ≡ fiveAt (j .image) (code + l .position)) where
-  pub byte-met : GoodJob j → GoodRoutine j l → getD five 0 0 < length (j .weights)
-  byte-met good well = rw (five-are, code-is) (byte-few j good l well)
+module _ (j : Job) (l : Routine) {code : ℕ} (code-is : code ≡ getD (j .starts) (l .routine) 0) where
+  pub place-met : GoodJob j → GoodRoutine j l → code + l .position < 4096
+  place-met good well = rw code-is (omega (arith, place-inside j good l well, accepted (j .image) (good .image) .size))
 
-  pub cost-met : {weights : List ℕ} → weights ≡ j .weights → {cost : ℕ} → cost ≡ weightOf weights (getD five 0 0) → cost ≡ weightAt j l
-  cost-met w c = c ∙ rw (w, five-are, code-is)
+  module _ {padded : List ℕ} (zeros : Padded (j .image) padded) {five : List ℕ} (read : five ≡ fiveAt padded (code + l .position)) where
+    five-are : five ≡ fiveAt (j .image) (code + l .position)
+    five-are = read ∙ simp (zeros .same)
 
-  pub effect-met : {command : Command} → command ≡ decodedAt five 0 → {e : Effect}
-      → e ≡ effectOf (argumentsOf (j .image)) (viewOf (slotOf (l .slots) 0) (isPending (l .pending)) (l .window)) command → e ≡ effectAt j l
-  unfolding effectAt
-  effect-met c x = x ∙ rw (c, five-are, code-is)
+    pub byte-met : GoodJob j → GoodRoutine j l → getD five 0 0 < length (j .weights)
+    byte-met good well = rw (five-are, code-is) (byte-few j good l well)
+
+    pub cost-met : {weights : List ℕ} → weights ≡ j .weights → {cost : ℕ} → cost ≡ weightOf weights (getD five 0 0) → cost ≡ weightAt j l
+    cost-met w c = c ∙ rw (w, five-are, code-is)
+
+    pub effect-met : {command : Command} → command ≡ decodedAt five 0 → {e : Effect}
+        → e ≡ effectOf (argumentsOf (j .image)) (viewOf (slotOf (l .slots) 0) (isPending (l .pending)) (l .window)) command → e ≡ effectAt j l
+    unfolding effectAt
+    effect-met c x = x ∙ rw (c, five-are, code-is)
 
 module _ {j : Job} {depth : ℕ} {whole : Ended} {m : List ℕ} {l : Routine} {left cost : ℕ} (far : Far j depth whole m l left) (cost-is : cost ≡ weightAt j l) where
   pub some-cost : 1 ≤ cost

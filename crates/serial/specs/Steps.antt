@@ -75,6 +75,10 @@ memoryAfter m Suspends = m
 memoryAfter m Yields = m
 memoryAfter m (Returns v) = m
 
+-- a list with zeros behind it
+pub record Padded (s padded : List ℕ) : Type 0 where
+  pub same : (i : ℕ) → getD padded i 0 ≡ getD s i 0
+
 -- an open routine of a good job: a command starts at its position, it has 16 slots, and its window lies in memory
 pub record GoodRoutine (j : Job) (l : Routine) : Type 0 where
   pub routine : l .routine < countOf (j .image)

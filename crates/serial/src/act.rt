@@ -1,13 +1,11 @@
-// The command that a routine meets: where its code starts, its bytes, its weight, and what its effect does to slots and memory.
+// The command that a routine meets: where its code starts, its weight, and what its effect does to slots and memory.
 use crate::Ask;
 use crate::frame::put;
-use command::five_at;
 use image::routines::place_in_image;
 use thread::Effect;
 ghost use mathlib.Core.Path.{_≡_};
-ghost use Prim.Native.Nat.{_+_, _≤_, _<_};
+ghost use Prim.Native.Nat.{_+_, _<_};
 ghost use lib.ListN.{length, getD};
-ghost use Rattle.command.specs.Command.{fiveAt};
 ghost use Rattle.command.specs.Weight.{weightOf};
 ghost use Rattle.thread.specs.Effect.{bytesBy};
 ghost use Rattle.serial.specs.Steps.{wordIn, slotsAfter, memoryAfter, askedOf, InReach};
@@ -17,24 +15,6 @@ pub fn code_start(starts: &[u16; 32], routine: u8) -> usize
     ensures { λ r. ⌜ (r ≡ getD (now (starts .entry)) routine 0) × (r < 131072) ⌝ }
 {
     place_in_image(starts, routine, 0)
-}
-
-// The five bytes at a position of a routine's code. An image has more than five, so that one test tells whether all are there.
-pub fn five_of(image: &[u8], code: usize, position: u16) -> [u8; 5]
-    requires { ⌜ (5 ≤ length (now image)) × (code < 131072) ⌝ }
-    ensures { λ r. ⌜ r ≡ fiveAt (now (image .entry)) (code + position) ⌝ }
-{
-    let at = code + (position as usize);
-    if at <= image.len() - 5 {
-        return [
-            image[at],
-            image[at + 1],
-            image[at + 2],
-            image[at + 3],
-            image[at + 4],
-        ];
-    }
-    five_at(image, at)
 }
 
 // A byte of the table of weights, as units.

@@ -2,14 +2,16 @@
 
 mod act;
 mod frame;
+mod padded;
 
 use crate::act::carry_out;
 use crate::act::code_start;
 use crate::act::cost_of;
-use crate::act::five_of;
 use crate::frame::lay;
 use crate::frame::put;
 use crate::frame::wide_byte;
+use crate::padded::five_of;
+use crate::padded::pad;
 use command::command_of;
 use command::weights;
 use image::Verdict;
@@ -25,7 +27,7 @@ ghost use lib.ListN.{length};
 ghost use Rattle.image.specs.Layout.{programOf, startsIn};
 ghost use Rattle.thread.specs.Job.{jobOf};
 ghost use Rattle.serial.specs.Serial.{endedBy, startedOn, runFrom, serialOf};
-ghost use Rattle.serial.specs.Steps.{Ready, ForkReady, childFrom, forkOf};
+ghost use Rattle.serial.specs.Steps.{Ready, ForkReady, Padded, childFrom, forkOf};
 
 // An open routine, as the definition of the run has it. The code holds its parts.
 pub struct Routine {
@@ -61,6 +63,7 @@ enum Ask {
 // end. `depth` routines may be open from the parent on, itself included.
 fn carry_fork(
     image: &[u8],
+    padded: &[u8; 4104],
     starts: &[u16; 32],
     parameters: &[u32],
     memory: &mut [u32],
@@ -73,7 +76,7 @@ fn carry_fork(
     cost: u32,
     depth: u8,
 ) -> SerialAnswer
-    requires { ⌜ ForkReady (jobOf (now image) (now starts) (now parameters) allowance) (now slots) child r a (now memory) units cost depth ⌝ }
+    requires { ⌜ ForkReady (jobOf (now image) (now starts) (now parameters) allowance) (now slots) child r a (now memory) units cost depth × Padded (now image) (now padded) ⌝ }
     ensures { λ o. ⌜ endedBy o (now (memory .exit)) ≡ forkOf (jobOf (now (image .entry)) (now (starts .entry)) (now (parameters .entry)) allowance) (33 - depth) (childFrom (now (image .entry)) (now (slots .entry)) child r a) (now (memory .entry)) units cost ⌝ }
 {
     if depth <= 1 {
@@ -84,6 +87,7 @@ fn carry_fork(
     let so_far = units + cost;
     run_routine(
         image,
+        padded,
         starts,
         parameters,
         memory,
@@ -99,6 +103,7 @@ fn carry_fork(
 // Runs a routine's commands from its start until it returns or a test is met. `depth` routines may be open from it on, itself included.
 fn run_routine(
     image: &[u8],
+    padded: &[u8; 4104],
     starts: &[u16; 32],
     parameters: &[u32],
     memory: &mut [u32],
@@ -109,7 +114,7 @@ fn run_routine(
     before: u32,
     depth: u8,
 ) -> SerialAnswer
-    requires { ⌜ Ready (jobOf (now image) (now starts) (now parameters) allowance) (startedOn routine (now arguments) start) (now memory) before depth × (length (now arguments) ≤ 16) ⌝ }
+    requires { ⌜ Ready (jobOf (now image) (now starts) (now parameters) allowance) (startedOn routine (now arguments) start) (now memory) before depth × (length (now arguments) ≤ 16) × Padded (now image) (now padded) ⌝ }
     ensures { λ o. ⌜ endedBy o (now (memory .exit)) ≡ runFrom (jobOf (now (image .entry)) (now (starts .entry)) (now (parameters .entry)) allowance) (33 - depth) (startedOn routine (now (arguments .entry)) start) (now (memory .entry)) before ⌝ }
 {
     // held by the loop: a constant table is laid out anew where it is named
@@ -123,7 +128,7 @@ fn run_routine(
     // of the allowance
     let mut left = allowance - before;
     loop {
-        let five = five_of(image, code, position);
+        let five = five_of(padded, code, position);
         let cost = cost_of(&weights, five[0]);
         if left < cost {
             return SerialAnswer::Stopped(22, allowance - left);
@@ -147,6 +152,7 @@ fn run_routine(
                     Cut::Parts { child, rest } => {
                         let answer = carry_fork(
                             image,
+                            padded,
                             starts,
                             parameters,
                             memory,
@@ -217,8 +223,10 @@ pub fn serial(
     }
     let program = checked.program;
     let starts = program.starts();
+    let padded = pad(image);
     run_routine(
         image,
+        &padded,
         &starts,
         parameters,
         memory,

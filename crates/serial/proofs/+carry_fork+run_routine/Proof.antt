@@ -18,8 +18,7 @@ use Rattle.thread.proofs.pending.with_pending.Reads as with-pending-reads
 use Rattle.serial.specs.declared.Routine.{Routine}
 use Rattle.serial.specs.Serial.{Ended, startedOn, weightAt, runFrom}
 use Rattle.serial.specs.Steps.{openAt}
-use Rattle.serial.proofs.Loop.{Met, Turn, Far, far-starts, fork-deep, fork-end, fork-ready, fork-runs, cost-met, effect-met, some-cost, unpaid, paid-units, reach, goes-again, join-fits, joins-again, stops-run, returns-run, call-ready, call-slot, call-cuts, call-fits, call-stops, call-units, call-again, byte-met}
-use Rattle.serial.proofs.CommandMet.{image-long}
+use Rattle.serial.proofs.Loop.{Met, Turn, Far, far-starts, fork-deep, fork-end, fork-ready, fork-runs, cost-met, effect-met, some-cost, unpaid, paid-units, reach, goes-again, join-fits, joins-again, stops-run, returns-run, call-ready, call-slot, call-cuts, call-fits, call-stops, call-units, call-again, place-met, byte-met}
 use Rattle.serial.proofs.carry_fork.Reads as carry-fork
 use Rattle.serial.proofs.carry_fork.Kinds as carry-fork-kinds
 use Rattle.serial.proofs.+carry_fork+run_routine.Lts-carry_fork as fork
@@ -29,34 +28,34 @@ use Rattle.serial.proofs.+carry_fork+run_routine.Lts-run_routine as lts
 use Rattle.serial.proofs.act.carry_out.Reads as carry-out-reads
 use Rattle.serial.proofs.act.code_start.Reads as code-start-reads
 use Rattle.serial.proofs.act.cost_of.Reads as cost-of-reads
-use Rattle.serial.proofs.act.five_of.Reads as five-of-reads
+use Rattle.serial.proofs.padded.five_of.Reads as five-of-reads
 use Rattle.serial.proofs.frame.lay.Reads as lay-reads
 use Rattle.serial.proofs.frame.put.Reads as put-reads
 use Rattle.serial.proofs.frame.wide_byte.Reads as wide-byte-reads
 use Rattle.serial.proofs.+carry_fork+run_routine.{statement}
 use Rattle.serial.proofs.+carry_fork+run_routine.Tie.{close}
 
-abbrev μ-carry-fork : Measures 5 carry-fork-kinds.ps ℕ
-μ-carry-fork κs a = a .1 .1 .1 .1 .1 .1 .1 .1 .1 .1 .1 .0 + a .1 .1 .1 .1 .1 .1 .1 .1 .1 .1 .1 .0
+abbrev μ-carry-fork : Measures 6 carry-fork-kinds.ps ℕ
+μ-carry-fork κs a = a .1 .1 .1 .1 .1 .1 .1 .1 .1 .1 .1 .1 .0 + a .1 .1 .1 .1 .1 .1 .1 .1 .1 .1 .1 .1 .0
 
-abbrev μ-run-routine : Measures 5 run-routine-kinds.ps ℕ
-μ-run-routine κs a = a .1 .1 .1 .1 .1 .1 .1 .1 .1 .0 + a .1 .1 .1 .1 .1 .1 .1 .1 .1 .0 + 1
+abbrev μ-run-routine : Measures 6 run-routine-kinds.ps ℕ
+μ-run-routine κs a = a .1 .1 .1 .1 .1 .1 .1 .1 .1 .1 .0 + a .1 .1 .1 .1 .1 .1 .1 .1 .1 .1 .0 + 1
 
-abbrev carry-fork-at : ℕ → In 5 carry-fork-kinds.ps
+abbrev carry-fork-at : ℕ → In 6 carry-fork-kinds.ps
 carry-fork-at t =
-    and 5 carry-fork-kinds.ps (is 5 carry-fork-kinds.ps μ-carry-fork t) carry-fork.Pre
+    and 6 carry-fork-kinds.ps (is 6 carry-fork-kinds.ps μ-carry-fork t) carry-fork.Pre
 
-abbrev carry-fork-below : ℕ → In 5 carry-fork-kinds.ps
+abbrev carry-fork-below : ℕ → In 6 carry-fork-kinds.ps
 carry-fork-below t =
-    and 5 carry-fork-kinds.ps (falls 5 carry-fork-kinds.ps _<_ μ-carry-fork t) carry-fork.Pre
+    and 6 carry-fork-kinds.ps (falls 6 carry-fork-kinds.ps _<_ μ-carry-fork t) carry-fork.Pre
 
-abbrev run-routine-at : ℕ → In 5 run-routine-kinds.ps
+abbrev run-routine-at : ℕ → In 6 run-routine-kinds.ps
 run-routine-at t =
-    and 5 run-routine-kinds.ps (is 5 run-routine-kinds.ps μ-run-routine t) run-routine.Pre
+    and 6 run-routine-kinds.ps (is 6 run-routine-kinds.ps μ-run-routine t) run-routine.Pre
 
-abbrev run-routine-below : ℕ → In 5 run-routine-kinds.ps
+abbrev run-routine-below : ℕ → In 6 run-routine-kinds.ps
 run-routine-below t =
-    and 5 run-routine-kinds.ps (falls 5 run-routine-kinds.ps _<_ μ-run-routine t) run-routine.Pre
+    and 6 run-routine-kinds.ps (falls 6 run-routine-kinds.ps _<_ μ-run-routine t) run-routine.Pre
 
 -- what each asks of its callees, and learns from them
 abbrev carry-fork-calls : ℕ → fork.Claims
@@ -100,12 +99,12 @@ run-routine-calls t = (
 )
 
 abbrev Inv : lts.InvT-loop
-Inv image starts parameters memory₀ routine arguments allowance before depth weights code position₀ pending₀ window₀ slots₀ left₀ memory position pending window slots left =
+Inv image padded starts parameters memory₀ routine arguments allowance before depth weights code position₀ pending₀ window₀ slots₀ left₀ memory position pending window slots left =
     let j = jobOf image starts parameters allowance in
     Far j depth (runFrom j (33 - depth) (startedOn routine arguments window₀) memory₀ before) memory (openAt routine position pending window slots) left
 
 abbrev μ : lts.MeasureT-loop
-μ image starts parameters memory₀ routine arguments allowance before depth weights code position₀ pending₀ window₀ slots₀ left₀ memory position pending window slots left =
+μ image padded starts parameters memory₀ routine arguments allowance before depth weights code position₀ pending₀ window₀ slots₀ left₀ memory position pending window slots left =
     left
 
 module _ (t : ℕ) where
@@ -123,7 +122,7 @@ module _ (t : ℕ) where
   carry-fork-add-end c = omega (arith, c .wide-byte .ensures .1)
 
   carry-fork-add-so-far : fork.Need-add-so-far (carry-fork-calls t) (carry-fork-at t) carry-fork.Post
-  carry-fork-add-so-far c = omega (arith, c .before .before .before .before .before .before .before .pre .1 .paid)
+  carry-fork-add-so-far c = omega (arith, c .before .before .before .before .before .before .before .pre .1 .0 .paid)
 
   carry-fork-mul-run-routine : fork.Need-mul-run-routine (carry-fork-calls t) (carry-fork-at t) carry-fork.Post
   carry-fork-mul-run-routine c = search needs
@@ -137,7 +136,7 @@ module _ (t : ℕ) where
   carry-fork-part-run-routine-end : fork.Need-part-run-routine-end (carry-fork-calls t) (carry-fork-at t) carry-fork.Post
   carry-fork-part-run-routine-end c =
       let s = c .before .before .before .before .before .before .before .before in
-      omega (arith, fork-end (s .pre .1) (c .before .wide-byte .ensures .0 ∙ c .before .before .arguments-of .ensures))
+      omega (arith, fork-end (s .pre .1 .0) (c .before .wide-byte .ensures .0 ∙ c .before .before .arguments-of .ensures))
 
   carry-fork-sub-run-routine-2 : fork.Need-sub-run-routine-2 (carry-fork-calls t) (carry-fork-at t) carry-fork.Post
   carry-fork-sub-run-routine-2 c = omega (arith, c .before .before .before .before .if1 .left)
@@ -147,7 +146,8 @@ module _ (t : ℕ) where
       let s = c .before .before .before .before .before .before .before .before .before in
       let deep = c .before .before .before .before .if1 .left in
       let given = c .before .before .wide-byte .ensures .0 ∙ c .before .before .before .arguments-of .ensures in
-      (omega arith, fork-ready (s .pre .1) given refl refl deep)
+      let ready = fork-ready (s .pre .1 .0) given refl refl deep in
+      (omega arith, (ready .0, ready .1, s .pre .1 .1))
 
   carry-fork-same-length : fork.Need-same-length (carry-fork-calls t) (carry-fork-at t) carry-fork.Post
   carry-fork-same-length c = search needs
@@ -158,7 +158,7 @@ module _ (t : ℕ) where
       let s = called .before .before .before .before .before .before .before .before .before .before in
       let deep = called .before .before .before .before .before .if1 .left in
       let given = called .before .before .before .wide-byte .ensures .0 ∙ called .before .before .before .before .arguments-of .ensures in
-      fork-runs (s .pre .1) given refl deep (called .run-routine .ensures)
+      fork-runs (s .pre .1 .0) given refl deep (called .run-routine .ensures)
 
   -- the places of the loop: where the routine starts, the loop's head, a command's weight read, its effect carried out
   abbrev Start : Type 0
@@ -201,7 +201,7 @@ module _ (t : ℕ) where
   cost-here : (c : Priced) → c .cost-of .result ≡ weightAt (job (head c)) (opened (head c))
   cost-here c =
       let h = head c in
-      cost-met (job h) (opened h) (h .before .before .before .code-start .ensures .0) (c .before .before .five-of .ensures) (h .before .before .before .before .weights .ensures) (c .cost-of .ensures)
+      cost-met (job h) (opened h) (h .before .before .before .code-start .ensures .0) (start h .pre .1 .2) (c .before .before .five-of .ensures) (h .before .before .before .before .weights .ensures) (c .cost-of .ensures)
 
   abbrev priced : Ready-to-act → Priced
   priced c = c .before .before .before .before .before .before
@@ -214,7 +214,7 @@ module _ (t : ℕ) where
     paid = c .before .before .before .before .before .if1 .left;
     effect =
         let h = head (priced c) in
-        effect-met (job h) (opened h) (h .before .before .before .code-start .ensures .0) (priced c .before .before .five-of .ensures) (c .before .before .before .before .command-of .ensures) (c .before .before .effect .ensures);
+        effect-met (job h) (opened h) (h .before .before .before .code-start .ensures .0) (start h .pre .1 .2) (priced c .before .before .five-of .ensures) (c .before .before .before .before .command-of .ensures) (c .before .before .effect .ensures);
   }
 
   abbrev at : Acted → Head
@@ -245,7 +245,7 @@ module _ (t : ℕ) where
   run-routine-loop-holds c = let s = c .before .before .before .before .before .before .before .before in far-starts _ _ _ _ (s .args .arguments .now) _ _ _ (c .lay .ensures) (s .pre .1 .0)
 
   run-routine-five-of-requires : lts.Need-five-of-requires (run-routine-calls t) (run-routine-at t) run-routine.Post Inv μ
-  run-routine-five-of-requires c κs = (image-long (job c) (c .loop .inv .ready .job), c .before .before .before .code-start .ensures .1)
+  run-routine-five-of-requires c κs = place-met (job c) (opened c) (c .before .before .before .code-start .ensures .0) (c .loop .inv .ready .job) (c .loop .inv .ready .routine)
 
   run-routine-array-read-cost-of : lts.Need-array-read-cost-of (run-routine-calls t) (run-routine-at t) run-routine.Post Inv μ
   run-routine-array-read-cost-of c = search needs
@@ -254,10 +254,10 @@ module _ (t : ℕ) where
   run-routine-cost-of-requires c κs =
       let h = c .before .before in
       let ready = h .loop .inv .ready in
-      byte-met (job h) (opened h) (h .before .before .before .code-start .ensures .0) (c .before .five-of .ensures) (ready .job) (ready .routine)
+      byte-met (job h) (opened h) (h .before .before .before .code-start .ensures .0) (start h .pre .1 .2) (c .before .five-of .ensures) (ready .job) (ready .routine)
 
-  run-routine-sub-t46 : lts.Need-sub-t46 (run-routine-calls t) (run-routine-at t) run-routine.Post Inv μ
-  run-routine-sub-t46 c = head (c .before) .loop .inv .most
+  run-routine-sub-t47 : lts.Need-sub-t47 (run-routine-calls t) (run-routine-at t) run-routine.Post Inv μ
+  run-routine-sub-t47 c = head (c .before) .loop .inv .most
 
   run-routine-same-length : lts.Need-same-length (run-routine-calls t) (run-routine-at t) run-routine.Post Inv μ
   run-routine-same-length c = let h = head (c .before) in h .loop .inv .ready .memory ∙ sym (start h .pre .1 .0 .memory)
@@ -342,7 +342,7 @@ module _ (t : ℕ) where
   run-routine-carry-fork-requires : lts.Need-carry-fork-requires (run-routine-calls t) (run-routine-at t) run-routine.Post Inv μ
   run-routine-carry-fork-requires c κs =
       let k = cutting c in
-      (omega (arith, start (at (acted k)) .pre .0), call-ready (turn (acted k)) (k .before .before .ask2 .given .1) (k .cut .ensures) (c .before .before .before .cut2 .given .1))
+      (omega (arith, start (at (acted k)) .pre .0), (call-ready (turn (acted k)) (k .before .before .ask2 .given .1) (k .cut .ensures) (c .before .before .before .cut2 .given .1), start (at (acted k)) .pre .1 .2))
 
   run-routine-enum-known-answer : lts.Need-enum-known-answer (run-routine-calls t) (run-routine-at t) run-routine.Post Inv μ
   run-routine-enum-known-answer c = search needs
@@ -386,7 +386,7 @@ module _ (t : ℕ) where
   run-routine-enum-known-answer-2 c = search needs
 
   run-routine-same-length-2 : lts.Need-same-length-2 (run-routine-calls t) (run-routine-at t) run-routine.Post Inv μ
-  run-routine-same-length-2 c = c .before .before .before .before .before .carry-fork .kept .1 .1 .1 .0 ∙ length-kept (acted (cutting (c .before .before .before .before .before .before)))
+  run-routine-same-length-2 c = c .before .before .before .before .before .carry-fork .kept .1 .1 .1 .1 .0 ∙ length-kept (acted (cutting (c .before .before .before .before .before .before)))
 
   run-routine-returns-2 : lts.Need-returns-2 (run-routine-calls t) (run-routine-at t) run-routine.Post Inv μ
   run-routine-returns-2 c =
@@ -398,8 +398,8 @@ module _ (t : ℕ) where
   run-routine-enum-told-2 : lts.Need-enum-told-2 (run-routine-calls t) (run-routine-at t) run-routine.Post Inv μ
   run-routine-enum-told-2 c = search needs
 
-  run-routine-sub-t60 : lts.Need-sub-t60 (run-routine-calls t) (run-routine-at t) run-routine.Post Inv μ
-  run-routine-sub-t60 c = at (acted (c .before .before)) .loop .inv .most
+  run-routine-sub-t61 : lts.Need-sub-t61 (run-routine-calls t) (run-routine-at t) run-routine.Post Inv μ
+  run-routine-sub-t61 c = at (acted (c .before .before)) .loop .inv .most
 
   run-routine-same-length-3 : lts.Need-same-length-3 (run-routine-calls t) (run-routine-at t) run-routine.Post Inv μ
   run-routine-same-length-3 c = length-kept (acted (c .before .before))
@@ -411,8 +411,8 @@ module _ (t : ℕ) where
   run-routine-enum-known-ask-3 : lts.Need-enum-known-ask-3 (run-routine-calls t) (run-routine-at t) run-routine.Post Inv μ
   run-routine-enum-known-ask-3 c = search needs
 
-  run-routine-sub-t61 : lts.Need-sub-t61 (run-routine-calls t) (run-routine-at t) run-routine.Post Inv μ
-  run-routine-sub-t61 c = at (c .before .before .before .before .before) .loop .inv .most
+  run-routine-sub-t62 : lts.Need-sub-t62 (run-routine-calls t) (run-routine-at t) run-routine.Post Inv μ
+  run-routine-sub-t62 c = at (c .before .before .before .before .before) .loop .inv .most
 
   run-routine-same-length-4 : lts.Need-same-length-4 (run-routine-calls t) (run-routine-at t) run-routine.Post Inv μ
   run-routine-same-length-4 c = length-kept (c .before .before .before .before .before)
@@ -426,11 +426,11 @@ module _ (t : ℕ) where
   run-routine-enum-known-ask-4 : lts.Need-enum-known-ask-4 (run-routine-calls t) (run-routine-at t) run-routine.Post Inv μ
   run-routine-enum-known-ask-4 c = search needs
 
-  run-routine-sub-t62 : lts.Need-sub-t62 (run-routine-calls t) (run-routine-at t) run-routine.Post Inv μ
-  run-routine-sub-t62 c = at (c .before .before .before .before .before) .loop .inv .most
+  run-routine-sub-t63 : lts.Need-sub-t63 (run-routine-calls t) (run-routine-at t) run-routine.Post Inv μ
+  run-routine-sub-t63 c = at (c .before .before .before .before .before) .loop .inv .most
 
-  run-routine-add-t63 : lts.Need-add-t63 (run-routine-calls t) (run-routine-at t) run-routine.Post Inv μ
-  run-routine-add-t63 c =
+  run-routine-add-t64 : lts.Need-add-t64 (run-routine-calls t) (run-routine-at t) run-routine.Post Inv μ
+  run-routine-add-t64 c =
       let w = c .before .before .before .before .before in
       let h = paid-units (met (w .before)) in
       omega (arith, start (at w) .fits)
@@ -469,7 +469,7 @@ pub +carry-fork+run-routine-spec : {M : Type 1} → statement M
     (run-routine-five-of-requires t)
     (run-routine-array-read-cost-of t)
     (run-routine-cost-of-requires t)
-    (run-routine-sub-t46 t)
+    (run-routine-sub-t47 t)
     (run-routine-same-length t)
     (run-routine-returns t)
     (run-routine-command-of-requires t)
@@ -501,15 +501,15 @@ pub +carry-fork+run-routine-spec : {M : Type 1} → statement M
     (run-routine-same-length-2 t)
     (run-routine-returns-2 t)
     (run-routine-enum-told-2 t)
-    (run-routine-sub-t60 t)
+    (run-routine-sub-t61 t)
     (run-routine-same-length-3 t)
     (run-routine-returns-3 t)
     (run-routine-enum-known-ask-3 t)
-    (run-routine-sub-t61 t)
+    (run-routine-sub-t62 t)
     (run-routine-same-length-4 t)
     (run-routine-returns-4 t)
     (run-routine-enum-known-ask-4 t)
-    (run-routine-sub-t62 t)
-    (run-routine-add-t63 t)
+    (run-routine-sub-t63 t)
+    (run-routine-add-t64 t)
     (run-routine-same-length-5 t)
     (run-routine-returns-5 t)

@@ -2,6 +2,7 @@
 use mathlib.Core.Path.{sym, _∙_, ap}
 use native.Mathlib.Omega.{arith}
 use Rattle.image.specs.Layout.{startsIn}
+use Rattle.image.proofs.Accepted.{accepted}
 use Rattle.serial.specs.Serial.{stopped}
 use Rattle.serial.proofs.Whole.{verdict-is, program-is, refused, wrong-count, wrong-parameters, wrong-memory, whole-ready, whole-run}
 use borrow.Author.Needs.{needs}
@@ -45,25 +46,29 @@ returns-4 c = wrong-memory _ _ _ _ _ (sym (verdict-is _ _ (c .before .before .be
 starts-requires : tie.Need-starts-requires
 starts-requires c κs = search needs
 
+pad-requires : tie.Need-pad-requires
+pad-requires c κs = accepted _ (sym (verdict-is _ _ (c .before .before .before .before .before .before .before .before .check .ensures)) ∙ c .before .before .before .before .before .before .enum-told .given .1) .size
+
 root-requires : tie.Need-root-requires
 root-requires c κs = search needs
 
 run-routine-requires : tie.Need-run-routine-requires
 run-routine-requires c κs =
-    let a = c .before .before .before .before .before .before .before .before .before .before .before .before .before .before .before .before .args in
-    let checked = c .before .before .before .before .before .before .before .before .before .before .before .check .ensures in
-    let verdict = c .before .before .before .before .before .before .before .before .before .enum-told .given .1 in
-    whole-ready (a .image .now) (a .parameters .now) (a .arguments .now) (a .memory .now) (a .allowance) (sym (verdict-is _ _ checked) ∙ verdict) _ (c .before .before .before .starts .ensures ∙ ap startsIn (program-is _ _ checked verdict)) _ (c .root .ensures) (c .before .before .before .before .before .before .before .if1 .left ∙ c .before .before .before .before .before .before .before .before .arguments-of .ensures) (λ i. omega (arith, c .before .before .before .before .before .before .before .before .before .before .before .before .before .before .before .shared-slice-known .given i)) (c .before .before .before .before .before .before .if2 .left) (c .before .before .before .before .before .if3 .left)
+    let a = c .before .before .before .before .before .before .before .before .before .before .before .before .before .before .before .before .before .before .args in
+    let checked = c .before .before .before .before .before .before .before .before .before .before .before .before .before .check .ensures in
+    let verdict = c .before .before .before .before .before .before .before .before .before .before .before .enum-told .given .1 in
+    let ready = whole-ready (a .image .now) (a .parameters .now) (a .arguments .now) (a .memory .now) (a .allowance) (sym (verdict-is _ _ checked) ∙ verdict) _ (c .before .before .before .before .before .starts .ensures ∙ ap startsIn (program-is _ _ checked verdict)) _ (c .root .ensures) (c .before .before .before .before .before .before .before .before .before .if1 .left ∙ c .before .before .before .before .before .before .before .before .before .before .arguments-of .ensures) (λ i. omega (arith, c .before .before .before .before .before .before .before .before .before .before .before .before .before .before .before .before .before .shared-slice-known .given i)) (c .before .before .before .before .before .before .before .before .if2 .left) (c .before .before .before .before .before .before .before .if3 .left) in
+    (ready .0, ready .1, c .before .before .before .before .pad .ensures)
 
 same-length : tie.Need-same-length
 same-length c = search needs
 
 returns-5 : tie.Need-returns-5
 returns-5 c =
-    let a = c .before .before .before .before .before .before .before .before .before .before .before .before .before .before .before .before .before .before .before .args in
-    let checked = c .before .before .before .before .before .before .before .before .before .before .before .before .before .before .check .ensures in
-    let verdict = c .before .before .before .before .before .before .before .before .before .before .before .before .enum-told .given .1 in
-    whole-run (a .image .now) (a .parameters .now) (a .arguments .now) (a .memory .now) (a .allowance) (sym (verdict-is _ _ checked) ∙ verdict) _ (c .before .before .before .before .before .before .starts .ensures ∙ ap startsIn (program-is _ _ checked verdict)) _ (c .before .before .before .root .ensures) (c .before .before .before .before .before .before .before .before .before .before .if1 .left ∙ c .before .before .before .before .before .before .before .before .before .before .before .arguments-of .ensures) _ (c .before .before .before .before .before .before .before .before .before .if2 .left) (c .before .before .before .before .before .before .before .before .if3 .left) (c .before .before .run-routine .ensures)
+    let a = c .before .before .before .before .before .before .before .before .before .before .before .before .before .before .before .before .before .before .before .before .before .args in
+    let checked = c .before .before .before .before .before .before .before .before .before .before .before .before .before .before .before .before .check .ensures in
+    let verdict = c .before .before .before .before .before .before .before .before .before .before .before .before .before .before .enum-told .given .1 in
+    whole-run (a .image .now) (a .parameters .now) (a .arguments .now) (a .memory .now) (a .allowance) (sym (verdict-is _ _ checked) ∙ verdict) _ (c .before .before .before .before .before .before .before .before .starts .ensures ∙ ap startsIn (program-is _ _ checked verdict)) _ (c .before .before .before .root .ensures) (c .before .before .before .before .before .before .before .before .before .before .before .before .if1 .left ∙ c .before .before .before .before .before .before .before .before .before .before .before .before .before .arguments-of .ensures) _ (c .before .before .before .before .before .before .before .before .before .before .before .if2 .left) (c .before .before .before .before .before .before .before .before .before .before .if3 .left) (c .before .before .run-routine .ensures)
 
 pub serial-spec : {M : Type 1} → statement M
 serial-spec =
@@ -80,6 +85,7 @@ serial-spec =
     returns-3
     returns-4
     starts-requires
+    pad-requires
     root-requires
     run-routine-requires
     same-length
