@@ -3,3 +3,4 @@ pub mod Chains
 pub mod Born
 pub mod Ended
 pub mod Stealing
+pub mod Owning

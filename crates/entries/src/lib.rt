@@ -3,6 +3,7 @@
 pub mod enable;
 mod fork;
 mod leave;
+mod own;
 mod parts;
 mod returning;
 pub mod steal;
