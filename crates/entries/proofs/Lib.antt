@@ -4,3 +4,4 @@ pub mod Born
 pub mod Ended
 pub mod Stealing
 pub mod Owning
+pub mod Carrying

@@ -14,10 +14,12 @@ use Rattle.thread.specs.declared.Effect.{Effect}
 use Rattle.thread.specs.declared.Effect.the-variants.{Faults, Sets, Loads, Stores, Goes, Continues, Lforks, Forks, Joins, Suspends, Yields, Returns}
 use Rattle.thread.specs.Effect.{forking}
 use Rattle.thread.specs.View.{viewOf}
-use Rattle.thread.specs.Thread.{newThread, behindFork, isPending}
+use Rattle.thread.specs.declared.Status.{Status}
+use Rattle.thread.specs.Thread.{newThread, behindFork, joinedAt, isPending}
 use Rattle.rules.specs.State.{Job, jobOf, State, After, threadAt}
 use Rattle.rules.specs.Update.{setThread, setFreeStacklets, setReady}
-use Rattle.rules.specs.Turn.{Turn}
+use Rattle.rules.specs.Turn.{Turn, done, goesOn}
+use Rattle.rules.specs.Leave.{leaves}
 use Rattle.rules.specs.Return.{stackletsWithout, readyAfter}
 use Rattle.rules.specs.declared.ForkKind.{ForkKind}
 use Rattle.rules.specs.Fork.{Asked, Place, onStacklet, nowhere, childStatus, parentStatus, isConnected}
@@ -136,3 +138,31 @@ pub record Stealing (image starts : List ℕ) (allowance : ℕ) (xs words : List
   pub parameters : List ℕ
   pub memory : List ℕ
   pub sound : Sound (jobOf image starts parameters allowance) (meaning xs words memory)
+
+-- a thread that leaves its core once its command is done
+pub record Standing (xs : List ℕ) (c t weight : ℕ) : Type 0 where
+  pub seated : Seated xs c t weight
+  pub linked : recordIn xs t .connected ≡ true → recordIn xs t .parent < 32
+
+-- what carrying out a command relies on, if its effect is not its own thread's alone
+abbrev pub Carrying : List ℕ → ℕ → ℕ → ℕ → Effect → Type 0
+Carrying xs c t weight (Faults n) = length xs ≡ size
+Carrying xs c t weight (Sets d v) = ⊥
+Carrying xs c t weight (Loads d a) = ⊥
+Carrying xs c t weight (Stores a v) = ⊥
+Carrying xs c t weight (Goes p) = ⊥
+Carrying xs c t weight Continues = ⊥
+Carrying xs c t weight (Lforks r d a e) = Forking xs c t weight d e
+Carrying xs c t weight (Forks r d a e) = Forking xs c t weight d e
+Carrying xs c t weight Joins = Seated xs c t weight
+Carrying xs c t weight Suspends = Standing xs c t weight
+Carrying xs c t weight Yields = Standing xs c t weight
+Carrying xs c t weight (Returns v) = Seated xs c t weight
+
+-- a join passes
+abbrev pub passes : Turn → State → State
+passes o s = done o (joinedAt (o .next) (o .thread)) s
+
+-- the command is done, and the thread leaves its core
+abbrev pub leavesAs : Turn → Status → State → State
+leavesAs o status s = leaves (o .core) (o .number) status (goesOn o s)

@@ -1,5 +1,6 @@
 // The machine's entries, carried out in place in lent tables, words and memory. Each is its rule (crate `rules`).
 
+mod carry;
 pub mod enable;
 mod fork;
 mod leave;

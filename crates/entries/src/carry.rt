@@ -1,0 +1,113 @@
+// The other commands of a step: forks, joins that pass, suspends, yields, returns and faults.
+use crate::fork::fork;
+use crate::leave::leave;
+use crate::returning::return_value;
+use rules::ForkKind;
+use std::num::wrapping_add_u16;
+use tables::lines::put_ready;
+use tables::lines::ready;
+use tables::marks::charge;
+use tables::marks::fail;
+use tables::records::put_position;
+use tables::records::put_thread;
+use tables::records::thread_at;
+use thread::Effect;
+use thread::Status;
+use thread::record::joined_at;
+ghost use mathlib.Core.List.{List};
+ghost use mathlib.Core.Path.{_≡_};
+ghost use Prim.Native.Nat.{ℕ, _+_, _%_, _^_};
+ghost use Rattle.thread.specs.declared.Status.the-variants.{Suspended, Ready};
+ghost use Rattle.thread.specs.Effect.{bytesBy};
+ghost use Rattle.rules.specs.State.{jobOf};
+ghost use Rattle.rules.specs.Turn.{goesOn};
+ghost use Rattle.rules.specs.Rules.{carriedOf};
+ghost use Rattle.tables.specs.Meaning.{meaning};
+ghost use Rattle.tables.specs.Change.{Becomes};
+ghost use Rattle.entries.specs.Given.{Seated, Standing, Carrying, turnIn, after, passes, leavesAs};
+
+// The command of thread t is done, and its next one is at a position.
+fn go_on(tables: &mut [u8], t: u8, weight: u8, next: u16)
+    requires { ⌜ ((c : ℕ) × Seated (now tables) c t weight) ⌝ }
+    ensures { λ _. ⌜ ((c offset : ℕ) → Becomes (now (tables .entry)) (now (tables .exit)) (goesOn (turnIn (now (tables .entry)) c t weight next offset))) ⌝ }
+{
+    put_position(tables, t, next);
+    charge(tables, weight);
+}
+
+// 0A: a join passes.
+fn pass_join(tables: &mut [u8], t: u8, weight: u8, next: u16)
+    requires { ⌜ ((c : ℕ) × Seated (now tables) c t weight) ⌝ }
+    ensures { λ _. ⌜ ((c offset : ℕ) → Becomes (now (tables .entry)) (now (tables .exit)) (passes (turnIn (now (tables .entry)) c t weight next offset))) ⌝ }
+{
+    let th = thread_at(tables, t);
+    put_thread(tables, t, joined_at(th, next));
+    charge(tables, weight);
+}
+
+// 0B and 0C: the command is done, and the thread leaves its core.
+fn go_off(tables: &mut [u8], c: u8, t: u8, weight: u8, next: u16, status: Status)
+    requires { ⌜ Standing (now tables) c t weight ⌝ }
+    ensures { λ _. ⌜ ((offset : ℕ) → Becomes (now (tables .entry)) (now (tables .exit)) (leavesAs (turnIn (now (tables .entry)) c t weight next offset) status)) ⌝ }
+{
+    go_on(tables, t, weight, next);
+    leave(tables, c, t, status);
+}
+
+// Carries out a command of thread t on core c, whose effect is not its own thread's alone. The command is at a position, and its first byte at a
+// place of the image. The log byte is given.
+pub fn carry_other(
+    tables: &mut [u8],
+    words: &mut [u32],
+    done: Effect,
+    c: u8,
+    t: u8,
+    weight: u8,
+    position: u16,
+    place: u16,
+    image: &[u8],
+) -> u8
+    requires { ⌜ Carrying (now tables) c t weight done ⌝ }
+    ensures { λ x. ⌜ ((starts parameters memory : List ℕ) (allowance : ℕ) → after x (now (tables .exit)) (now (words .exit)) memory ≡ carriedOf (jobOf (now (image .entry)) starts parameters allowance) (meaning (now (tables .entry)) (now (words .entry)) memory) (turnIn (now (tables .entry)) c t weight ((position + bytesBy done) % 2 ^ 16) place) done) ⌝ }
+{
+    match done {
+        Effect::Lforks(r, d, a, e) => {
+            let kind = ForkKind::Called;
+            let next = wrapping_add_u16(position, 5);
+            fork(tables, words, kind, c, t, weight, next, image, r, d, a, e)
+        }
+        Effect::Forks(r, d, a, e) => {
+            let kind = ForkKind::Queued;
+            let next = wrapping_add_u16(position, 5);
+            fork(tables, words, kind, c, t, weight, next, image, r, d, a, e)
+        }
+        Effect::Joins => {
+            pass_join(tables, t, weight, wrapping_add_u16(position, 1));
+            0
+        }
+        Effect::Suspends => {
+            let next = wrapping_add_u16(position, 1);
+            go_off(tables, c, t, weight, next, Status::Suspended);
+            0
+        }
+        Effect::Yields => {
+            let next = wrapping_add_u16(position, 1);
+            go_off(tables, c, t, weight, next, Status::Ready);
+            put_ready(tables, ready(tables).enqueue(t));
+            0
+        }
+        Effect::Returns(v) => {
+            return_value(tables, words, c, t, weight, v);
+            0
+        }
+        Effect::Faults(n) => {
+            fail(tables, n, t, place);
+            n
+        }
+        Effect::Sets(d, v) => 0,
+        Effect::Loads(d, a) => 0,
+        Effect::Stores(a, v) => 0,
+        Effect::Goes(p) => 0,
+        Effect::Continues => 0,
+    }
+}
