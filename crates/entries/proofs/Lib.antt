@@ -2,6 +2,8 @@ pub mod Able
 pub mod Chains
 pub mod Born
 pub mod Ended
+pub mod Meeting
 pub mod Stealing
 pub mod Owning
 pub mod Carrying
+pub mod Stepping

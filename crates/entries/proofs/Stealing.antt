@@ -8,7 +8,7 @@ use native.Mathlib.Omega.{arith}
 use borrow.Author.Tests.{lt-ltb, le-ltb, le-leb, lt-leb, eqb-true}
 use lib.Dec.{eqb}
 use lib.ListN.{length, getD}
-use Rattle.command.specs.Command.{decodedAt, decoded, widthOf}
+use Rattle.command.specs.Command.{decoded, widthOf}
 use Rattle.command.specs.Weight.{weightOf}
 use Rattle.image.specs.Layout.{argumentsOf}
 use Rattle.stacklets.specs.Frames.{slotOf}
@@ -23,12 +23,10 @@ use Rattle.rules.specs.State.{Job, State, After, isOver, threadAt, onCore}
 use Rattle.rules.specs.Update.{refused}
 use Rattle.rules.specs.Turn.{Turn, turnAt, offsetOf, byteOf, effectAt}
 use Rattle.rules.specs.Rules.{isSeed, stolenOf, stealOf}
-use Rattle.rules.specs.Sound.{Sound, Used}
+use Rattle.rules.specs.Sound.{Used}
 use Rattle.tables.specs.Meaning.{size}
-use Rattle.met.proofs.CommandMet.{place-small, next-small, operands-few}
 use Rattle.thread.proofs.Routines.{InRange}
 use Rattle.entries.specs.Given.{Forking, Seed, seedOf, turnWith}
-use Rattle.entries.proofs.Able.{children-few}
 
 -- both forks are carried out alike as a seed
 module _ (j : Job) (s : State) (o : Turn) where
@@ -100,25 +98,9 @@ module _ (j : Job) (s : State) (c t : ℕ) (b : Bool) (e : b ≡ isOver (s .outc
               stolen l a f =
                   f ∙ rw (← e, going, ← count, lt-leb _ _ core, ← on, le-ltb _ _ idle, lt-ltb _ _ low, ← met, ← is-lent, is-true, ← first, ← is-fork, seed, ← weight, ← units, le-ltb _ _ l)
 
--- what a sound state gives of a lent thread's command
-module _ (j : Job) (s : State) (ok : Sound j s) (t : ℕ) (th : Thread) (met : th ≡ threadAt s t) (lent : (th .status is Lent) ≡ true) where
-  used : Used s t
-  used = rw (← met) (omega (arith, eqb-true (statusNumber (th .status)) 5 lent))
-
-  pub place-low : offsetOf j th < 65536
-  place-low = rw met (place-small j (ok .job) (threadAt s t .routine) (threadAt s t .position) (ok .placed .routine t used) (ok .placed .position t used))
-
-  pub next-low : th .position + widthOf (byteOf j th) < 65536
-  next-low = rw met (next-small j (ok .job) (threadAt s t .routine) (threadAt s t .position) (ok .placed .routine t used) (ok .placed .position t used))
-
-  pub range : InRange (decodedAt (j .image) (offsetOf j th))
-  range = rw met (operands-few j (ok .job) (threadAt s t .routine) (threadAt s t .position) (ok .placed .routine t used) (ok .placed .position t used))
-
-  pub few : th .children < 255
-  few = rw met (children-few j s ok t used)
-
-  pub based : th .base < 1024
-  based = rw met (ok .frames .bounded t used)
+-- a lent thread is in use
+pub lent-used : (s : State) (t : ℕ) (th : Thread) → th ≡ threadAt s t → (th .status is Lent) ≡ true → Used s t
+lent-used s t th met lent = rw (← met) (omega (arith, eqb-true (statusNumber (th .status)) 5 lent))
 
 pub fork-small : (byte r d a w : ℕ) → (byte ≡ 8) ⊎ (byte ≡ 9) → InRange (decoded byte r d a w) → d < 16
 unfolding decoded

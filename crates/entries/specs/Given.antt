@@ -2,7 +2,7 @@
 use mathlib.Core.Bool.{Bool, true, cond}
 use mathlib.Core.List.{List, [], _∷_}
 use mathlib.Core.Path.{_≡_}
-use Prim.Native.Nat.{ℕ, _+_, _≤_, _<_, _^_}
+use Prim.Native.Nat.{ℕ, _+_, _%_, _≤_, _<_, _^_}
 use lib.ListN.{length}
 use Rattle.image.specs.Layout.{argumentsOf}
 use Rattle.queue.specs.declared.Front.{Front}
@@ -12,7 +12,7 @@ use Rattle.stacklets.specs.Frames.{slotOf}
 use Rattle.thread.specs.declared.Thread.{Thread}
 use Rattle.thread.specs.declared.Effect.{Effect}
 use Rattle.thread.specs.declared.Effect.the-variants.{Faults, Sets, Loads, Stores, Goes, Continues, Lforks, Forks, Joins, Suspends, Yields, Returns}
-use Rattle.thread.specs.Effect.{forking}
+use Rattle.thread.specs.Effect.{forking, bytesBy}
 use Rattle.thread.specs.View.{viewOf}
 use Rattle.thread.specs.declared.Status.{Status}
 use Rattle.thread.specs.Thread.{newThread, behindFork, joinedAt, isPending}
@@ -25,6 +25,7 @@ use Rattle.rules.specs.declared.ForkKind.{ForkKind}
 use Rattle.rules.specs.Fork.{Asked, Place, onStacklet, nowhere, childStatus, parentStatus, isConnected}
 use Rattle.rules.specs.Sound.{Sound}
 use Rattle.tables.specs.Meaning.{size, meaning}
+use Rattle.entries.specs.Own.{Stored, IsOther}
 
 -- what the tables mean behind an entry, with its log byte
 abbrev pub after : ℕ → List ℕ → List ℕ → List ℕ → After
@@ -166,3 +167,19 @@ passes o s = done o (joinedAt (o .next) (o .thread)) s
 -- the command is done, and the thread leaves its core
 abbrev pub leavesAs : Turn → Status → State → State
 leavesAs o status s = leaves (o .core) (o .number) status (goesOn o s)
+
+-- the position behind a command, as its effect tells it; it has two bytes
+abbrev pub behind : Thread → Effect → ℕ
+behind h e = (h .position + bytesBy e) % 2 ^ 16
+
+-- what carrying out any command of thread t relies on
+pub record Met (xs : List ℕ) (c t : ℕ) (th : Thread) (weight : ℕ) (e : Effect) : Type 0 where
+  pub here : th ≡ recordIn xs t
+  pub seated : Seated xs c t weight
+  pub stored : Stored e
+  pub other : IsOther e → Carrying xs c t weight e
+
+-- tables, words and memory that mean a sound state of a job
+pub record Sounding (image starts parameters : List ℕ) (allowance : ℕ) (xs words memory : List ℕ) : Type 0 where
+  pub sized : length xs ≡ size
+  pub sound : Sound (jobOf image starts parameters allowance) (meaning xs words memory)

@@ -27,7 +27,7 @@ ghost use Rattle.tables.specs.Change.{Becomes};
 ghost use Rattle.entries.specs.Given.{Seated, Standing, Carrying, turnIn, after, passes, leavesAs};
 
 // The command of thread t is done, and its next one is at a position.
-fn go_on(tables: &mut [u8], t: u8, weight: u8, next: u16)
+pub fn go_on(tables: &mut [u8], t: u8, weight: u8, next: u16)
     requires { ⌜ ((c : ℕ) × Seated (now tables) c t weight) ⌝ }
     ensures { λ _. ⌜ ((c offset : ℕ) → Becomes (now (tables .entry)) (now (tables .exit)) (goesOn (turnIn (now (tables .entry)) c t weight next offset))) ⌝ }
 {

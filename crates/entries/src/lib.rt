@@ -8,4 +8,5 @@ mod own;
 mod parts;
 mod returning;
 pub mod steal;
+pub mod step;
 pub mod take;

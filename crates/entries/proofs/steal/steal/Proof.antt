@@ -5,7 +5,8 @@ use Rattle.thread.specs.declared.Thread.{Thread}
 use Prim.Native.Nat.{ℕ, _+_, _<_}
 use mathlib.Core.Path.{_≡_, refl, sym, ap, _∙_}
 use mathlib.Core.List.{List, []}
-use Rattle.entries.proofs.Stealing.{either-byte, fork-wide, steal-over, steal-no-core, steal-busy, steal-no-thread, steal-not-lent, steal-no-fork, steal-dear, stolen, place-low, next-low, range, few, based, fork-small, seed-ready, seed-carried}
+use Rattle.entries.proofs.Meeting.{place-low, next-low, range, few, based}
+use Rattle.entries.proofs.Stealing.{either-byte, fork-wide, steal-over, steal-no-core, steal-busy, steal-no-thread, steal-not-lent, steal-no-fork, steal-dear, stolen, fork-small, seed-ready, seed-carried, lent-used}
 use Rattle.entries.proofs.Able.{free-first, stacklet-first}
 use Rattle.met.proofs.CommandMet.{cut-inside}
 use Rattle.tables.proofs.Changes.{thread-seen, core-seen}
@@ -170,10 +171,10 @@ add-carry-seed c =
     let is-fork' = c .before .before .before .before .before .before .before .before .before .before .is-fork in
     let th = thread-at' .result in
     let met = thread-seen (pre' .sized) (args' .words .now) (pre' .memory) (args' .t) th (c .before .before .before .before .before .before .before .before .before .before .before .before .before .before .before .before .before .if4 .left) (thread-at' .ensures) in
-    let lent = sym (c .before .before .before .before .before .before .before .before .before .before .before .before .before .before .same-status .ensures) ∙ not-false _ (c .before .before .before .before .before .before .before .before .before .before .before .before .before .if5 .left) in
+    let used = lent-used (meaning (args' .tables .now) (args' .words .now) (pre' .memory)) (args' .t) th met (sym (c .before .before .before .before .before .before .before .before .before .before .before .before .before .before .same-status .ensures) ∙ not-false _ (c .before .before .before .before .before .before .before .before .before .before .before .before .before .if5 .left)) in
     let sound = pre' .sound in
     let wide = fork-wide (getD (five-at' .result) 0 0) (either-byte (getD (five-at' .result) 0 0) (is-fork' .result) (is-fork' .ensures) (not-false _ (c .before .before .before .before .before .before .before .before .before .if6 .left))) in
-    let next = next-low _ _ sound (args' .t) th met lent in
+    let next = next-low _ _ sound (args' .t) th met used in
     record { fits = omega (arith, rw (← (ap (λ (l : List ℕ). getD l 0 0) (five-at' .ensures) ∙ ap (λ (k : ℕ). getD (args' .image .now) k 0) (c .before .before .before .before .before .before .before .before .before .before .before .before .place-in-image .ensures .0)), wide) at next) }
 
 cast-carry-seed : tie.Need-cast-carry-seed
@@ -183,9 +184,9 @@ cast-carry-seed c =
     let thread-at' = c .before .before .before .before .before .before .before .before .before .before .before .before .before .before .before .thread-at in
     let th = thread-at' .result in
     let met = thread-seen (pre' .sized) (args' .words .now) (pre' .memory) (args' .t) th (c .before .before .before .before .before .before .before .before .before .before .before .before .before .before .before .before .before .if4 .left) (thread-at' .ensures) in
-    let lent = sym (c .before .before .before .before .before .before .before .before .before .before .before .before .before .before .same-status .ensures) ∙ not-false _ (c .before .before .before .before .before .before .before .before .before .before .before .before .before .if5 .left) in
+    let used = lent-used (meaning (args' .tables .now) (args' .words .now) (pre' .memory)) (args' .t) th met (sym (c .before .before .before .before .before .before .before .before .before .before .before .before .before .before .same-status .ensures) ∙ not-false _ (c .before .before .before .before .before .before .before .before .before .before .before .before .before .if5 .left)) in
     let sound = pre' .sound in
-    record { fits = rw (c .before .before .before .before .before .before .before .before .before .before .before .before .place-in-image .ensures .0) (place-low _ _ sound (args' .t) th met lent) }
+    record { fits = rw (c .before .before .before .before .before .before .before .before .before .before .before .before .place-in-image .ensures .0) (place-low _ _ sound (args' .t) th met used) }
 
 carry-seed-requires : tie.Need-carry-seed-requires
 unfolding meaning
@@ -200,16 +201,16 @@ carry-seed-requires c κs =
     let low : args' .c < 4 = omega (arith, c .before .before .before .before .before .before .before .before .before .before .before .before .before .before .before .before .before .before .before .before .before .if2 .left, c .before .before .before .before .before .before .before .before .before .before .before .before .before .before .before .before .before .before .before .before .before .before .count .ensures .means (pre' .sized) (args' .words .now) (pre' .memory), pre' .sound .sized .most) in
     let th = thread-at' .result in
     let met = thread-seen (pre' .sized) (args' .words .now) (pre' .memory) (args' .t) th (if4' .left) (thread-at' .ensures) in
-    let lent = sym (c .before .before .before .before .before .before .before .before .before .before .before .before .before .before .same-status .ensures) ∙ not-false _ (c .before .before .before .before .before .before .before .before .before .before .before .before .before .if5 .left) in
+    let used = lent-used (meaning (args' .tables .now) (args' .words .now) (pre' .memory)) (args' .t) th met (sym (c .before .before .before .before .before .before .before .before .before .before .before .before .before .before .same-status .ensures) ∙ not-false _ (c .before .before .before .before .before .before .before .before .before .before .before .before .before .if5 .left)) in
     let sound = pre' .sound in
     let same : th ≡ recordIn (args' .tables .now) (args' .t) = thread-seen (pre' .sized) [] [] (args' .t) th (if4' .left) (thread-at' .ensures) in
     rw (c .before .before .before .seed-of .ensures) (seed-ready (args' .tables .now) (args' .image .now) (args' .words .now) (args' .c) (args' .t) (c .before .before .before .before .before .before .before .before .weight .result) _ _ _ _ th (pre' .sized)
     (λ allowed. let inside = cut-inside (th .window) _ allowed in record {
-      seated = record { sized = (pre' .sized); core = low; number = if4' .left; units = omega (arith, c .before .before .before .before .before .if7 .left, c .before .before .before .before .before .before .units .ensures .means (pre' .sized) (args' .words .now) (pre' .memory), sound .sized .units, c .before .before .before .before .before .before .before .before .before .before .before .before .before .before .before .before .before .before .before .before .before .before .before .before .before .before .before .before .before .before .before .fits .allowance .fits); base = rw (← same) (based _ _ sound (args' .t) th met lent) };
-      children = rw (← same) (few _ _ sound (args' .t) th met lent);
+      seated = record { sized = (pre' .sized); core = low; number = if4' .left; units = omega (arith, c .before .before .before .before .before .if7 .left, c .before .before .before .before .before .before .units .ensures .means (pre' .sized) (args' .words .now) (pre' .memory), sound .sized .units, c .before .before .before .before .before .before .before .before .before .before .before .before .before .before .before .before .before .before .before .before .before .before .before .before .before .before .before .before .before .before .before .fits .allowance .fits); base = rw (← same) (based _ _ sound (args' .t) th met used) };
+      children = rw (← same) (few _ _ sound (args' .t) th met used);
       numbers = free-first _ _ sound;
       stacklets = stacklet-first _ _ sound;
-      result = rw ((ap (λ (l : List ℕ). getD l 2 0) (five-at' .ensures)), place-in-image' .ensures .0) (fork-small _ _ _ _ _ (rw (ap (λ (l : List ℕ). getD l 0 0) (five-at' .ensures) ∙ ap (λ (k : ℕ). getD (args' .image .now) k 0) (place-in-image' .ensures .0)) at (either-byte (getD (five-at' .result) 0 0) (is-fork' .result) (is-fork' .ensures) (not-false _ (c .before .before .before .before .before .before .before .before .before .if6 .left)))) (range _ _ sound (args' .t) th met lent));
+      result = rw ((ap (λ (l : List ℕ). getD l 2 0) (five-at' .ensures)), place-in-image' .ensures .0) (fork-small _ _ _ _ _ (rw (ap (λ (l : List ℕ). getD l 0 0) (five-at' .ensures) ∙ ap (λ (k : ℕ). getD (args' .image .now) k 0) (place-in-image' .ensures .0)) at (either-byte (getD (five-at' .result) 0 0) (is-fork' .result) (is-fork' .ensures) (not-false _ (c .before .before .before .before .before .before .before .before .before .if6 .left)))) (range _ _ sound (args' .t) th met used));
       low = rw (← same) (inside .0);
       high = rw (← same) (inside .1);
     }))
