@@ -7,3 +7,4 @@ pub mod Stealing
 pub mod Owning
 pub mod Carrying
 pub mod Stepping
+pub mod Starting

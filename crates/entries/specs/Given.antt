@@ -5,6 +5,7 @@ use mathlib.Core.Path.{_≡_}
 use Prim.Native.Nat.{ℕ, _+_, _%_, _≤_, _<_, _^_}
 use lib.ListN.{length}
 use Rattle.image.specs.Layout.{argumentsOf}
+use Rattle.queue.specs.Contents.{ascendingFrom}
 use Rattle.queue.specs.declared.Front.{Front}
 use Rattle.queue.specs.declared.Front.the-variants.{Number, Nothing}
 use Rattle.window.specs.Rights.{childOf, restOf}
@@ -15,9 +16,9 @@ use Rattle.thread.specs.declared.Effect.the-variants.{Faults, Sets, Loads, Stor
 use Rattle.thread.specs.Effect.{forking, bytesBy}
 use Rattle.thread.specs.View.{viewOf}
 use Rattle.thread.specs.declared.Status.{Status}
-use Rattle.thread.specs.Thread.{newThread, behindFork, joinedAt, isPending}
+use Rattle.thread.specs.Thread.{rootThread, newThread, behindFork, joinedAt, isPending, none}
 use Rattle.rules.specs.State.{Job, jobOf, State, After, threadAt}
-use Rattle.rules.specs.Update.{setThread, setFreeStacklets, setReady}
+use Rattle.rules.specs.Update.{setThread, setCore, setFreeThreads, setFreeStacklets, setReady}
 use Rattle.rules.specs.Turn.{Turn, done, goesOn}
 use Rattle.rules.specs.Leave.{leaves}
 use Rattle.rules.specs.Return.{stackletsWithout, readyAfter}
@@ -25,6 +26,7 @@ use Rattle.rules.specs.declared.ForkKind.{ForkKind}
 use Rattle.rules.specs.Fork.{Asked, Place, onStacklet, nowhere, childStatus, parentStatus, isConnected}
 use Rattle.rules.specs.Sound.{Sound}
 use Rattle.tables.specs.Meaning.{size, meaning}
+use Rattle.tables.specs.Change.{setCount}
 use Rattle.entries.specs.Own.{Stored, IsOther}
 
 -- what the tables mean behind an entry, with its log byte
@@ -183,3 +185,11 @@ pub record Met (xs : List ℕ) (c t : ℕ) (th : Thread) (weight : ℕ) (e : Eff
 pub record Sounding (image starts parameters : List ℕ) (allowance : ℕ) (xs words memory : List ℕ) : Type 0 where
   pub sized : length xs ≡ size
   pub sound : Sound (jobOf image starts parameters allowance) (meaning xs words memory)
+
+-- "Free thread numbers and free stacklets each stand in a line, at first ascending", without the root's; no thread is ready
+abbrev pub allFree : State → State
+allFree s = setReady [] (setFreeStacklets (ascendingFrom 1 15) (setFreeThreads (ascendingFrom 1 31) s))
+
+-- "thread 0 runs routine 0 on core 0 ..; other cores are idle", of tables of zeros
+abbrev pub rootRuns : ℕ → State → State
+rootRuns n s = setCount n (setCore 3 none (setCore 2 none (setCore 1 none (setThread 0 rootThread s))))

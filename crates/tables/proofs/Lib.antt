@@ -3,3 +3,4 @@ pub mod Meaning
 pub mod Stores
 pub mod Changes
 pub mod Framing
+pub mod Zeros

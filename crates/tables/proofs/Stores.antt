@@ -11,6 +11,7 @@ use lib.Dec.{eqb}
 use lib.ListN.{length, getD, set, take, drop, length-set, length-take, length-drop}
 use lib.Seq.{getD-set-same, getD-set-other, getD-take, getD-drop, sets, length-sets}
 use Rattle.queue.specs.declared.Queue.{Queue}
+use Rattle.stacklets.specs.declared.Stacklets.{Stacklets}
 use Rattle.stacklets.specs.Tops.{topsOf, stackletsOf}
 use Rattle.thread.specs.declared.Thread.{Thread}
 use Rattle.thread.specs.Thread.{movedTo}
@@ -232,6 +233,14 @@ module _ (xs words memory : List ℕ) (l : length xs ≡ 712) where
       stacklets-put xs (pasted xs 594 16 ys) words memory (stackletsOf ys) (pasted-out xs ys 594 16 (omega arith) long)
       (ap stackletsOf (sym (filled (pasted xs 594 16 ys) ys 594 16 long (λ k h. sym (pasted-in xs ys 594 16 (omega arith) long k h)))))
       ∙ ap (λ (tops : List ℕ). setTops tops (meaning xs words memory)) (e ∙ ap (λ (tops : List ℕ). set tops x top) tops-are)
+
+-- all tops are stored
+pub tops-store : (xs words memory : List ℕ) (s : Stacklets) → length xs ≡ 712 → length (s .tops) ≡ 16
+    → meaning (sets xs 594 (s .tops)) words memory ≡ setTops (topsOf s) (meaning xs words memory)
+unfolding stackletsIn
+tops-store xs words memory s l long =
+    stacklets-put xs (sets xs 594 (s .tops)) words memory s (λ i o. sets-out xs (s .tops) 594 (omega arith) i (⊎-elim (λ p. inl p) (λ p. inr (omega arith)) o))
+    (ap stackletsOf (sym (filled (sets xs 594 (s .tops)) (s .tops) 594 16 long (λ k h. sym (sets-in xs (s .tops) 594 k (omega arith) (omega arith))))))
 
 -- the machine is finished
 pub finished-store : (xs words memory : List ℕ) (v : ℕ) → length xs ≡ 712

@@ -2,7 +2,7 @@
 use mathlib.Core.List.{List}
 use mathlib.Core.Path.{_≡_}
 use Prim.Native.Nat.{ℕ, _+_, _%_, _^_}
-use lib.ListN.{length, set}
+use lib.ListN.{length, set, replicate}
 use Rattle.stacklets.specs.Tops.{pushedTops, poppedTops}
 use Rattle.stacklets.specs.Frames.{pushedWords}
 use Rattle.thread.specs.Thread.{movedTo}
@@ -20,6 +20,12 @@ pub record Reads {A : Type 0} (xs : List ℕ) (r : A) (part : State → A) (none
 -- the tables xs have become ys: what they mean is changed so, whatever words the machine is lent. Tables of another size stay as they are
 pub record Becomes (xs ys : List ℕ) (change : State → State) : Type 0 where
   pub means : length xs ≡ size → (words memory : List ℕ) → meaning ys words memory ≡ change (meaning xs words memory)
+  pub sized : length ys ≡ length xs
+  pub other : (length xs ≡ size → ⊥) → ys ≡ xs
+
+-- the tables xs have become ys, all zeros; tables of another size stay as they are
+pub record Clears (xs ys : List ℕ) : Type 0 where
+  pub zeros : length xs ≡ size → ys ≡ replicate size 0
   pub sized : length ys ≡ length xs
   pub other : (length xs ≡ size → ⊥) → ys ≡ xs
 

@@ -1,6 +1,7 @@
 // The three queues, loaded and stored whole, and the stacklets' tops.
 use crate::SIZE;
 use queue::Queue;
+use stacklets::Stacklets;
 use stacklets::read_top;
 use stacklets::write_top;
 ghost use mathlib.Core.List.{[]};
@@ -9,8 +10,8 @@ ghost use Prim.Native.Nat.{_+_, _%_, _≤_, _<_};
 ghost use lib.ListN.{getD, length};
 ghost use lib.Seq.{sets};
 ghost use Rattle.queue.specs.Contents.{contents};
-ghost use Rattle.stacklets.specs.Tops.{topAt};
-ghost use Rattle.rules.specs.Update.{setFreeThreads, setFreeStacklets, setReady};
+ghost use Rattle.stacklets.specs.Tops.{topsOf, topAt};
+ghost use Rattle.rules.specs.Update.{setTops, setFreeThreads, setFreeStacklets, setReady};
 ghost use Rattle.tables.specs.Cells.{from, Outside};
 ghost use Rattle.tables.specs.Meaning.{queueIn};
 ghost use Rattle.tables.specs.Change.{Reads, Becomes, setTop};
@@ -128,6 +129,17 @@ pub fn put_ready(tables: &mut [u8], q: Queue)
         return;
     }
     put_queue(tables, READY, q);
+}
+
+// All tops become those of these stacklets.
+pub fn put_stacklets(tables: &mut [u8], s: Stacklets)
+    ensures { λ _. ⌜ Becomes (now (tables .entry)) (now (tables .exit)) (setTops (topsOf s)) ⌝ }
+{
+    if tables.len() != SIZE {
+        return;
+    }
+    let tops = s.tops;
+    write_cells(tables, TOPS, &tops);
 }
 
 // A stacklet's top.

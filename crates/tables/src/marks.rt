@@ -10,7 +10,7 @@ ghost use Prim.Native.Nat.{_%_};
 ghost use mathlib.Core.Bool.{false};
 ghost use Rattle.rules.specs.State.{onCore, isOver, going, finished, faulted};
 ghost use Rattle.rules.specs.Update.{setCore, setOutcome};
-ghost use Rattle.tables.specs.Change.{Reads, Becomes, setUnits, setCount, charges, outcomeBy};
+ghost use Rattle.tables.specs.Change.{Reads, Becomes, Clears, setUnits, setCount, charges, outcomeBy};
 
 const CORES: usize = 576;
 
@@ -28,6 +28,20 @@ const FAULT_THREAD: usize = 587;
 const FAULT_OFFSET: usize = 588;
 
 const RESULT: usize = 590;
+
+// Every byte becomes 0.
+pub fn clear(tables: &mut [u8])
+    ensures { λ _. ⌜ Clears (now (tables .entry)) (now (tables .exit)) ⌝ }
+{
+    if tables.len() != SIZE {
+        return;
+    }
+    let mut i: usize = 0;
+    while i < SIZE {
+        tables[i] = 0;
+        i = i + 1;
+    }
+}
 
 // The thread on core c; 32 where there is none.
 pub fn core_at(tables: &[u8], c: u8) -> u8
