@@ -3,9 +3,10 @@ use mathlib.Core.Bool.{Bool, true, cond}
 use mathlib.Core.List.{List, [], _∷_}
 use mathlib.Core.Path.{_≡_}
 use Prim.Native.Nat.{ℕ, _+_, _%_, _≤_, _<_, _^_}
-use lib.ListN.{length}
-use Rattle.image.specs.Layout.{argumentsOf}
+use lib.ListN.{length, replicate}
+use Rattle.image.specs.Layout.{argumentsOf, slotsOf}
 use Rattle.queue.specs.Contents.{ascendingFrom}
+use Rattle.stacklets.specs.Frames.{pushedWords}
 use Rattle.queue.specs.declared.Front.{Front}
 use Rattle.queue.specs.declared.Front.the-variants.{Number, Nothing}
 use Rattle.window.specs.Rights.{childOf, restOf}
@@ -25,6 +26,7 @@ use Rattle.rules.specs.Return.{stackletsWithout, readyAfter}
 use Rattle.rules.specs.declared.ForkKind.{ForkKind}
 use Rattle.rules.specs.Fork.{Asked, Place, onStacklet, nowhere, childStatus, parentStatus, isConnected}
 use Rattle.rules.specs.Sound.{Sound}
+use Rattle.rules.specs.Start.{startState}
 use Rattle.tables.specs.Meaning.{size, meaning}
 use Rattle.tables.specs.Change.{setCount}
 use Rattle.entries.specs.Own.{Stored, IsOther}
@@ -193,3 +195,10 @@ allFree s = setReady [] (setFreeStacklets (ascendingFrom 1 15) (setFreeThreads (
 -- "thread 0 runs routine 0 on core 0 ..; other cores are idle", of tables of zeros
 abbrev pub rootRuns : ℕ → State → State
 rootRuns n s = setCount n (setCore 3 none (setCore 2 none (setCore 1 none (setThread 0 rootThread s))))
+
+-- the tables xs have become ys, and the words ws have become vs: the state at Start, whatever they held. Tables of another size stay as
+-- they are; words of any other number are zeros with the root's frame
+pub record Starts (image arguments : List ℕ) (count : ℕ) (xs ys ws vs : List ℕ) : Type 0 where
+  pub means : length xs ≡ size → length ws ≡ 1024 → (starts parameters memory : List ℕ) (allowance : ℕ) → meaning ys vs memory ≡ startState (jobOf image starts parameters allowance) count arguments memory
+  pub other : (length xs ≡ size → ⊥) → ys ≡ xs
+  pub framed : vs ≡ pushedWords (replicate 16 0) (replicate (length ws) 0) 0 (slotsOf image 0) arguments

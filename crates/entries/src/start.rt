@@ -11,15 +11,10 @@ use tables::marks::put_core;
 use tables::marks::put_count;
 use tables::records::put_thread;
 use thread::record::root_thread;
-ghost use mathlib.Core.List.{List};
 ghost use mathlib.Core.Path.{_≡_};
-ghost use Prim.Native.Nat.{ℕ};
 ghost use lib.ListN.{length, replicate};
-ghost use Rattle.rules.specs.State.{jobOf};
-ghost use Rattle.rules.specs.Start.{startState};
-ghost use Rattle.tables.specs.Meaning.{size, meaning};
 ghost use Rattle.tables.specs.Change.{Becomes};
-ghost use Rattle.entries.specs.Given.{allFree, rootRuns};
+ghost use Rattle.entries.specs.Given.{allFree, rootRuns, Starts};
 
 // All words become zero.
 fn clear_words(words: &mut [u32])
@@ -58,7 +53,7 @@ fn put_root(tables: &mut [u8], count: u8)
 
 // Thread 0 runs routine 0 on core 0, its frame on stacklet 0; other cores are idle. Tables of another size stay as they are.
 pub fn start(image: &[u8], count: u8, arguments: &[u32], tables: &mut [u8], words: &mut [u32])
-    ensures { λ _. ⌜ (length (now (tables .entry)) ≡ size → length (now (words .entry)) ≡ 1024 → (starts parameters memory : List ℕ) (allowance : ℕ) → meaning (now (tables .exit)) (now (words .exit)) memory ≡ startState (jobOf (now (image .entry)) starts parameters allowance) count (now (arguments .entry)) memory) ⌝ }
+    ensures { λ _. ⌜ Starts (now (image .entry)) (now (arguments .entry)) count (now (tables .entry)) (now (tables .exit)) (now (words .entry)) (now (words .exit)) ⌝ }
 {
     clear(tables);
     clear_words(words);

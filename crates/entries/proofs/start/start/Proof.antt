@@ -1,7 +1,6 @@
 -- `entries::start::start` meets its contract. Assumes nothing.
-use Rattle.entries.proofs.Starting.{started}
-use Rattle.rules.specs.State.{jobOf}
-use mathlib.Core.Path.{refl, _∙_}
+use Rattle.entries.proofs.Starting.{starting}
+-- `entries::start::start` meets its contract. Assumes nothing.
 use borrow.Author.Needs.{needs}
 use Rattle.entries.proofs.start.start.Statement.{statement}
 use Rattle.entries.proofs.start.start.Tie as tie
@@ -48,11 +47,7 @@ same-length-2 c = search needs
 
 returns : tie.Need-returns
 returns c =
-    let args' = c .before .before .before .before .before .before .before .before .before .before .before .before .before .before .before .before .before .before .before .before .before .before .before .before .before .before .before .before .before .before .args in
-    let new' = c .before .before .before .before .before .before .before .before .before .before .before .before .before .before .before .before .before .new in
-    let slots-of' = c .before .before .before .before .before .before .before .before .before .before .before .before .before .before .before .before .slots-of in
-    let push-arguments' = c .before .before .before .before .before .before .before .before .before .before .before .before .before .push-arguments in
-    λ l w starts parameters memory allowance. started (jobOf (args' .image .now) starts parameters allowance) (args' .count) (args' .arguments .now) memory l (c .before .before .before .before .before .before .before .before .before .before .before .before .before .before .before .before .before .before .before .before .before .before .before .before .clear .ensures) (c .before .before .before .before .before .before .before .before .before .before .put-stacklets .ensures) (c .before .before .before .before .before .before .put-numbers .ensures) (c .before .before .put-root .ensures) (push-arguments' .ensures .0 ∙ rw (new' .ensures, slots-of' .ensures) refl) (push-arguments' .ensures .1 ∙ rw (new' .ensures, slots-of' .ensures, c .before .before .before .before .before .before .before .before .before .before .before .before .before .before .before .before .before .before .before .before .clear-words .ensures, w) refl)
+    starting (c .before .before .before .before .before .before .before .before .before .before .before .before .before .before .before .before .before .before .before .before .before .before .before .before .clear .ensures) (c .before .before .before .before .before .before .before .before .before .before .put-stacklets .ensures) (c .before .before .before .before .before .before .put-numbers .ensures) (c .before .before .put-root .ensures) (c .before .before .before .before .before .before .before .before .before .before .before .before .before .before .before .before .before .new .ensures) (c .before .before .before .before .before .before .before .before .before .before .before .before .before .before .before .before .slots-of .ensures) (c .before .before .before .before .before .before .before .before .before .before .before .before .before .before .before .before .before .before .before .before .clear-words .ensures) (c .before .before .before .before .before .before .before .before .before .before .before .before .before .push-arguments .ensures .0) (c .before .before .before .before .before .before .before .before .before .before .before .before .before .push-arguments .ensures .1)
 
 pub start-spec : {M : Type 1} → statement M
 start-spec =
