@@ -1,6 +1,5 @@
 -- `entries::start::start` meets its contract. Assumes nothing.
 use Rattle.entries.proofs.Starting.{starting}
--- `entries::start::start` meets its contract. Assumes nothing.
 use borrow.Author.Needs.{needs}
 use Rattle.entries.proofs.start.start.Statement.{statement}
 use Rattle.entries.proofs.start.start.Tie as tie
