@@ -2,7 +2,7 @@
 use mathlib.Core.Bool.{Bool, true}
 use mathlib.Core.List.{List, []}
 use mathlib.Core.Path.{_≡_, refl}
-use Prim.Native.Nat.{ℕ, _+_, _%_, _<_, _^_}
+use Prim.Native.Nat.{ℕ, _+_, _%_, _≤_, _<_, _^_}
 use native.Mathlib.Nat.{mod-eq-of-lt}
 use native.Mathlib.Omega.{arith}
 use Rattle.command.specs.Command.{decodedAt, widthOf}
@@ -22,7 +22,7 @@ use Rattle.rules.specs.Turn.{offsetOf, byteOf}
 use Rattle.rules.specs.Return.{returnOf, returnToParent}
 use Rattle.rules.specs.Rules.{carriedOf}
 use Rattle.rules.specs.Sound.{Sound, Used}
-use Rattle.met.proofs.CommandMet.{cut-inside, place-small, next-small, operands-few, tested-here, width-here}
+use Rattle.met.proofs.CommandMet.{cut-inside, place-small, next-small, some-bytes, operands-few, tested-here, width-here}
 use Rattle.tables.specs.Meaning.{meaning}
 use Rattle.entries.specs.Own.{Stored, IsOther}
 use Rattle.entries.specs.Given.{HeadBelow, Seated, Carrying, recordIn, turnWith}
@@ -34,6 +34,9 @@ module _ (j : Job) (s : State) (ok : Sound j s) (t : ℕ) (th : Thread) (met : t
 
   pub next-low : th .position + widthOf (byteOf j th) < 65536
   next-low = rw met (next-small j (ok .job) (threadAt s t .routine) (threadAt s t .position) (ok .placed .routine t used) (ok .placed .position t used))
+
+  pub known : 1 ≤ widthOf (byteOf j th)
+  known = rw met (some-bytes j (ok .job) (threadAt s t .routine) (threadAt s t .position) (ok .placed .routine t used) (ok .placed .position t used))
 
   pub range : InRange (decodedAt (j .image) (offsetOf j th))
   range = rw met (operands-few j (ok .job) (threadAt s t .routine) (threadAt s t .position) (ok .placed .routine t used) (ok .placed .position t used))

@@ -2,19 +2,18 @@
 use mathlib.Core.Bool.{Bool, true, cond}
 use mathlib.Core.List.{List, [], _∷_}
 use mathlib.Core.Path.{_≡_}
-use Prim.Native.Nat.{ℕ, _+_, _%_, _≤_, _<_, _^_}
+use Prim.Native.Nat.{ℕ, _+_, _≤_, _<_, _^_}
 use lib.ListN.{length, replicate}
 use Rattle.image.specs.Layout.{argumentsOf, slotsOf}
 use Rattle.queue.specs.Contents.{ascendingFrom}
-use Rattle.stacklets.specs.Frames.{pushedWords}
+use Rattle.stacklets.specs.Frames.{pushedWords, slotOf}
 use Rattle.queue.specs.declared.Front.{Front}
 use Rattle.queue.specs.declared.Front.the-variants.{Number, Nothing}
 use Rattle.window.specs.Rights.{childOf, restOf}
-use Rattle.stacklets.specs.Frames.{slotOf}
 use Rattle.thread.specs.declared.Thread.{Thread}
 use Rattle.thread.specs.declared.Effect.{Effect}
 use Rattle.thread.specs.declared.Effect.the-variants.{Faults, Sets, Loads, Stores, Goes, Continues, Lforks, Forks, Joins, Suspends, Yields, Returns}
-use Rattle.thread.specs.Effect.{forking, bytesBy}
+use Rattle.thread.specs.Effect.{forking}
 use Rattle.thread.specs.View.{viewOf}
 use Rattle.thread.specs.declared.Status.{Status}
 use Rattle.thread.specs.Thread.{rootThread, newThread, behindFork, joinedAt, isPending, none}
@@ -29,7 +28,6 @@ use Rattle.rules.specs.Sound.{Sound}
 use Rattle.rules.specs.Start.{startState}
 use Rattle.tables.specs.Meaning.{size, meaning}
 use Rattle.tables.specs.Change.{setCount}
-use Rattle.entries.specs.Own.{Stored, IsOther}
 
 -- what the tables mean behind an entry, with its log byte
 abbrev pub after : ℕ → List ℕ → List ℕ → List ℕ → After
@@ -171,17 +169,6 @@ passes o s = done o (joinedAt (o .next) (o .thread)) s
 -- the command is done, and the thread leaves its core
 abbrev pub leavesAs : Turn → Status → State → State
 leavesAs o status s = leaves (o .core) (o .number) status (goesOn o s)
-
--- the position behind a command, as its effect tells it; it has two bytes
-abbrev pub behind : Thread → Effect → ℕ
-behind h e = (h .position + bytesBy e) % 2 ^ 16
-
--- what carrying out any command of thread t relies on
-pub record Met (xs : List ℕ) (c t : ℕ) (th : Thread) (weight : ℕ) (e : Effect) : Type 0 where
-  pub here : th ≡ recordIn xs t
-  pub seated : Seated xs c t weight
-  pub stored : Stored e
-  pub other : IsOther e → Carrying xs c t weight e
 
 -- tables, words and memory that mean a sound state of a job
 pub record Sounding (image starts parameters : List ℕ) (allowance : ℕ) (xs words memory : List ℕ) : Type 0 where

@@ -1,7 +1,8 @@
-// A step: the next command of the thread on a core.
+// Steps of one core: the next commands of the thread on it.
+use crate::Carried;
 use crate::carry::carry_other;
-use crate::carry::go_on;
 use crate::leave::leave;
+use crate::once;
 use crate::own::Own;
 use crate::own::carry_own;
 use command::command_of;
@@ -11,21 +12,27 @@ use image::routines::place_in_image;
 use tables::marks::core_at;
 use tables::marks::count;
 use tables::marks::is_over;
+use tables::marks::put_units;
 use tables::marks::units;
+use tables::records::put_position;
 use tables::records::thread_at;
 use thread::Effect;
 use thread::Status;
-use thread::Thread;
 use thread::effects::effect;
 ghost use mathlib.Core.Bool.{_&&_};
 ghost use mathlib.Core.List.{List};
 ghost use mathlib.Core.Path.{_≡_};
-ghost use Prim.Native.Nat.{ℕ};
+ghost use Prim.Native.Nat.{ℕ, _+_, _%_, _^_};
 ghost use lib.Dec.{eqb, ltb};
+ghost use Rattle.command.specs.Weight.{weightOf, standardWeights};
+ghost use Rattle.schedule.specs.declared.Entry.the-variants.{Step};
+ghost use Rattle.thread.specs.Effect.{bytesBy};
 ghost use Rattle.rules.specs.State.{jobOf};
-ghost use Rattle.rules.specs.Rules.{carriedOf, stepOf};
 ghost use Rattle.tables.specs.Meaning.{meaning};
-ghost use Rattle.entries.specs.Given.{Met, Sounding, turnIn, after, behind};
+ghost use Rattle.tables.specs.Change.{Becomes};
+ghost use Rattle.entries.specs.Given.{Sounding, turnIn, after};
+ghost use Rattle.entries.specs.Repeat.{Repeats};
+ghost use Rattle.entries.specs.Burst.{Busy, Resting, standsAt, restOf};
 
 // Is this a join of a thread whose children have not all ended?
 fn must_wait(byte: u8, children: u8) -> bool
@@ -37,37 +44,48 @@ fn must_wait(byte: u8, children: u8) -> bool
     0 < children
 }
 
-// Carries out a command of thread t, whose record is th and whose effect is given. The log byte is given.
-fn carry(
+// Position and units, which were held apart, go back to the tables.
+fn put_back(tables: &mut [u8], t: u8, position: u16, used: u32)
+    ensures { λ _. ⌜ Becomes (now (tables .entry)) (now (tables .exit)) (standsAt (t % 32) position used) ⌝ }
+{
+    put_position(tables, t, position);
+    put_units(tables, used);
+}
+
+// A command of thread t that is not its own thread's alone, or is too dear, by its effect. The log byte is given.
+fn carry_rest(
     tables: &mut [u8],
     words: &mut [u32],
-    memory: &mut [u32],
     done: Effect,
     c: u8,
     t: u8,
-    th: Thread,
-    cost: u8,
+    left: u32,
+    byte: u8,
+    children: u8,
+    position: u16,
     place: u16,
     image: &[u8],
-    parameters: &[u32],
 ) -> u8
-    requires { ⌜ Met (now tables) c t th cost done ⌝ }
-    ensures { λ x. ⌜ ((starts : List ℕ) (allowance : ℕ) → after x (now (tables .exit)) (now (words .exit)) (now (memory .exit)) ≡ carriedOf (jobOf (now (image .entry)) starts (now (parameters .entry)) allowance) (meaning (now (tables .entry)) (now (words .entry)) (now (memory .entry))) (turnIn (now (tables .entry)) c t cost (behind th done) place) done) ⌝ }
+    requires { ⌜ Resting (now tables) c t left byte done ⌝ }
+    ensures { λ x. ⌜ ((starts parameters memory : List ℕ) (allowance : ℕ) → after x (now (tables .exit)) (now (words .exit)) memory ≡ restOf (jobOf (now (image .entry)) starts parameters allowance) (meaning (now (tables .entry)) (now (words .entry)) memory) (turnIn (now (tables .entry)) c t (weightOf standardWeights byte) ((position + bytesBy done) % 2 ^ 16) place) done left byte children) ⌝ }
 {
-    let position = th.position;
-    let own = carry_own(done, position, th.base, parameters, words, memory);
-    match own {
-        Own::Moved(p) => {
-            go_on(tables, t, cost, p);
-            0
-        }
-        Own::Other => carry_other(tables, words, done, c, t, cost, position, place, image),
+    if must_wait(byte, children) {
+        leave(tables, c, t, Status::Waiting);
+        return 0;
     }
+    let cost = weight(byte);
+    if left < (cost as u32) {
+        return 22;
+    }
+    carry_other(tables, words, done, c, t, cost, position, place, image)
 }
 
-// The thread on core c meets its next command; the log byte is given.
-pub fn step(
+// Steps of core c, on which thread t runs: one, and then as many as may follow, up to the first that is not its own thread's alone. Position
+// and units are held apart from the tables meanwhile.
+fn burst(
     c: u8,
+    t: u8,
+    more: usize,
     image: &[u8],
     starts: &[u16],
     parameters: &[u32],
@@ -75,45 +93,95 @@ pub fn step(
     tables: &mut [u8],
     words: &mut [u32],
     memory: &mut [u32],
-) -> u8
+) -> Carried
+    requires { ⌜ Busy (now image) (now starts) (now parameters) allowance (now tables) (now words) (now memory) c t ⌝ }
+    ensures { λ r. ⌜ Repeats (jobOf (now (image .entry)) (now (starts .entry)) (now (parameters .entry)) allowance) (meaning (now (tables .entry)) (now (words .entry)) (now (memory .entry))) (Step c) more r (meaning (now (tables .exit)) (now (words .exit)) (now (memory .exit))) ⌝ }
+{
+    let th = thread_at(tables, t);
+    let start = place_in_image(starts, th.routine, 0);
+    let window = th.window;
+    let mut position = th.position;
+    let mut left = allowance - units(tables);
+    let mut rest = more;
+    loop {
+        let place = start + (position as usize);
+        let five = five_at(image, place);
+        let done = effect(command_of(five), image, words, th.base, th.pending, window);
+        let own = carry_own(done, left, position, th.base, parameters, words, memory);
+        match own {
+            Own::Moved(next, less) => {
+                position = next;
+                left = less;
+                if rest == 0 {
+                    put_back(tables, t, position, allowance - left);
+                    return Carried {
+                        again: more,
+                        log: 0,
+                    };
+                }
+                rest = rest - 1;
+            }
+            Own::Other => {
+                put_back(tables, t, position, allowance - left);
+                let first = place as u16;
+                let log = carry_rest(
+                    tables,
+                    words,
+                    done,
+                    c,
+                    t,
+                    left,
+                    five[0],
+                    th.children,
+                    position,
+                    first,
+                    image,
+                );
+                return Carried {
+                    again: more - rest,
+                    log,
+                };
+            }
+        }
+    }
+}
+
+// The thread on core c meets its next command, and where the entry may be repeated it meets the commands that follow; the last one's log byte
+// is given.
+pub fn steps(
+    c: u8,
+    more: usize,
+    image: &[u8],
+    starts: &[u16],
+    parameters: &[u32],
+    allowance: u32,
+    tables: &mut [u8],
+    words: &mut [u32],
+    memory: &mut [u32],
+) -> Carried
     requires { ⌜ Sounding (now image) (now starts) (now parameters) allowance (now tables) (now words) (now memory) ⌝ }
-    ensures { λ x. ⌜ after x (now (tables .exit)) (now (words .exit)) (now (memory .exit)) ≡ stepOf (jobOf (now (image .entry)) (now (starts .entry)) (now (parameters .entry)) allowance) (meaning (now (tables .entry)) (now (words .entry)) (now (memory .entry))) c ⌝ }
+    ensures { λ r. ⌜ Repeats (jobOf (now (image .entry)) (now (starts .entry)) (now (parameters .entry)) allowance) (meaning (now (tables .entry)) (now (words .entry)) (now (memory .entry))) (Step c) more r (meaning (now (tables .exit)) (now (words .exit)) (now (memory .exit))) ⌝ }
 {
     if is_over(tables) {
-        return 19;
+        return once(19);
     }
     if count(tables) <= c {
-        return 14;
+        return once(14);
     }
     let t = core_at(tables, c);
     if 32 <= t {
-        return 15;
+        return once(15);
     }
-    let th = thread_at(tables, t);
-    let place = place_in_image(starts, th.routine, th.position);
-    let five = five_at(image, place);
-    if must_wait(five[0], th.children) {
-        leave(tables, c, t, Status::Waiting);
-        return 0;
-    }
-    let cost = weight(five[0]);
-    if allowance - units(tables) < (cost as u32) {
-        return 22;
-    }
-    let window = th.window;
-    let done = effect(command_of(five), image, words, th.base, th.pending, window);
-    let first = place as u16;
-    carry(
+    burst(
+        c,
+        t,
+        more,
+        image,
+        starts,
+        parameters,
+        allowance,
         tables,
         words,
         memory,
-        done,
-        c,
-        t,
-        th,
-        cost,
-        first,
-        image,
-        parameters,
     )
 }

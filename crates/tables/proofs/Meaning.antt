@@ -7,7 +7,7 @@ use Prim.Native.Nat.{ℕ, zero, suc, _+_, _-_, _*_, _/_, _%_, _≤_, _<_}
 use native.Mathlib.Nat.{zero-add}
 use native.Mathlib.Omega.{arith}
 use lib.Dec.{eqb}
-use lib.ListN.{getD, set}
+use lib.ListN.{getD, set, length, List·getD-eq-default}
 use Rattle.queue.specs.declared.Queue.{Queue}
 use Rattle.queue.specs.Contents.{contents}
 use Rattle.stacklets.specs.declared.Stacklets.{Stacklets}
@@ -21,7 +21,7 @@ use Rattle.rules.specs.Update.{setThread, setCore, setTops, setFreeThreads, set
 use Rattle.tables.specs.Cells.{from, Outside}
 use Rattle.tables.specs.Change.{setUnits, setCount}
 use Rattle.tables.specs.Meaning.{statusOf, bitOf, recordAt, cellsOf, threadsIn, coresIn, unitsIn, outcomeIn, stackletsIn, queueIn, meaning}
-use Rattle.tables.proofs.Runs.{getD-from, from-same, from-set, clear}
+use Rattle.tables.proofs.Runs.{length-from, getD-from, from-same, from-set, clear}
 
 -- a record by its 18 cells
 pub record-same : (xs ys : List ℕ) (a b : ℕ) → ((k : ℕ) → k < 18 → getD ys (b + k) 0 ≡ getD xs (a + k) 0) → recordAt ys b ≡ recordAt xs a
@@ -177,6 +177,15 @@ module _ (xs words memory : List ℕ) where
   pub core-is : (c : ℕ) → c < 4 → getD xs (576 + c) 0 ≡ onCore (meaning xs words memory) c
   unfolding meaning coresIn
   core-is c l = sym (getD-from 0 4 c _ 0 l ∙ ap (λ (k : ℕ). getD xs (576 + k) 0) (zero-add c))
+
+  -- there are 32 records and 4 cores
+  pub threads-long : length (meaning xs words memory .threads) ≡ 32
+  unfolding meaning threadsIn
+  threads-long = length-from 0 32 _
+
+  pub core-none : (c : ℕ) → 4 ≤ c → onCore (meaning xs words memory) c ≡ 0
+  unfolding meaning coresIn
+  core-none c l = List·getD-eq-default (coresIn xs) 0 {n = c} (omega (arith, length-from 0 4 (λ k. getD xs (576 + k) 0)))
 
 -- a record moved on
 pub moved-at : (xs ys : List ℕ) (a p : ℕ) → ((k : ℕ) → k < 16 → getD ys (a + (k + 2)) 0 ≡ getD xs (a + (k + 2)) 0) → getD ys (a + 0) 0 ≡ p % 256 → getD ys (a + 1) 0 ≡ p / 256

@@ -1,4 +1,5 @@
 -- Laws of lists by index. Assumes nothing.
+use borrow.Author.Count.{below-more}
 use mathlib.Core.Path.{_≡_, refl, ap, sym, _∙_}
 use mathlib.Core.List.{List, _++_, append-assoc}
 use mathlib.Core.Logic.{_⊎_, inl, inr, ⊎-elim}
@@ -90,14 +91,15 @@ filled xs places a n l f =
     ext-getD 0 places (from 0 n (λ i. getD xs (a + i) 0)) (l ∙ sym (length-from 0 n _))
     (λ i h. f i (omega arith) ∙ ap (λ (k : ℕ). getD xs (a + k) 0) (sym (zero-add i)) ∙ sym (getD-from 0 n i (λ k. getD xs (a + k) 0) 0 (omega arith)))
 
+-- what holds of each cell below i, and of v, holds of each below i + 1 once v is stored at i
+pub set-below : {A : Type 0} (P : ℕ → A → Type 0) (cells : List A) (i : ℕ) (v d : A) → i < length cells → P i v → ((k : ℕ) → k < i → P k (getD cells k d))
+    → (k : ℕ) → k < i + 1 → P k (getD (set cells i v) k d)
+set-below P cells i v d l e f =
+    below-more (λ k. P k (getD (set cells i v) k d)) i (λ k h. rw (getD-set-other cells i k v d (λ z. omega arith)) (f k h)) (rw (getD-set-same cells i v d l) e)
+
 pub fill-more : (xs places : List ℕ) (a i v : ℕ) → i < length places → v ≡ getD xs (a + i) 0 → ((k : ℕ) → k < i → getD places k 0 ≡ getD xs (a + k) 0)
     → (k : ℕ) → k < i + 1 → getD (set places i v) k 0 ≡ getD xs (a + k) 0
-fill-more xs places a i v l e f k h = ⊎-elim (λ p. getD-set-other places i k v 0 (λ z. omega arith) ∙ f k p) (λ p. let z : k ≡ i = omega arith in rw z (getD-set-same places i v 0 l ∙ e)) (lt-or-le k i)
-  where
-    lt-or-le : (x c : ℕ) → (x < c) ⊎ (c ≤ x)
-    lt-or-le x zero = inr (omega arith)
-    lt-or-le zero (suc c) = inl (omega arith)
-    lt-or-le (suc x) (suc c) = ⊎-elim (λ q. inl (omega arith)) (λ q. inr (omega arith)) (lt-or-le x c)
+fill-more xs places a i v = set-below (λ k x. x ≡ getD xs (a + k) 0) places i v 0
 
 -- one store more of a run
 pub sets-more : (xs cells : List ℕ) (a i : ℕ) → i < length cells → sets (set xs (a + i) (getD cells i 0)) (a + (i + 1)) (drop (i + 1) cells) ≡ sets xs (a + i) (drop i cells)

@@ -12,7 +12,7 @@ use thread::record::status_number;
 use window::Window;
 ghost use mathlib.Core.Path.{_≡_};
 ghost use Prim.Native.Nat.{_*_, _%_, _≤_};
-ghost use lib.ListN.{length};
+ghost use lib.ListN.{length, replicate};
 ghost use lib.Seq.{sets};
 ghost use Rattle.thread.specs.Thread.{blankThread};
 ghost use Rattle.rules.specs.State.{threadAt};
@@ -123,6 +123,21 @@ pub fn thread_at(tables: &[u8], t: u8) -> Thread
     let a = place_of(t);
     let e = a + WIDE;
     read_record(&tables[a..e])
+}
+
+// All records, copied out once.
+pub fn threads(tables: &[u8]) -> [Thread; 32]
+    ensures { λ r. ⌜ Reads (now (tables .entry)) r (λ s. s .threads) (replicate 32 blankThread) ⌝ }
+{
+    let blank = blank_thread();
+    let mut all = [blank; 32];
+    let mut t: u8 = 0;
+    while t < 32 {
+        let h = thread_at(tables, t);
+        all[t as usize] = h;
+        t = t + 1;
+    }
+    all
 }
 
 // Thread t's record becomes th.

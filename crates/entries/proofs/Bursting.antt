@@ -1,0 +1,287 @@
+-- Steps of one core in a row, with the thread's position and the units held apart from the tables. Assumes nothing.
+use mathlib.Core.List.{List}
+use mathlib.Core.Logic.{_⊎_, inl, inr, ⊎-elim}
+use mathlib.Core.Path.{_≡_, refl, sym, ap, subst, _∙_}
+use Prim.Native.Nat.{ℕ, zero, suc, _+_, _-_, _%_, _≤_, _<_, _^_}
+use native.Mathlib.Nat.{mod-eq-of-lt}
+use native.Mathlib.Omega.{arith}
+use lib.ListN.{getD, length}
+use lib.Seq.{getD-set-same, set-getD, set-set}
+use Rattle.command.specs.declared.Command.{Command}
+use Rattle.command.specs.Command.{decodedAt, fiveAt, widthOf}
+use Rattle.command.specs.Weight.{weightOf, standardWeights}
+use Rattle.schedule.specs.declared.Entry.{Entry}
+use Rattle.schedule.specs.declared.Entry.the-variants.{Step}
+use Rattle.thread.specs.declared.Thread.{Thread}
+use Rattle.thread.specs.declared.Effect.{Effect}
+use Rattle.thread.specs.Thread.{blankThread, movedTo, isPending}
+use Rattle.thread.specs.Effect.{effectOf, bytesBy}
+use Rattle.thread.specs.View.{viewOf}
+use Rattle.thread.proofs.EffectFacts.{Guarded}
+use Rattle.thread.proofs.Widths.{Widened}
+use Rattle.stacklets.specs.Frames.{slotOf}
+use Rattle.image.specs.Layout.{argumentsOf}
+use Rattle.rules.specs.Turn.{Turn, offsetOf, byteOf, done}
+use Rattle.entries.specs.Given.{Seated, recordIn, turnWith, turnIn, after}
+use Rattle.entries.proofs.Meeting.{place-low, next-low, known, tested, wide, few, based, carrying}
+use Rattle.entries.proofs.Able.{linked-below, free-first, stacklet-first}
+use Rattle.entries.specs.declared.own.Own.the-variants.{Moved}
+use Rattle.entries.specs.Own.{IsOther, OwnAs, weightBy, withBoth}
+use Rattle.entries.proofs.Weighing.{Weighed, weighed, joins, kind}
+use Rattle.entries.proofs.Stepping.{rest-is, rest-own}
+use Rattle.rules.specs.State.{Job, jobOf, State, After, threadAt}
+use Rattle.rules.specs.Update.{accepted}
+use Rattle.rules.specs.Rules.{entryOf, stepOf}
+use Rattle.rules.specs.Sound.{Sound, Used, statusAt}
+use Rattle.soundness.proofs.Kept.{entry-sound}
+use Rattle.tables.specs.Meaning.{size, meaning}
+use Rattle.tables.specs.Change.{Becomes}
+use Rattle.entries.specs.declared.Carried.{Carried}
+use Rattle.entries.specs.Repeat.{repeated, Repeats}
+use Rattle.entries.specs.Burst.{Busy, Resting, standsAt, restOf}
+
+below-or : (i n : ℕ) → i < suc n → (i < n) ⊎ (i ≡ n)
+below-or zero zero l = inr refl
+below-or zero (suc n) l = inl (omega arith)
+below-or (suc i) zero l = absurd (omega (arith, l))
+below-or (suc i) (suc n) l = ⊎-elim (λ h. inl (omega (arith, h))) (λ h. inr (ap suc h)) (below-or i n (omega (arith, l)))
+
+pub repeated-sound : (j : Job) (e : Entry) (s : State) → Sound j s → (n : ℕ) → Sound j (repeated j e s n)
+unfolding repeated
+repeated-sound j e s ok zero = ok
+repeated-sound j e s ok (suc n) = entry-sound j (repeated j e s n) (repeated-sound j e s ok n) e
+
+-- an entry that was carried out once
+pub once-repeats : (j : Job) (s : State) (e : Entry) (more : ℕ) (r : Carried) (end : State) → r .again ≡ 0
+    → record { state = end; log = r .log } ≡ entryOf j s e → Repeats j s e more r end
+unfolding repeated
+once-repeats j s e more r end z f = record {
+  few = omega (arith, z);
+  accepts = λ i l. absurd (omega (arith, z, l));
+  stays = λ i l. let first : i ≡ 0 = omega (arith, z, l) in rw first refl;
+  last = rw z f;
+}
+
+module _ (image starts parameters : List ℕ) (allowance : ℕ) (xs ws₀ ms₀ : List ℕ) (c t : ℕ) (busy : Busy image starts parameters allowance xs ws₀ ms₀ c t) where
+  abbrev j : Job
+  j = jobOf image starts parameters allowance
+
+  abbrev s₀ : State
+  s₀ = meaning xs ws₀ ms₀
+
+  -- the thread's record before the first step
+  abbrev th₀ : Thread
+  th₀ = threadAt s₀ t
+
+  -- the state with what is held
+  abbrev pub held : ℕ → ℕ → List ℕ → List ℕ → State
+  held p left ws ms = standsAt t p (allowance - left) (meaning xs ws ms)
+
+  -- k steps were made, all accepted and none of which changed the cores
+  pub record Made (k p left : ℕ) (ws ms : List ℕ) : Type 0 where
+    pub few : left ≤ allowance
+    pub state : repeated j (Step c) s₀ k ≡ held p left ws ms
+    pub accepts : (i : ℕ) → i < k → entryOf j (repeated j (Step c) s₀ i) (Step c) .log ≡ 0
+    pub stays : (i : ℕ) → i ≤ k → repeated j (Step c) s₀ i .cores ≡ s₀ .cores
+
+  -- the command at position p, with its place in the image, its first byte and its effect
+  pub record Meets (p : ℕ) (ws : List ℕ) (place byte : ℕ) (e : Effect) : Type 0 where
+    pub there : place ≡ offsetOf j (movedTo p th₀)
+    pub first : byte ≡ getD image place 0
+    pub does : e ≡ effectOf (argumentsOf image) (viewOf (slotOf ws (th₀ .base)) (isPending (th₀ .pending)) (th₀ .window)) (decodedAt image place)
+
+  -- as the code finds it
+  pub meets : (th : Thread) (start p place : ℕ) (ws five : List ℕ) (command : Command) (e : Effect) → th ≡ th₀ → start ≡ getD starts (th .routine) 0 + 0
+      → place ≡ start + p → five ≡ fiveAt image place → command ≡ decodedAt five 0
+      → e ≡ effectOf (argumentsOf image) (viewOf (slotOf ws (th .base)) (isPending (th .pending)) (th .window)) command → Meets p ws place (getD five 0 0) e
+  meets th start p place ws five command e seen starting at bytes is does = record {
+    there = omega (arith, at, starting, ap (λ (h : Thread). getD starts (h .routine) 0) seen);
+    first = ap (λ (l : List ℕ). getD l 0 0) bytes;
+    does = does ∙ rw (seen, is, bytes) refl;
+  }
+
+  many : length (s₀ .threads) ≡ 32
+  many = busy .sounding .sound .sized .threads
+
+  pub begins : (th : Thread) (u : ℕ) → th ≡ th₀ → u ≡ s₀ .units → Made 0 (th .position) (allowance - u) ws₀ ms₀
+  unfolding repeated meaning
+  begins th u met so-far =
+      let within = busy .sounding .sound .sized .units in
+      let same : u ≡ allowance - (allowance - u) = omega (arith, so-far, within) in
+      record {
+        few = omega arith;
+        state = rw (← same, so-far, met) (ap (λ (l : List Thread). with-threads l) (sym (set-getD (s₀ .threads) t blankThread)));
+        accepts = λ i l. absurd (omega (arith, l));
+        stays = λ i l. let first : i ≡ 0 = omega (arith, l) in rw first refl;
+      }
+    where
+      with-threads : List Thread → State
+      with-threads l = record {
+        threads = l;
+        cores = s₀ .cores;
+        count = s₀ .count;
+        tops = s₀ .tops;
+        freeThreads = s₀ .freeThreads;
+        freeStacklets = s₀ .freeStacklets;
+        ready = s₀ .ready;
+        units = s₀ .units;
+        outcome = s₀ .outcome;
+        words = s₀ .words;
+        memory = s₀ .memory;
+      }
+
+  module _ (k p left : ℕ) (ws ms : List ℕ) (made : Made k p left ws ms) where
+    -- the state before the next step is sound, and its thread in use
+    pub sound : Sound j (held p left ws ms)
+    sound = rw (made .state) at (repeated-sound j (Step c) s₀ (busy .sounding .sound) k)
+
+    pub met : movedTo p th₀ ≡ threadAt (held p left ws ms) t
+    unfolding meaning
+    met = sym (getD-set-same (s₀ .threads) t (movedTo p th₀) blankThread (omega (arith, many, busy .number)))
+
+    pub used : Used (held p left ws ms) t
+    unfolding meaning
+    used =
+        let runs = sound .seats .runs c (busy .core) (rw (busy .on) at (busy .number)) in
+        let one : statusAt (held p left ws ms) t ≡ 1 = subst (λ (x : ℕ). statusAt (held p left ws ms) x ≡ 1) (sym (busy .on)) runs in
+        omega (arith, one)
+
+    -- one step more
+    pub goes : (p' left' : ℕ) (ws' ms' : List ℕ) → left' ≤ allowance → stepOf j (held p left ws ms) c ≡ accepted (held p' left' ws' ms') → Made (suc k) p' left' ws' ms'
+    unfolding repeated entryOf meaning
+    goes p' left' ws' ms' few f =
+        let state : repeated j (Step c) s₀ (suc k) ≡ held p' left' ws' ms' =
+        ap (λ (x : State). entryOf j x (Step c) .state) (made .state) ∙ ap (λ (a : After). a .state) f
+        in
+        let log : entryOf j (repeated j (Step c) s₀ k) (Step c) .log ≡ 0 = ap (λ (x : State). entryOf j x (Step c) .log) (made .state) ∙ ap (λ (a : After). a .log) f in
+        record {
+          few = few;
+          state = state;
+          accepts = λ i l. ⊎-elim (λ h. made .accepts i h) (λ h. rw h log) (below-or i k l);
+          stays = λ i l. ⊎-elim (λ h. made .stays i (omega (arith, h))) (λ h. rw h (ap (λ (x : State). x .cores) state)) (below-or i (suc k) (omega (arith, l)));
+        }
+
+    -- position and units are back in the tables
+    module _ (ys : List ℕ) (back : Becomes xs ys (standsAt (t % 32) p (allowance - left))) where
+      pub put : meaning ys ws ms ≡ held p left ws ms
+      put = back .means (busy .sounding .sized) ws ms ∙ ap (λ (n : ℕ). standsAt n p (allowance - left) (meaning xs ws ms)) (mod-eq-of-lt (busy .number))
+
+      -- as many as may follow were made
+      pub ends-full : (more : ℕ) → k ≡ suc more → Repeats j s₀ (Step c) more (record { again = more; log = 0 }) (meaning ys ws ms)
+      unfolding repeated
+      ends-full more full = record {
+        few = omega arith;
+        accepts = λ i l. made .accepts i (omega (arith, l, full));
+        stays = λ i l. made .stays i (omega (arith, l, full));
+        last = ap accepted (put ∙ sym (made .state) ∙ ap (repeated j (Step c) s₀) full)
+            ∙ ap (λ (n : ℕ). record { state = entryOf j (repeated j (Step c) s₀ more) (Step c) .state; log = n }) (sym (made .accepts more (omega (arith, full))));
+      }
+
+    -- the next command, with its place, first byte and effect
+    module _ (place byte : ℕ) (e : Effect) (here : Meets p ws place byte e) where
+      -- its turn
+      abbrev turn : Turn
+      turn = turnWith c t (movedTo p th₀) (weightOf standardWeights byte) ((p + bytesBy e) % 2 ^ 16) place
+
+      -- the first byte as the rule has it
+      byte-is : byteOf j (movedTo p th₀) ≡ byte
+      byte-is = sym (here .first ∙ ap (λ (i : ℕ). getD image i 0) (here .there))
+
+      pub place-fits : place < 65536
+      place-fits = rw (here .there) (place-low j (held p left ws ms) sound t (movedTo p th₀) met used)
+
+      next-fits : p + widthOf byte < 65536
+      next-fits = rw byte-is at (next-low j (held p left ws ms) sound t (movedTo p th₀) met used)
+
+      wider : Widened (widthOf byte) e
+      wider = subst (λ (b : ℕ). Widened (widthOf b) e) byte-is
+          (rw (here .does, here .there) (wide j (held p left ws ms) sound t (movedTo p th₀) met used (viewOf (slotOf ws (th₀ .base)) (isPending (th₀ .pending)) (th₀ .window))))
+
+      pub guarded : Guarded (argumentsOf image) (viewOf (slotOf ws (th₀ .base)) (isPending (th₀ .pending)) (th₀ .window)) e
+      guarded = rw (here .does, here .there) (tested j (held p left ws ms) sound t (movedTo p th₀) met used (viewOf (slotOf ws (th₀ .base)) (isPending (th₀ .pending)) (th₀ .window)))
+
+      -- by its effect it is the rule's step
+      pub stepped : restOf j (held p left ws ms) turn e left byte (th₀ .children) ≡ stepOf j (held p left ws ms) c
+      unfolding meaning
+      stepped =
+          rest-is j (held p left ws ms) c t (busy .going) (busy .core) (busy .on) (busy .number) (movedTo p th₀) met place byte left e (here .there) (here .first)
+          (omega (arith, made .few)) (here .does) wider next-fits
+
+      -- the weight as the effect tells it, and a join is no command of its own thread's alone
+      weighs : (IsOther e → ⊥) → weightBy e ≡ weightOf standardWeights byte
+      weighs own =
+          let some : 1 ≤ widthOf byte = subst (λ (b : ℕ). 1 ≤ widthOf b) byte-is (known j (held p left ws ms) sound t (movedTo p th₀) met used) in
+          let is : Weighed (weightOf standardWeights byte) e =
+          rw (here .does, here .first) (weighed (argumentsOf image) (viewOf (slotOf ws (th₀ .base)) (isPending (th₀ .pending)) (th₀ .window)) (getD image place 0)
+          (getD image (place + 1) 0) (getD image (place + 2) 0) (getD image (place + 3) 0) (getD image (place + 4) 0) (rw (here .first) at some))
+          in
+          is .is own
+
+      no-join : byte ≡ 10 → IsOther e
+      no-join ten = rw (here .does, ← here .first, ten) (joins (argumentsOf image) (viewOf (slotOf ws (th₀ .base)) (isPending (th₀ .pending)) (th₀ .window))
+          (getD image (place + 1) 0) (getD image (place + 2) 0) (getD image (place + 3) 0) (getD image (place + 4) 0))
+
+      -- what an own effect does to what is held
+      moved : (p' left' : ℕ) (ws' ms' : List ℕ) → weightOf standardWeights byte ≤ left → left' ≡ left - weightOf standardWeights byte
+          → done turn (movedTo p' (movedTo p th₀)) (withBoth ws' ms' (held p left ws ms)) ≡ held p' left' ws' ms'
+      unfolding meaning
+      moved p' left' ws' ms' l is =
+          let units : (allowance - left) + weightOf standardWeights byte ≡ allowance - left' = omega (arith, made .few, l, is) in
+          rw (units, set-set (s₀ .threads) t (movedTo p th₀) (movedTo p' th₀)) refl
+
+      -- a command that is its own thread's alone
+      pub goes-own : (p' left' : ℕ) (ws' ms' : List ℕ) → OwnAs e left p (th₀ .base) parameters ws ms ws' ms' (Moved p' left') → Made (suc k) p' left' ws' ms'
+      unfolding meaning
+      goes-own p' left' ws' ms' told =
+          let weight = weighs (told .2) in
+          let enough : weightOf standardWeights byte ≤ left = omega (arith, weight, told .0) in
+          let rest : left' ≡ left - weightOf standardWeights byte = told .1 ∙ ap (λ (x : ℕ). left - x) weight in
+          goes p' left' ws' ms' (omega (arith, rest, made .few))
+          (sym stepped ∙ rest-own j (held p left ws ms) turn e left byte (th₀ .children) no-join (told .2) enough
+          ∙ told .3 j (held p left ws ms) turn refl refl refl refl refl ∙ ap accepted (moved p' left' ws' ms' enough rest))
+
+      -- a command of another kind, or one that is too dear
+      module _ (ys : List ℕ) (back : Becomes xs ys (standsAt (t % 32) p (allowance - left))) where
+        same : recordIn ys t ≡ movedTo p th₀
+        unfolding meaning
+        same = ap (λ (x : State). threadAt x t) (put ys back) ∙ sym met
+
+        ok : Sound j (meaning ys ws ms)
+        ok = subst (λ (x : State). Sound j x) (sym (put ys back)) sound
+
+        pub resting : allowance < 2 ^ 32 → (weightBy e ≤ left → IsOther e) → Resting ys c t left byte e
+        unfolding meaning
+        resting small told =
+            let sized : length ys ≡ size = back .sized ∙ busy .sounding .sized in
+            let low : c < 4 = omega (arith, busy .core, busy .sounding .sound .sized .most) in
+            let units : meaning ys ws ms .units ≡ allowance - left = ap (λ (x : State). x .units) (put ys back) in
+            let linked = linked-below j (meaning ys ws ms) ok t in
+            record {
+              leaving = record { sized = sized; core = low; number = busy .number; linked = linked };
+              carrying = λ enough.
+                  let seated : Seated ys c t (weightOf standardWeights byte) = record {
+                    sized = sized;
+                    core = low;
+                    number = busy .number;
+                    units = omega (arith, units, enough, made .few, small);
+                    base = rw same (based j (held p left ws ms) sound t (movedTo p th₀) met used);
+                  } in
+                  let other : IsOther e = ⊎-elim (λ o. o) (λ own. told (omega (arith, weighs own, enough))) (kind e) in
+                  carrying (argumentsOf image) (slotOf ws (th₀ .base)) (isPending (th₀ .pending)) (th₀ .window) ys c t (weightOf standardWeights byte)
+                  (sym (ap (λ (h : Thread). h .window) same)) seated linked (rw same (few j (held p left ws ms) sound t (movedTo p th₀) met used))
+                  (free-first j (meaning ys ws ms) ok) (stacklet-first j (meaning ys ws ms) ok) e guarded other;
+            }
+
+        pub ends-rest : (more log : ℕ) (zs vs : List ℕ) → k ≤ more
+            → after log zs vs ms ≡ restOf j (meaning ys ws ms) (turnIn ys c t (weightOf standardWeights byte) ((p + bytesBy e) % 2 ^ 16) place) e left byte (th₀ .children)
+            → Repeats j s₀ (Step c) more (record { again = k; log = log }) (meaning zs vs ms)
+        unfolding entryOf
+        ends-rest more log zs vs l f = record {
+          few = l;
+          accepts = made .accepts;
+          stays = made .stays;
+          last = f
+              ∙ ap (λ (x : State). restOf j x (turnIn ys c t (weightOf standardWeights byte) ((p + bytesBy e) % 2 ^ 16) place) e left byte (th₀ .children)) (put ys back)
+              ∙ ap (λ (h : Thread). restOf j (held p left ws ms) (turnWith c t h (weightOf standardWeights byte) ((p + bytesBy e) % 2 ^ 16) place) e left byte (th₀ .children)) same
+              ∙ stepped ∙ ap (λ (x : State). stepOf j x c) (sym (made .state));
+        }
