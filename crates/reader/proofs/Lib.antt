@@ -1,2 +1,4 @@
 -- The laws of `reader`.
+pub mod Pairs
+pub mod Rows
 pub mod StepCore

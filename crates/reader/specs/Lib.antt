@@ -1,2 +1,3 @@
--- The definition that a contract of `reader` cites.
+-- The definitions that contracts of `reader` cite.
+pub mod Row
 pub mod StepCore

@@ -1,5 +1,6 @@
 -- Counting entry by entry gives the count of the whole: what is left, with the entries counted so far, counts as the schedule does. Assumes nothing.
 use mathlib.Core.Path.{_≡_, refl, ap, sym, _∙_}
+use mathlib.Core.Bool.{true}
 use mathlib.Core.List.{List, []}
 use Prim.Native.Nat.{ℕ, _+_, _≤_, _<_}
 use native.Mathlib.Nat.{zero-add, add-zero}
@@ -8,7 +9,9 @@ use borrow.Author.Tests.{lt-ltb, le-ltb}
 use lib.ListN.{length, drop}
 use Rattle.schedule.proofs.Standing.{Found-at, found}
 use Rattle.schedule.proofs.Following.{follow, follows}
+use Rattle.schedule.proofs.Four.{Steps, steps}
 use Rattle.schedule.specs.Format.{entryAt}
+use Rattle.schedule.specs.Four.{fourSteps}
 use Rattle.schedule.specs.Meaning.{Schedule, entries, malformed, prepend, entriesOf, scheduleOf, numberOf, countOf, numberOfCount, Counts}
 use Rattle.schedule.specs.declared.Entry.{Entry}
 use Rattle.schedule.specs.declared.EntryRead.the-variants.{Found, End, Malformed as Bad}
@@ -57,6 +60,16 @@ module _ (s : List ℕ) (at n : ℕ) (so : Sofar s at n) where
   spoils h =
       let k : entriesOf (drop at s) ≡ malformed = follows s at ∙ ap (follow s) h in
       ap (λ (x : Schedule). more n (countOf x)) (sym k) ∙ so .same
+
+-- four steps are four entries
+pub goes-on-four : (s : List ℕ) (at n : ℕ) → Sofar s at n → fourSteps s at ≡ true → Sofar s (at + 8) (n + 4)
+goes-on-four s at n so h =
+    let f : Steps s at = steps s at h in
+    let one : Sofar s (at + 2) (n + 1) = goes-on s at n so _ _ (f .first) in
+    let two : Sofar s (at + 4) (n + 1 + 1) = goes-on s (at + 2) _ one _ _ (f .second) in
+    let three : Sofar s (at + 6) (n + 1 + 1 + 1) = goes-on s (at + 4) _ two _ _ (f .third) in
+    let all : n + 4 ≡ n + 1 + 1 + 1 + 1 = omega arith in
+    rw all (goes-on s (at + 6) _ three _ _ (f .fourth))
 
 numbers : (x : Schedule) → numberOfCount (countOf x) ≡ numberOf x
 numbers (entries es) = refl

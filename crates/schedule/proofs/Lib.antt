@@ -1,7 +1,9 @@
 -- The laws that the proofs of `schedule` and of the crates above it cite.
+pub mod Bools
 pub mod Standing
 pub mod Following
 pub mod Positions
+pub mod Four
 pub mod Counting
 pub mod Writing
 pub mod Examples

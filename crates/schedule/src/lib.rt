@@ -3,11 +3,15 @@
 ghost use mathlib.Core.Path.{_≡_};
 ghost use mathlib.Core.List.{[], _∷_};
 ghost use Rattle.schedule.specs.Format.{bytesOf, entryAt};
+ghost use Rattle.schedule.specs.Four.{fourSteps};
 ghost use Rattle.schedule.specs.Meaning.{Counts};
 ghost use Rattle.schedule.specs.Writing.{Writes};
 
 // The longest schedule, in bytes.
 const LONGEST: usize = 32768;
+
+// The byte of a step.
+const STEP: u8 = 1;
 
 // One entry: 01 c, 02 c, 03 c t, 04 t.
 pub enum Entry {
@@ -54,7 +58,7 @@ pub fn read(schedule: &[u8], at: usize) -> EntryRead
     }
     let kind = schedule[at];
     let first = schedule[at + 1];
-    if kind == 1 {
+    if kind == STEP {
         return EntryRead::Found(Entry::Step(first), at + 2);
     }
     if kind == 2 {
@@ -73,7 +77,30 @@ pub fn read(schedule: &[u8], at: usize) -> EntryRead
     EntryRead::Found(Entry::Steal(first, second), at + 3)
 }
 
-// The number of entries of a whole schedule, each byte looked at once.
+// Do four steps stand at a position? They are looked at together, since most schedules are steps.
+fn four_steps(schedule: &[u8], at: usize) -> bool
+    ensures { λ r. ⌜ r ≡ fourSteps (now (schedule .entry)) at ⌝ }
+{
+    let length = schedule.len();
+    if length < 8 {
+        return false;
+    }
+    if length - 8 < at {
+        return false;
+    }
+    if schedule[at] != STEP {
+        return false;
+    }
+    if schedule[at + 2] != STEP {
+        return false;
+    }
+    if schedule[at + 4] != STEP {
+        return false;
+    }
+    schedule[at + 6] == STEP
+}
+
+// The number of entries of a whole schedule, four steps at once where they stand.
 pub fn count(schedule: &[u8]) -> Counted
     ensures { λ r. ⌜ Counts (now (schedule .entry)) r ⌝ }
 {
@@ -83,6 +110,11 @@ pub fn count(schedule: &[u8]) -> Counted
     let mut at: usize = 0;
     let mut entries: usize = 0;
     loop {
+        if four_steps(schedule, at) {
+            at = at + 8;
+            entries = entries + 4;
+            continue;
+        }
         let next = read(schedule, at);
         match next {
             EntryRead::Found(_, after) => {
@@ -133,7 +165,7 @@ pub fn write(entry: Entry, buffer: &mut [u8], at: usize) -> Written
     ensures { λ r. ⌜ Writes (bytesOf entry) (now (buffer .entry)) at r (now (buffer .exit)) ⌝ }
 {
     match entry {
-        Entry::Step(c) => write_two(1, c, buffer, at),
+        Entry::Step(c) => write_two(STEP, c, buffer, at),
         Entry::Take(c) => write_two(2, c, buffer, at),
         Entry::Steal(c, t) => write_three(3, c, t, buffer, at),
         Entry::Enable(t) => write_two(4, t, buffer, at),
