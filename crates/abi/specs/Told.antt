@@ -2,6 +2,7 @@
 use mathlib.Core.List.{List}
 use mathlib.Core.Path.{_≡_}
 use Prim.Native.Nat.{ℕ}
+use Rattle.tables.specs.Meaning.{meaning}
 use Rattle.demands.specs.Input.{Input}
 use Rattle.run.specs.declared.Ran.{Ran}
 use Rattle.run.specs.Promise.{Promise}
@@ -12,4 +13,4 @@ pub record RunTold (i : Input) (schedule log memoryAfter logAfter answer statuse
   pub ran : Ran
   pub promise : Promise i schedule log ran memoryAfter logAfter
   pub answered : answer ≡ answerWords (ran .answer)
-  pub counted : statuses ≡ statusesUpTo (ran .machine .threads) 32
+  pub counted : statuses ≡ statusesUpTo (meaning (ran .tables) (ran .words) memoryAfter .threads) 32

@@ -1,3 +1,4 @@
--- In reading order: what is left of a schedule; and a thread's steps one after another.
+-- In reading order: the entries at a schedule's front; entries in a row; and what is left of a schedule.
+pub mod Leading
+pub mod Rowing
 pub mod Playing
-pub mod Holding

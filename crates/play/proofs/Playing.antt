@@ -1,108 +1,118 @@
 -- A schedule's entries one after another: what is left, from the present state on, gives what the whole gives from the first state, and
 -- every state on the way is sound. Assumes nothing.
 use mathlib.Core.List.{List, [], _∷_, _++_, append-nil, append-assoc}
-use mathlib.Core.Path.{_≡_, refl, sym, _∙_, ap}
-use Prim.Native.Nat.{ℕ, suc, _+_, _≤_, _<_}
+use mathlib.Core.Path.{_≡_, refl, sym, ap, subst, _∙_}
+use Prim.Native.Nat.{ℕ, zero, suc, _+_, _-_, _*_, _≤_, _<_}
 use native.Mathlib.Numerals.{add-one}
+use native.Mathlib.Nat.{zero-add, suc-add}
 use native.Mathlib.Omega.{arith}
-use lib.ListN.{length, getD, drop, set, length-append}
-use lib.Seq.{drop-cons, set-at}
+use lib.ListN.{length, take, drop, set, replicate, length-append, length-replicate}
 use Rattle.schedule.specs.declared.Entry.{Entry}
-use Rattle.schedule.specs.declared.EntryRead.the-variants.{Found, End}
+use Rattle.schedule.specs.declared.Entry.the-variants.{Step}
+use Rattle.schedule.specs.declared.EntryRead.the-variants.{Found}
 use Rattle.schedule.specs.Format.{entryAt}
-use Rattle.schedule.specs.Meaning.{entries, entriesOf, scheduleOf}
-use Rattle.schedule.proofs.Following.{read-entry, read-end, accepted}
+use Rattle.reader.specs.Row.{Row}
 use Rattle.rules.specs.State.{Job, State, After}
 use Rattle.rules.specs.Rules.{entryOf}
 use Rattle.rules.specs.Sound.{Sound}
-use Rattle.rules.specs.Runs.{runFrom, logsFrom}
-use Rattle.soundness.proofs.Kept.{entry-sound}
-use Rattle.play.specs.Entries.{Playable, Played}
+use Rattle.rules.specs.Runs.{runFrom, logsFrom, logged}
+use Rattle.rules.proofs.Laws.{run-append, logs-many}
+use Rattle.soundness.proofs.Kept.{entries-sound}
+use Rattle.play.specs.Entries.{leading, playable, Played}
+use Rattle.play.specs.Rows.{LogsOn, RowPlayed}
+use Rattle.play.proofs.Leading.{leads-found, leads-row}
+use Rattle.play.proofs.Rowing.{logs-append, put-on}
 
 -- k entries have been met, and the log has a byte for each
 pub record Left (j : Job) (s₀ : State) (schedule log₀ : List ℕ) (s : State) (at k : ℕ) (logNow : List ℕ) : Type 0 where
-  pub all : List Entry
-  pub means : scheduleOf schedule ≡ entries all
-  pub rest : List Entry
-  pub here : entriesOf (drop at schedule) ≡ entries rest
   pub sound : Sound j s
-  pub state : runFrom j s rest ≡ runFrom j s₀ all
+  pub within : k ≤ length log₀
+  pub state : runFrom j s (take (length log₀ - k) (leading (drop at schedule))) ≡ runFrom j s₀ (playable schedule log₀)
   pub done : List ℕ
   pub many : length done ≡ k
-  pub logs : done ++ logsFrom j s rest ≡ logsFrom j s₀ all
-  pub log : logNow ≡ done ++ drop k log₀
-  pub room : k + length rest ≤ length log₀
+  pub logs : done ++ logsFrom j s (take (length log₀ - k) (leading (drop at schedule))) ≡ logsFrom j s₀ (playable schedule log₀)
+  pub log : logNow ≡ logged log₀ done
 
--- a list cut where another begins, with one element put there
-put : (done log₀ : List ℕ) (k v : ℕ) → length done ≡ k → k < length log₀
-    → set (done ++ drop k log₀) k v ≡ (done ++ (v ∷ [])) ++ drop (k + 1) log₀
-put done log₀ k v m h =
-    ap (λ (l : List ℕ). set (done ++ l) k v) (drop-cons log₀ k 0 h)
-    ∙ set-at done (getD log₀ k 0) (drop (suc k) log₀) v k m
-    ∙ sym (append-assoc done (v ∷ []) (drop (suc k) log₀))
-    ∙ ap (λ (n : ℕ). (done ++ (v ∷ [])) ++ drop n log₀) (sym (add-one k))
+take-over : (es fs : List Entry) (n : ℕ) → take (length es + n) (es ++ fs) ≡ es ++ take n fs
+take-over [] fs n = ap (λ (k : ℕ). take k fs) (zero-add n)
+take-over (e ∷ es) fs n = ap (λ (k : ℕ). take k (e ∷ es ++ fs)) (suc-add (length es) n) ∙ ap (λ (l : List Entry). e ∷ l) (take-over es fs n)
+
+abbrev none : List Entry
+none = []
+
+take-none : (n : ℕ) → take n [] ≡ none
+take-none zero = refl
+take-none (suc n) = refl
 
 module _ (j : Job) (s₀ : State) (schedule log₀ : List ℕ) where
-  pub begins : Playable j s₀ schedule log₀ → Left j s₀ schedule log₀ s₀ 0 0 log₀
-  begins p = record {
-    all = p .all;
-    means = p .means;
-    rest = p .all;
-    here = accepted schedule (p .all) (p .means) .means;
-    sound = p .sound;
-    state = refl;
-    done = [];
-    many = refl;
-    logs = refl;
-    log = refl;
-    room = omega (arith, p .room);
-  }
+  pub begins : Sound j s₀ → Left j s₀ schedule log₀ s₀ 0 0 log₀
+  begins ok =
+      let whole : length log₀ - 0 ≡ length log₀ = omega arith in
+      record {
+        sound = ok;
+        within = omega arith;
+        state = ap (λ (n : ℕ). runFrom j s₀ (take n (leading schedule))) whole;
+        done = [];
+        many = refl;
+        logs = ap (λ (n : ℕ). logsFrom j s₀ (take n (leading schedule))) whole;
+        log = refl;
+      }
 
   module _ (s : State) (at k : ℕ) (log : List ℕ) (left : Left j s₀ schedule log₀ s at k log) where
-    -- the log has room for the entry that is read
-    pub has-room : (e : Entry) (next : ℕ) → entryAt schedule at ≡ Found e next → k < length log₀
-    has-room e next h =
-        let r = read-entry schedule at (left .rest) (left .here) e next h in
-        let n : length (left .rest) ≡ suc (length (r .others)) = ap length (r .first) in
-        omega (arith, left .room, n)
-
-    -- an entry is met
-    pub goes : (e : Entry) (next : ℕ) (a : After) → entryAt schedule at ≡ Found e next → a ≡ entryOf j s e
-        → Left j s₀ schedule log₀ (a .state) next (k + 1) (set log k (a .log))
-    unfolding runFrom logsFrom
-    goes e next a h q =
-        let r = read-entry schedule at (left .rest) (left .here) e next h in
-        let n : length (left .rest) ≡ suc (length (r .others)) = ap length (r .first) in
-        let st : a .state ≡ entryOf j s e .state = ap (λ (x : After). x .state) q in
-        let lg : a .log ≡ entryOf j s e .log = ap (λ (x : After). x .log) q in
-        rw (st, lg)
-        (record {
-          all = left .all;
-          means = left .means;
-          rest = r .others;
-          here = r .rest;
-          sound = entry-sound j s (left .sound) e;
-          state = ap (runFrom j s) (sym (r .first)) ∙ left .state;
-          done = left .done ++ (entryOf j s e .log ∷ []);
-          many = length-append (left .done) (entryOf j s e .log ∷ []) ∙ ap (λ (m : ℕ). m + 1) (left .many);
-          logs = append-assoc (left .done) (entryOf j s e .log ∷ []) (logsFrom j (entryOf j s e .state) (r .others))
-              ∙ ap (λ (l : List Entry). left .done ++ logsFrom j s l) (sym (r .first)) ∙ left .logs;
-          log = ap (λ (l : List ℕ). set l k (entryOf j s e .log)) (left .log)
-              ∙ put (left .done) log₀ k (entryOf j s e .log) (left .many) (has-room e next h);
-          room = omega (arith, left .room, n);
-        })
-
-    -- no entry is left
-    pub ends : entryAt schedule at ≡ End → Played j s₀ schedule log₀ s log
-    unfolding runFrom logsFrom
-    ends h =
-        let none : left .rest ≡ [] = read-end schedule at (left .rest) (left .here) h in
-        let logs : left .done ≡ logsFrom j s₀ (left .all) =
-        sym (append-nil (left .done)) ∙ ap (λ (l : List Entry). left .done ++ logsFrom j s l) (sym none) ∙ left .logs
+    -- entries are met
+    pub goes : (es : List Entry) (next : ℕ) (s' : State) (log' : List ℕ) → leading (drop at schedule) ≡ es ++ leading (drop next schedule)
+        → k + length es ≤ length log₀ → s' ≡ runFrom j s es → LogsOn log k (logsFrom j s es) log' → Left j s₀ schedule log₀ s' next (k + length es) log'
+    goes es next s' log' here room is on =
+        let rest = take (length log₀ - (k + length es)) (leading (drop next schedule)) in
+        let count : length log₀ - k ≡ length es + (length log₀ - (k + length es)) = omega (arith, room) in
+        let all : take (length log₀ - k) (leading (drop at schedule)) ≡ es ++ rest =
+        ap (take (length log₀ - k)) here ∙ ap (λ (n : ℕ). take n (es ++ leading (drop next schedule))) count ∙ take-over es (leading (drop next schedule)) (length log₀ - (k + length es))
         in
         record {
-          all = left .all;
-          means = left .means;
-          state = ap (runFrom j s) (sym none) ∙ left .state;
-          log = left .log ∙ ap (λ (n : ℕ). left .done ++ drop n log₀) (sym (left .many)) ∙ ap (λ (l : List ℕ). l ++ drop (length l) log₀) logs;
+          sound = subst (Sound j) (sym is) (entries-sound j s (left .sound) es);
+          within = room;
+          state = ap (λ (x : State). runFrom j x rest) is ∙ sym (run-append j s es rest) ∙ ap (runFrom j s) (sym all) ∙ left .state;
+          done = left .done ++ logsFrom j s es;
+          many = length-append (left .done) (logsFrom j s es) ∙ omega (arith, left .many, logs-many j s es);
+          logs = ap (λ (x : State). (left .done ++ logsFrom j s es) ++ logsFrom j x rest) is ∙ append-assoc (left .done) (logsFrom j s es) (logsFrom j (runFrom j s es) rest)
+              ∙ ap (λ (l : List ℕ). left .done ++ l) (sym (logs-append j s es rest) ∙ ap (logsFrom j s) (sym all)) ∙ left .logs;
+          log = on log₀ (left .done) (left .log) (left .many);
         }
+
+    -- one entry
+    pub goes-one : (e : Entry) (next : ℕ) (a : After) → entryAt schedule at ≡ Found e next → k < length log → length log ≡ length log₀ → a ≡ entryOf j s e
+        → Left j s₀ schedule log₀ (a .state) next (k + 1) (set log k (a .log))
+    unfolding runFrom logsFrom
+    goes-one e next a here room same is =
+        goes (e ∷ []) next (a .state) (set log k (a .log)) (leads-found schedule at e next here) (omega (arith, room, same)) (ap (λ (x : After). x .state) is)
+        (subst (λ (n : ℕ). LogsOn log k (n ∷ []) (set log k (a .log))) (ap (λ (x : After). x .log) is) (put-on log k (a .log) room))
+
+    -- a row of steps
+    pub goes-row : (c next more follow : ℕ) (end : State) (log' : List ℕ) → entryAt schedule at ≡ Found (Step c) next → Row schedule next c more → follow ≤ more
+        → k + (follow + 1) ≤ length log₀ → RowPlayed j s (Step c) (follow + 1) log k end log'
+        → Left j s₀ schedule log₀ end (next + 2 * follow) (k + (follow + 1)) log'
+    goes-row c next more follow end log' here row few room played =
+        let es = replicate (follow + 1) (Step c) in
+        let many : length es ≡ follow + 1 = length-replicate (follow + 1) (Step c) in
+        let front : Step c ∷ replicate follow (Step c) ≡ es = ap (λ (n : ℕ). replicate n (Step c)) (sym (add-one follow)) in
+        let all : leading (drop at schedule) ≡ es ++ leading (drop (next + 2 * follow) schedule) =
+        leads-found schedule at (Step c) next here
+        ∙ ap (λ (l : List Entry). Step c ∷ l) (leads-row schedule c follow next (λ i l. row .each i (omega (arith, l, few))))
+        ∙ ap (λ (l : List Entry). l ++ leading (drop (next + 2 * follow) schedule)) front
+        in
+        subst (λ (n : ℕ). Left j s₀ schedule log₀ end (next + 2 * follow) (k + n) log') many
+        (goes es (next + 2 * follow) end log' all (omega (arith, many, room)) (played .state) (played .logs))
+
+    -- no entry is left, or no room for its log byte
+    pub ends : take (length log₀ - k) (leading (drop at schedule)) ≡ [] → Played j s₀ schedule log₀ s log
+    unfolding runFrom logsFrom
+    ends nothing = record {
+      state = ap (runFrom j s) (sym nothing) ∙ left .state;
+      log = left .log ∙ ap (logged log₀) (sym (append-nil (left .done)) ∙ ap (λ (l : List Entry). left .done ++ logsFrom j s l) (sym nothing) ∙ left .logs);
+    }
+
+    pub ends-full : length log₀ ≤ k → Played j s₀ schedule log₀ s log
+    ends-full full = let zero-left : length log₀ - k ≡ 0 = omega (arith, full) in ends (ap (λ (n : ℕ). take n (leading (drop at schedule))) zero-left)
+
+    pub ends-here : leading (drop at schedule) ≡ [] → Played j s₀ schedule log₀ s log
+    ends-here nothing = ends (ap (take (length log₀ - k)) nothing ∙ take-none (length log₀ - k))

@@ -1,25 +1,29 @@
--- What going through a schedule's entries relies on, and what it gives.
-use mathlib.Core.List.{List}
+-- What going through a schedule's entries gives.
+use mathlib.Core.Bool.{cond}
+use mathlib.Core.List.{List, [], _∷_}
 use mathlib.Core.Path.{_≡_}
-use Prim.Native.Nat.{ℕ, _≤_}
-use lib.ListN.{length}
+use Prim.Native.Nat.{ℕ}
+use lib.Dec.{eqb}
+use lib.ListN.{length, take}
 use Rattle.schedule.specs.declared.Entry.{Entry}
-use Rattle.schedule.specs.Meaning.{entries, scheduleOf}
+use Rattle.schedule.specs.declared.Entry.the-variants.{Steal}
+use Rattle.schedule.specs.Format.{oneOperand}
 use Rattle.thread.specs.Job.{Job}
 use Rattle.rules.specs.State.{State}
 use Rattle.rules.specs.Runs.{runFrom, logsFrom, logged}
-use Rattle.rules.specs.Sound.{Sound}
 
--- what playing entries relies on: a sound state, an accepted schedule and a log with room for its entries
-pub record Playable (j : Job) (s : State) (schedule log : List ℕ) : Type 0 where
-  pub all : List Entry
-  pub means : scheduleOf schedule ≡ entries all
-  pub room : length all ≤ length log
-  pub sound : Sound j s
+-- the entries at the front of some bytes, up to their end or up to bytes that are no entry
+unfoldable pub leading : List ℕ → List Entry
+leading [] = []
+leading (k ∷ []) = []
+leading (k ∷ x ∷ []) = oneOperand k x (λ e. e ∷ []) []
+leading (k ∷ x ∷ y ∷ rest) = cond (eqb k 3) (Steal x y ∷ leading rest) (oneOperand k x (λ e. e ∷ leading (y ∷ rest)) [])
 
--- what playing gives: the fold's state and log
+-- those that are met: as many as the log has room for
+abbrev pub playable : List ℕ → List ℕ → List Entry
+playable schedule log = take (length log) (leading schedule)
+
+-- the fold's state over them, and its log
 pub record Played (j : Job) (s : State) (schedule logBefore : List ℕ) (end : State) (logAfter : List ℕ) : Type 0 where
-  pub all : List Entry
-  pub means : scheduleOf schedule ≡ entries all
-  pub state : end ≡ runFrom j s all
-  pub log : logAfter ≡ logged logBefore (logsFrom j s all)
+  pub state : end ≡ runFrom j s (playable schedule logBefore)
+  pub log : logAfter ≡ logged logBefore (logsFrom j s (playable schedule logBefore))

@@ -1,2 +1,3 @@
--- The definitions that the contract of `play` cites.
+-- In reading order: what `play` gives; and what the inner functions give, for the code's contracts alone.
 pub mod Entries
+pub mod Rows

@@ -14,7 +14,7 @@ use Rattle.rules.specs.Rules.{entryOf}
 use Rattle.rules.specs.Runs.{runFrom, logsFrom}
 
 -- entries one after another
-run-append : (j : Job) (s : State) (before after : List Entry) → runFrom j s (before ++ after) ≡ runFrom j (runFrom j s before) after
+pub run-append : (j : Job) (s : State) (before after : List Entry) → runFrom j s (before ++ after) ≡ runFrom j (runFrom j s before) after
 unfolding runFrom
 run-append j s [] after = refl
 run-append j s (e ∷ before) after = run-append j (entryOf j s e .state) before after

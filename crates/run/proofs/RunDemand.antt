@@ -9,7 +9,7 @@ use Rattle.schedule.specs.Meaning.{entries, scheduleOf}
 use Rattle.rules.proofs.Laws.{run-next, logs-many}
 use Rattle.rules.specs.Runs.{logsFrom, runFrom, logged}
 use Rattle.rules.specs.State.{Outcome, going, finished, faulted}
-use Rattle.machine.specs.Meaning.{meaning}
+use Rattle.tables.specs.Meaning.{meaning}
 use Rattle.soundness.proofs.Unchanged.{unchanged}
 use Rattle.demands.proofs.Demands.{demand-2-logged, demand-3, sound-after}
 use Rattle.demands.proofs.Passing.{takes, has-room}
@@ -54,7 +54,7 @@ module _ (i : Input) (schedule log : List ℕ) (bytes : (k : ℕ) → getD (i .i
         run-next (jobIn i) (startIn i) before e ∙ unchanged (jobIn i) (runFrom (jobIn i) (startIn i) before) e low high;
   }
 
-  at-end : refusalOf i schedule log ≡ 0 → Demand3 i (meaning (r .machine) (r .words) memoryAfter)
+  at-end : refusalOf i schedule log ≡ 0 → Demand3 i (meaning (r .tables) (r .words) memoryAfter)
   at-end passes =
       let p = runs .played passes in
       subst (Demand3 i) (sym (p .2 .machine)) (demand-3 i (takes i schedule log passes bytes) (p .0))

@@ -1,21 +1,31 @@
 -- The parts of a run put together: Start, the tests, the entries and the answer make what the contract of `run` says. Assumes nothing.
 use mathlib.Core.List.{List}
-use mathlib.Core.Path.{_≡_, refl, sym, _∙_, ap}
-use Prim.Native.Nat.{ℕ, _<_}
-use lib.ListN.{getD}
+use mathlib.Core.Path.{_≡_, refl, sym, _∙_, ap, ap₂}
+use Prim.Native.Nat.{ℕ, _≤_, _<_}
+use lib.ListN.{length, getD, take}
+use lib.Seq.{take-all}
 use Rattle.image.specs.declared.Checked.{Checked}
 use Rattle.image.specs.declared.Verdict.{Verdict}
 use Rattle.image.specs.declared.Verdict.the-variants.{Accepted}
 use Rattle.image.specs.Layout.{programOf, startsIn}
 use Rattle.image.specs.Image.{imageVerdict, imageAnswer, numberIn, programFor}
 use Rattle.thread.specs.Job.{jobOf}
-use Rattle.rules.specs.State.{State}
-use Rattle.machine.specs.Meaning.{meaning, outcomeOf}
+use Rattle.rules.specs.State.{State, going}
+use Rattle.rules.specs.Sound.{Sound}
+use Rattle.rules.specs.Runs.{runFrom, logsFrom, logged}
+use Rattle.tables.specs.declared.Standing.{Standing}
+use Rattle.tables.specs.Meaning.{size, meaning}
+use Rattle.tables.specs.Change.{Reads, outcomeBy}
+use Rattle.entries.specs.Given.{Sounding, Starts}
+use Rattle.schedule.specs.declared.Entry.{Entry}
+use Rattle.schedule.specs.Meaning.{entries, scheduleOf}
+use Rattle.schedule.proofs.Following.{accepted}
+use Rattle.play.proofs.Leading.{leads-all}
 use Rattle.soundness.proofs.StartSound.{start-sound}
 use Rattle.demands.proofs.Passing.{takes, good, has-room}
-use Rattle.demands.specs.declared.RunAnswer.the-variants.{Refused}
+use Rattle.demands.specs.declared.RunAnswer.the-variants.{Refused, Open}
 use Rattle.demands.specs.Input.{Input, jobIn, startIn, refusalOf, answerOf}
-use Rattle.play.specs.Entries.{Playable, Played}
+use Rattle.play.specs.Entries.{playable, Played}
 use Rattle.run.specs.declared.Ran.{Ran}
 use Rattle.run.specs.declared.begin.Begun.{Begun}
 use Rattle.run.specs.Run.{RunsAs, Begins}
@@ -30,35 +40,40 @@ starts-of : (image : List ℕ) (checked : Checked) (starts : List ℕ) → check
 unfolding imageAnswer
 starts-of image checked starts e h a = h ∙ ap (λ (x : Checked). startsIn (x .program)) e ∙ ap (λ (v : Verdict). startsIn (programFor v image)) a
 
-module _ (i : Input) (schedule log : List ℕ) where
-  playable : refusalOf i schedule log ≡ 0 → ((k : ℕ) → getD (i .image) k 0 < 256) → Playable (jobIn i) (startIn i) schedule log
-  playable passes bytes =
-      let t = takes i schedule log passes bytes in
-      record {
-        all = has-room i schedule log passes .all;
-        means = has-room i schedule log passes .means;
-        room = has-room i schedule log passes .room;
-        sound = start-sound (jobIn i) (i .cores) (i .arguments) (i .memory) (good i t) (t .some) (t .most) (t .memory);
-      }
+-- how the machine stands as an answer
+pub told : (xs : List ℕ) (st : Standing) (u : ℕ) → Reads xs (outcomeBy st) (λ s. s .outcome) going → Reads xs u (λ s. s .units) 0
+    → Reads xs (answerOf (outcomeBy st) u) (λ s. answerOf (s .outcome) (s .units)) (Open 0)
+told xs st u o n = record {
+  means = λ l words memory. ap₂ answerOf (o .means l words memory) (n .means l words memory);
+  other = λ l. ap₂ answerOf (o .other l) (n .other l);
+}
 
-  pub begins : ((k : ℕ) → getD (i .image) k 0 < 256) → (b : Begun) (words : List ℕ) (checked : Checked) → checked ≡ imageAnswer (i .image)
-      → b .number ≡ refusalOf i schedule log → meaning (b .machine) words (i .memory) ≡ startIn i → b .starts ≡ startsIn (checked .program)
-      → Begins i schedule log b words
-  begins bytes b words checked answered number first given = record {
+module _ (i : Input) (schedule log : List ℕ) where
+  sound : refusalOf i schedule log ≡ 0 → ((k : ℕ) → getD (i .image) k 0 < 256) → Sound (jobIn i) (startIn i)
+  sound passes bytes =
+      let t = takes i schedule log passes bytes in
+      start-sound (jobIn i) (i .cores) (i .arguments) (i .memory) (good i t) (t .some) (t .most) (t .memory)
+
+  pub begins : ((k : ℕ) → getD (i .image) k 0 < 256) → (b : Begun) (checked : Checked) → checked ≡ imageAnswer (i .image)
+      → b .number ≡ refusalOf i schedule log → b .starts ≡ startsIn (checked .program) → Begins i schedule log b
+  begins bytes b checked answered number given = record {
     number = number;
-    machine = first;
     starts = λ passes. starts-of (i .image) checked (b .starts) answered given (takes i schedule log passes bytes .image);
   }
 
-  module _ (b : Begun) (words : List ℕ) (begun : Begins i schedule log b words) where
-    pub refuses : (b .number ≡ 0 → ⊥) → RunsAs i schedule log (record { answer = Refused (b .number); machine = b .machine; words = words }) (i .memory) log
+  module _ (b : Begun) (xs ys ws vs : List ℕ) (begun : Begins i schedule log b) (start : Starts (i .image) (i .arguments) (i .cores) xs ys ws vs)
+      (sized : length xs ≡ size) (wide : length ws ≡ 1024) where
+    pub first : meaning ys vs (i .memory) ≡ startIn i
+    first = start .means sized wide (startsIn (programOf (i .image))) (i .parameters) (i .memory) (i .allowance)
+
+    pub refuses : (b .number ≡ 0 → ⊥) → RunsAs i schedule log (record { answer = Refused (b .number); tables = ys; words = vs }) (i .memory) log
     refuses some = record {
       refused = λ _. record {
         answer = ap Refused (begun .number);
         number = begun .number;
         memory = refl;
         log = refl;
-        machine = begun .machine;
+        machine = first;
       };
       played = λ z. absurd (some (begun .number ∙ z));
     }
@@ -67,27 +82,35 @@ module _ (i : Input) (schedule log : List ℕ) where
       passes : refusalOf i schedule log ≡ 0
       passes = sym (begun .number) ∙ none
 
-      pub ready : ((k : ℕ) → getD (i .image) k 0 < 256)
-          → Playable (jobOf (i .image) (b .starts) (i .parameters) (i .allowance)) (meaning (b .machine) words (i .memory)) schedule log
-      ready bytes = rw (begun .starts passes, begun .machine) (playable passes bytes)
+      pub ready : length ys ≡ size → ((k : ℕ) → getD (i .image) k 0 < 256)
+          → Sounding (i .image) (b .starts) (i .parameters) (i .allowance) ys vs (i .memory)
+      ready same bytes = record { sized = same; sound = rw (begun .starts passes, first) (sound passes bytes) }
+
+      -- all entries of an accepted schedule are met, where the log has room for them
+      all-met : (es : List Entry) → scheduleOf schedule ≡ entries es → length es ≤ length log → playable schedule log ≡ es
+      all-met es means room = ap (take (length log)) (leads-all schedule es 0 (accepted schedule es means .means)) ∙ take-all (length log) es room
 
       pub plays : (r : Ran) (memoryAfter logAfter : List ℕ)
-          → Played (jobOf (i .image) (b .starts) (i .parameters) (i .allowance)) (meaning (b .machine) words (i .memory)) schedule log
-          (meaning (r .machine) (r .words) memoryAfter) logAfter
-          → r .answer ≡ answerOf (outcomeOf (r .machine)) (r .machine .units) → RunsAs i schedule log r memoryAfter logAfter
+          → Played (jobOf (i .image) (b .starts) (i .parameters) (i .allowance)) (meaning ys vs (i .memory)) schedule log (meaning (r .tables) (r .words) memoryAfter) logAfter
+          → r .answer ≡ answerOf (meaning (r .tables) (r .words) memoryAfter .outcome) (meaning (r .tables) (r .words) memoryAfter .units)
+          → RunsAs i schedule log r memoryAfter logAfter
       unfolding meaning
       plays r memoryAfter logAfter p a =
-          let q : Played (jobIn i) (startIn i) schedule log (meaning (r .machine) (r .words) memoryAfter) logAfter = rw (begun .starts passes, begun .machine) at p in
+          let q : Played (jobIn i) (startIn i) schedule log (meaning (r .tables) (r .words) memoryAfter) logAfter = rw (begun .starts passes, first) at p in
+          let room = has-room i schedule log passes in
+          let es = room .all in
+          let met : playable schedule log ≡ es = all-met es (room .means) (room .room) in
+          let state : meaning (r .tables) (r .words) memoryAfter ≡ runFrom (jobIn i) (startIn i) es = q .state ∙ ap (runFrom (jobIn i) (startIn i)) met in
           record {
             refused = λ some. absurd (some passes);
             played = λ _. (
-              q .all,
-              q .means,
+              es,
+              room .means,
               record {
-                answer = a ∙ ap (λ (x : State). answerOf (x .outcome) (x .units)) (q .state);
-                memory = ap (λ (x : State). x .memory) (q .state);
-                log = q .log;
-                machine = q .state;
+                answer = a ∙ ap (λ (x : State). answerOf (x .outcome) (x .units)) state;
+                memory = ap (λ (x : State). x .memory) state;
+                log = q .log ∙ ap (λ (l : List Entry). logged log (logsFrom (jobIn i) (startIn i) l)) met;
+                machine = state;
               },
             );
           }

@@ -4,7 +4,7 @@ use mathlib.Core.Path.{_≡_}
 use Prim.Native.Nat.{ℕ}
 use Rattle.schedule.specs.declared.Entry.{Entry}
 use Rattle.schedule.specs.Meaning.{entries, scheduleOf}
-use Rattle.machine.specs.Meaning.{meaning}
+use Rattle.tables.specs.Meaning.{meaning}
 use Rattle.demands.specs.Input.{Input, refusalOf}
 use Rattle.demands.specs.Demands.{Demand1, Demand2, Demand3}
 use Rattle.run.specs.declared.Ran.{Ran}
@@ -15,4 +15,4 @@ pub record Promise (i : Input) (schedule log : List ℕ) (r : Ran) (memoryAfter 
   pub demand1 : Demand1 i schedule log (r .answer) memoryAfter logAfter
   pub demand2 : (es : List Entry) → scheduleOf schedule ≡ entries es → refusalOf i schedule log ≡ 0 → Demand2 i es logAfter
   -- "the following holds at the schedule's end"
-  pub demand3 : refusalOf i schedule log ≡ 0 → Demand3 i (meaning (r .machine) (r .words) memoryAfter)
+  pub demand3 : refusalOf i schedule log ≡ 0 → Demand3 i (meaning (r .tables) (r .words) memoryAfter)

@@ -6,35 +6,33 @@ use Rattle.image.specs.Layout.{programOf, startsIn}
 use Rattle.schedule.specs.declared.Entry.{Entry}
 use Rattle.schedule.specs.Meaning.{entries, scheduleOf}
 use Rattle.rules.specs.Runs.{runFrom, logsFrom, logged}
-use Rattle.machine.specs.Meaning.{meaning}
+use Rattle.tables.specs.Meaning.{meaning}
 use Rattle.demands.specs.declared.RunAnswer.the-variants.{Refused}
 use Rattle.demands.specs.Input.{Input, jobIn, startIn, refusalOf, answerOf, numberOfAnswer}
 use Rattle.run.specs.declared.Ran.{Ran}
 use Rattle.run.specs.declared.begin.Begun.{Begun}
 
--- a run that is refused: its number alone, and "nothing written"; the machine beside it is as at Start
+-- a run that is refused: its number alone, and "nothing written"; the tables beside it are as at Start
 pub record IsRefused (i : Input) (n : ℕ) (logBefore : List ℕ) (r : Ran) (memoryAfter logAfter : List ℕ) : Type 0 where
   pub answer : r .answer ≡ Refused n
   pub number : numberOfAnswer (r .answer) ≡ n
   pub memory : memoryAfter ≡ i .memory
   pub log : logAfter ≡ logBefore
-  pub machine : meaning (r .machine) (r .words) memoryAfter ≡ startIn i
+  pub machine : meaning (r .tables) (r .words) memoryAfter ≡ startIn i
 
 -- a run by entries: the fold's outcome and units, its memory, a log byte for each entry, and its state in the machine
 pub record IsPlayed (i : Input) (es : List Entry) (logBefore : List ℕ) (r : Ran) (memoryAfter logAfter : List ℕ) : Type 0 where
   pub answer : r .answer ≡ answerOf (runFrom (jobIn i) (startIn i) es .outcome) (runFrom (jobIn i) (startIn i) es .units)
   pub memory : memoryAfter ≡ runFrom (jobIn i) (startIn i) es .memory
   pub log : logAfter ≡ logged logBefore (logsFrom (jobIn i) (startIn i) es)
-  pub machine : meaning (r .machine) (r .words) memoryAfter ≡ runFrom (jobIn i) (startIn i) es
+  pub machine : meaning (r .tables) (r .words) memoryAfter ≡ runFrom (jobIn i) (startIn i) es
 
 -- what a run gives: a refusal by the first whole-run test that is met, else the run by the schedule's entries
 pub record RunsAs (i : Input) (schedule log : List ℕ) (r : Ran) (memoryAfter logAfter : List ℕ) : Type 0 where
   pub refused : (refusalOf i schedule log ≡ 0 → ⊥) → IsRefused i (refusalOf i schedule log) log r memoryAfter logAfter
   pub played : refusalOf i schedule log ≡ 0 → (es : List Entry) × (scheduleOf schedule ≡ entries es) × IsPlayed i es log r memoryAfter logAfter
 
--- what stands before the first entry: the number of the first whole-run test that is met, Start's state, and, where none is met, where the
--- codes start
-pub record Begins (i : Input) (schedule log : List ℕ) (r : Begun) (words : List ℕ) : Type 0 where
+-- what stands before the first entry: the number of the first whole-run test that is met, and, where none is met, where the codes start
+pub record Begins (i : Input) (schedule log : List ℕ) (r : Begun) : Type 0 where
   pub number : r .number ≡ refusalOf i schedule log
-  pub machine : meaning (r .machine) words (i .memory) ≡ startIn i
   pub starts : refusalOf i schedule log ≡ 0 → r .starts ≡ startsIn (programOf (i .image))

@@ -1,23 +1,20 @@
 // What stands before a run's first entry: the whole-run tests, the machine at Start, and where the routines' codes start.
 use crate::refusal::refusal;
+use entries::start::start;
 use image::number::image_number;
-use machine::Machine;
-use machine::start::start;
-ghost use mathlib.Core.Path.{_≡_};
 ghost use Prim.Native.Nat.{ℕ};
-ghost use lib.ListN.{length};
+ghost use Rattle.entries.specs.Given.{Starts};
 ghost use Rattle.run.specs.Run.{Begins};
 
 // A run at its beginning.
 pub struct Begun {
     // the number of the first whole-run test that is met, or 0
     pub number: u8,
-    pub machine: Machine,
     // where each routine's code starts, if no test is met
     pub starts: [u16; 32],
 }
 
-// Tests a run's input and makes its machine. It takes any input; the words are the 1024 of the stacklets. The image is checked once, for the
+// Tests a run's input, and brings the machine's tables and the stacklets' words to Start. It takes any input. The image is checked once, for the
 // tests and for the starts. A run by a schedule and the scheduler's run both begin here, so that neither has the other's loop in it.
 pub fn begin(
     image: &[u8],
@@ -27,11 +24,13 @@ pub fn begin(
     memory: &[u32],
     schedule: &[u8],
     log: &[u8],
+    tables: &mut [u8],
     words: &mut [u32],
 ) -> Begun
-    ensures { λ r. ⌜ (length (now (words .entry)) ≡ 1024 → (allowance : ℕ) → Begins (record { image = now (image .entry); cores = cores; arguments = now (arguments .entry); parameters = now (parameters .entry); memory = now (memory .entry); allowance = allowance }) (now (schedule .entry)) (now (log .entry)) r (now (words .exit))) ⌝ }
+    ensures tests { λ r. ⌜ ((allowance : ℕ) → Begins (record { image = now (image .entry); cores = cores; arguments = now (arguments .entry); parameters = now (parameters .entry); memory = now (memory .entry); allowance = allowance }) (now (schedule .entry)) (now (log .entry)) r) ⌝ }
+    ensures start { λ r. ⌜ Starts (now (image .entry)) (now (arguments .entry)) cores (now (tables .entry)) (now (tables .exit)) (now (words .entry)) (now (words .exit)) ⌝ }
 {
-    let machine = start(image, cores, arguments, words);
+    start(image, cores, arguments, tables, words);
     let checked = image::check(image);
     let verdict = checked.verdict;
     let number = refusal(
@@ -46,9 +45,5 @@ pub fn begin(
     );
     let program = checked.program;
     let starts = program.starts();
-    Begun {
-        number,
-        machine,
-        starts,
-    }
+    Begun { number, starts }
 }

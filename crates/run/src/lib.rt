@@ -7,14 +7,13 @@ pub mod tell;
 use crate::begin::begin;
 use crate::tell::answer;
 pub use demands::RunAnswer;
-use machine::Machine;
 use play::play;
 ghost use Rattle.run.specs.Promise.{Promise};
 
-// The answer, with the machine as the run left it and the words of its stacklets.
+// The answer, with the machine's tables as the run left them and the words of its stacklets.
 pub struct Ran {
     pub answer: RunAnswer,
-    pub machine: Machine,
+    pub tables: [u8; 712],
     pub words: [u32; 1024],
 }
 
@@ -31,6 +30,7 @@ pub fn run(
 ) -> Ran
     ensures { λ r. ⌜ Promise (record { image = now (image .entry); cores = cores; arguments = now (arguments .entry); parameters = now (parameters .entry); memory = now (memory .entry); allowance = allowance }) (now (schedule .entry)) (now (log .entry)) r (now (memory .exit)) (now (log .exit)) ⌝ }
 {
+    let mut tables = [0u8; 712];
     let mut words = [0u32; 1024];
     let begun = begin(
         image,
@@ -40,32 +40,33 @@ pub fn run(
         memory,
         schedule,
         log,
+        &mut tables,
         &mut words,
     );
-    let machine = begun.machine;
     let number = begun.number;
     if number != 0 {
         return Ran {
             answer: RunAnswer::Refused(number),
-            machine,
+            tables,
             words,
         };
     }
     let starts = begun.starts;
-    let end = play(
-        machine,
+    play(
         schedule,
         log,
         image,
         &starts,
         parameters,
+        allowance,
+        &mut tables,
         &mut words,
         memory,
-        allowance,
     );
+    let answer = answer(&tables);
     Ran {
-        answer: answer(end),
-        machine: end,
+        answer,
+        tables,
         words,
     }
 }

@@ -1,26 +1,28 @@
-// A machine's state told as an answer.
+// How a machine stands told as an answer.
 use crate::RunAnswer;
-use machine::Machine;
-ghost use mathlib.Core.Path.{_≡_};
-ghost use Rattle.machine.specs.Meaning.{outcomeOf};
+use tables::Standing;
+use tables::marks::standing;
+use tables::marks::units;
+ghost use Rattle.tables.specs.Change.{Reads};
+ghost use Rattle.demands.specs.declared.RunAnswer.the-variants.{Open};
 ghost use Rattle.demands.specs.Input.{answerOf};
 
-// How the machine stands.
-pub fn answer(m: Machine) -> RunAnswer
-    ensures { λ r. ⌜ r ≡ answerOf (outcomeOf m) (m .units) ⌝ }
+// How the machine stands, by its tables. Tables of another size tell an open machine with no units.
+pub fn answer(tables: &[u8]) -> RunAnswer
+    ensures { λ r. ⌜ Reads (now (tables .entry)) r (λ s. answerOf (s .outcome) (s .units)) (Open 0) ⌝ }
 {
-    if m.over == 0 {
-        return RunAnswer::Open { units: m.units };
-    }
-    if m.over == 1 {
-        return RunAnswer::Finished {
-            result: m.result,
-            units: m.units,
-        };
-    }
-    RunAnswer::Faulted {
-        number: m.fault,
-        thread: m.fault_thread,
-        offset: m.fault_offset,
+    let so_far = units(tables);
+    let stands = standing(tables);
+    match stands {
+        Standing::Open => RunAnswer::Open { units: so_far },
+        Standing::Finished(result) => RunAnswer::Finished {
+            result,
+            units: so_far,
+        },
+        Standing::Faulted(number, thread, offset) => RunAnswer::Faulted {
+            number,
+            thread,
+            offset,
+        },
     }
 }

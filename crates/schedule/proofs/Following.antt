@@ -23,7 +23,7 @@ follow s End = entries []
 follow s Malformed = malformed
 
 -- a function of what is made of an entry with one operand
-one-map : {A B : Type 0} (f : A → B) (x : ℕ) (g : Entry → A) (u : A) (a b c : Bool)
+pub one-map : {A B : Type 0} (f : A → B) (x : ℕ) (g : Entry → A) (u : A) (a b c : Bool)
     → f (cond a (g (Step x)) (cond b (g (Take x)) (cond c (g (Enable x)) u))) ≡ cond a (f (g (Step x))) (cond b (f (g (Take x))) (cond c (f (g (Enable x))) (f u)))
 one-map f x g u true b c = refl
 one-map f x g u false true c = refl

@@ -1,37 +1,41 @@
 -- The search for the first seed, and for the lowest suspended thread: what is left to look at gives what the whole gives. Assumes nothing.
-use borrow.Author.Tests.{lt-ltb, le-ltb}
+use borrow.Author.Tests.{lt-ltb, le-ltb, eqb-true}
 use mathlib.Core.Bool.{Bool, true, false, cond, _&&_, _||_}
 use mathlib.Core.List.{List}
-use mathlib.Core.Path.{_≡_, refl, sym, _∙_}
+use mathlib.Core.Path.{_≡_, refl, ap, sym, _∙_}
 use Prim.Native.Nat.{ℕ, zero, suc, _+_, _-_, _≤_, _<_}
 use native.Mathlib.Numerals.{add-one, sub-one}
 use native.Mathlib.Omega.{arith}
-use lib.Dec.{eqb, ltb}
-use lib.ListN.{getD}
+use lib.Dec.{eqb}
+use lib.ListN.{getD, length}
 use Rattle.schedule.specs.declared.Entry.{Entry}
-use Rattle.schedule.specs.declared.Entry.the-variants.{Step}
+use Rattle.schedule.specs.declared.Entry.the-variants.{Step, Take, Steal}
 use Rattle.thread.specs.declared.Thread.{Thread}
 use Rattle.thread.specs.declared.Status.the-variants.{Suspended, Lent}
-use Rattle.thread.specs.Thread.{blankThread, none, _is_}
+use Rattle.thread.specs.Thread.{blankThread, none, statusNumber, _is_}
 use Rattle.rules.specs.State.{Job, State, threadAt, onCore}
 use Rattle.rules.specs.Turn.{byteOf}
 use Rattle.rules.specs.Rules.{isSeed}
-use Rattle.search.specs.Search.{lentParent, seedAbove, seedOn, seedFrom, idleChoice, choiceOf, suspendedFrom}
+use Rattle.search.specs.Search.{lentParent, seedAbove, seedOn, seedFrom, firstSeed, idleChoice, choiceOf, suspendedFrom}
 
 module _ (j : Job) (s : State) where
-  -- a thread's number is below 32, so only its status and its next command count
-  pub seed-is : (t : ℕ) (b : Bool) → t < 32 → b ≡ (threadAt s t .status is Lent && (eqb (byteOf j (threadAt s t)) 8 || eqb (byteOf j (threadAt s t)) 9)) → isSeed j s t ≡ b
-  unfolding isSeed
-  seed-is t b l e = rw (lt-ltb t 32 l) (sym e)
-
-  -- a busy core, and any
+  -- a busy core, and an idle one
   pub busy : (c : ℕ) (e : Entry) → onCore s c < 32 → e ≡ Step c → e ≡ choiceOf j s c
   unfolding choiceOf
   busy c e l h = h ∙ rw (lt-ltb _ _ l)
 
-  pub chosen : (c : ℕ) (e : Entry) → e ≡ cond (ltb (onCore s c) 32) (Step c) (idleChoice j s c) → e ≡ choiceOf j s c
+  pub idle : (c : ℕ) (e : Entry) → 32 ≤ onCore s c → e ≡ idleChoice j s c → e ≡ choiceOf j s c
   unfolding choiceOf
-  chosen c e h = h
+  idle c e l h = h ∙ rw (le-ltb _ _ l)
+
+  -- an idle core, by how many threads are ready
+  pub takes : (c n : ℕ) → n ≡ length (s .ready) → 0 < n → Take c ≡ idleChoice j s c
+  unfolding idleChoice
+  takes c n e l = rw (← e, lt-ltb _ _ l)
+
+  pub steals : (c n t : ℕ) → n ≡ length (s .ready) → n ≤ 0 → t ≡ firstSeed j s → Steal c t ≡ idleChoice j s c
+  unfolding idleChoice
+  steals c n t e l f = rw (← e, le-ltb _ _ l, f)
 
   -- up one chain
   pub stops : (n t : ℕ) → 32 ≤ t → seedAbove n j s t ≡ none
@@ -39,20 +43,26 @@ module _ (j : Job) (s : State) where
   stops zero t h = refl
   stops (suc n) t h = rw (le-ltb t 32 h)
 
-  pub meets : (n t : ℕ) → 0 < n → t < 32 → isSeed j s t ≡ true → seedAbove n j s t ≡ t
-  unfolding seedAbove
-  meets zero t l h e = absurd (omega arith)
-  meets (suc n) t l h e = rw (lt-ltb t 32 h, e)
-
-  pub goes : (n t p : ℕ) → 0 < n → t < 32 → isSeed j s t ≡ false → p ≡ lentParent (threadAt s t) → seedAbove (n - 1) j s p ≡ seedAbove n j s t
-  unfolding seedAbove
-  goes zero t p l h e q = absurd (omega arith)
-  goes (suc n) t p l h e q = rw (lt-ltb t 32 h, e, sub-one, q)
-
   pub empty : (n t : ℕ) → n ≤ 0 → seedAbove n j s t ≡ none
   unfolding seedAbove
   empty zero t h = refl
   empty (suc n) t h = absurd (omega arith)
+
+  -- at a thread below 32: only its status and its next command count
+  module _ (t : ℕ) (h : Thread) (b : Bool) (low : t < 32) (met : h ≡ threadAt s t) (seed : b ≡ (h .status is Lent && (eqb (byteOf j h) 8 || eqb (byteOf j h) 9))) where
+    seed-is : isSeed j s t ≡ b
+    unfolding isSeed
+    seed-is = rw (lt-ltb t 32 low, ← met) (sym seed)
+
+    pub meets : (n : ℕ) → 0 < n → b ≡ true → seedAbove n j s t ≡ t
+    unfolding seedAbove
+    meets zero l e = absurd (omega arith)
+    meets (suc n) l e = rw (lt-ltb t 32 low, seed-is ∙ e)
+
+    pub goes : (n p : ℕ) → 0 < n → b ≡ false → p ≡ lentParent h → seedAbove (n - 1) j s p ≡ seedAbove n j s t
+    unfolding seedAbove
+    goes zero p l e q = absurd (omega arith)
+    goes (suc n) p l e q = rw (lt-ltb t 32 low, seed-is ∙ e, sub-one, q, met)
 
   -- core by core
   pub found : (n c t : ℕ) → 0 < n → t ≡ seedOn j s c → t < 32 → seedFrom n j s c ≡ t
@@ -69,15 +79,19 @@ module _ (j : Job) (s : State) where
   absent zero c h = refl
   absent (suc n) c h = absurd (omega arith)
 
-module _ (threads : List Thread) where
-  pub lowest-here : (n t : ℕ) → 0 < n → (getD threads t blankThread .status is Suspended) ≡ true → suspendedFrom n threads t ≡ t
-  unfolding suspendedFrom
-  lowest-here zero t l e = absurd (omega arith)
-  lowest-here (suc n) t l e = rw e
+-- a free record is not suspended
+pub not-blank : (h : Thread) → h ≡ blankThread → (h .status is Suspended) ≡ true → ⊥
+not-blank h m e = omega (arith, eqb-true (statusNumber (h .status)) 3 e, ap (λ (x : Thread). statusNumber (x .status)) m)
 
-  pub lowest-later : (n t m : ℕ) → n ≡ suc m → (getD threads t blankThread .status is Suspended) ≡ false → suspendedFrom m threads (t + 1) ≡ suspendedFrom n threads t
+module _ (threads : List Thread) where
+  pub lowest-here : (n t : ℕ) (h : Thread) → 0 < n → h ≡ getD threads t blankThread → (h .status is Suspended) ≡ true → suspendedFrom n threads t ≡ t
   unfolding suspendedFrom
-  lowest-later n t m l e = rw (l, e, add-one)
+  lowest-here zero t h l m e = absurd (omega arith)
+  lowest-here (suc n) t h l m e = rw (← m, e)
+
+  pub lowest-later : (n t k : ℕ) (h : Thread) → n ≡ suc k → h ≡ getD threads t blankThread → (h .status is Suspended) ≡ false → suspendedFrom k threads (t + 1) ≡ suspendedFrom n threads t
+  unfolding suspendedFrom
+  lowest-later n t k h l m e = rw (l, ← m, e, add-one)
 
   pub lowest-none : (n t : ℕ) → n ≤ 0 → suspendedFrom n threads t ≡ none
   unfolding suspendedFrom

@@ -1,3 +1,2 @@
--- What a core tries, and which thread is enabled. `Showing` is only for the code's contracts.
+-- What a core tries, and which thread is enabled.
 pub mod Search
-pub mod Showing

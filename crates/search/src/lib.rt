@@ -1,25 +1,27 @@
-// What a core tries, and which thread is enabled, by the machine's threads, cores and ready queue. Of more than 4 cores, which no sound state
-// has, nothing is said.
+// What a core tries, and which thread is enabled, as the lent tables have it. Nothing is asked of the caller: any number of cores is gone
+// through, and each contract says what tables of another size give, which are read as nothing.
 use command::byte_at;
 use image::routines::place_in_image;
-use queue::Queue;
 use schedule::Entry;
+use tables::lines::ready;
+use tables::marks::core_at;
+use tables::marks::count;
+use tables::records::thread_at;
 use thread::Status;
 use thread::Thread;
 use thread::record::same_status;
-ghost use mathlib.Core.Bool.{cond, _&&_, _||_};
+ghost use mathlib.Core.Bool.{_&&_, _||_};
 ghost use mathlib.Core.List.{List};
 ghost use mathlib.Core.Path.{_≡_};
-ghost use Prim.Native.Nat.{ℕ, _+_, _≤_};
-ghost use lib.Dec.{eqb, ltb};
+ghost use Prim.Native.Nat.{ℕ, _+_};
+ghost use lib.Dec.{eqb};
 ghost use lib.ListN.{getD};
-ghost use Rattle.schedule.specs.declared.Entry.the-variants.{Step};
-ghost use Rattle.queue.specs.Contents.{contents};
+ghost use Rattle.schedule.specs.declared.Entry.the-variants.{Step, Steal};
 ghost use Rattle.thread.specs.declared.Status.the-variants.{Lent};
 ghost use Rattle.thread.specs.Thread.{_is_};
-ghost use Rattle.rules.specs.State.{jobOf, State};
-ghost use Rattle.search.specs.Showing.{showing};
-ghost use Rattle.search.specs.Search.{lentParent, firstSeed, idleChoice, isNothing, suspendedFrom};
+ghost use Rattle.rules.specs.State.{jobOf, onCore};
+ghost use Rattle.tables.specs.Change.{Reads};
+ghost use Rattle.search.specs.Search.{lentParent, firstSeed, idleChoice, choiceOf, isNothing, lowestSuspended};
 
 // No thread.
 const NONE: u8 = 32;
@@ -49,25 +51,33 @@ fn is_seed(h: Thread, image: &[u8], starts: &[u16]) -> bool
     byte == 9
 }
 
-// The first seed on the cores' chains of lent parents, from core 0 on.
-fn find_seed(threads: [Thread; 32], cores: [u8; 4], count: u8, image: &[u8], starts: &[u16]) -> u8
-    ensures { λ r. ⌜ (count ≤ 4 → (parameters ready : List ℕ) (allowance : ℕ) (s : State) → r ≡ firstSeed (jobOf (now (image .entry)) (now (starts .entry)) parameters allowance) (showing threads cores count ready s)) ⌝ }
+// The thread on core c; from core 4 on, where the tables have none, it is 0, as the rules have it.
+fn on_core(tables: &[u8], c: u8) -> u8
+    ensures { λ r. ⌜ Reads (now (tables .entry)) r (λ s. onCore s c) 0 ⌝ }
 {
-    if 4 < count {
-        return NONE;
+    if 4 <= c {
+        return 0;
     }
+    core_at(tables, c)
+}
+
+// The first seed on the cores' chains of lent parents, from core 0 on.
+fn find_seed(tables: &[u8], image: &[u8], starts: &[u16]) -> u8
+    ensures { λ r. ⌜ ((parameters : List ℕ) (allowance : ℕ) → Reads (now (tables .entry)) r (λ s. firstSeed (jobOf (now (image .entry)) (now (starts .entry)) parameters allowance) s) 32) ⌝ }
+{
+    let cores = count(tables);
     let mut c: u8 = 0;
     let found = 'search: loop {
-        if count <= c {
+        if cores <= c {
             break NONE;
         }
-        let mut t = cores[c as usize];
+        let mut t = on_core(tables, c);
         let mut links: u8 = 32;
         while 0 < links {
             if NONE <= t {
                 break;
             }
-            let h = threads[t as usize];
+            let h = thread_at(tables, t);
             if is_seed(h, image, starts) {
                 break 'search t;
             }
@@ -80,40 +90,24 @@ fn find_seed(threads: [Thread; 32], cores: [u8; 4], count: u8, image: &[u8], sta
 }
 
 // What an idle core c tries.
-fn idle_choice(
-    c: u8,
-    threads: [Thread; 32],
-    cores: [u8; 4],
-    count: u8,
-    ready: Queue,
-    image: &[u8],
-    starts: &[u16],
-) -> Entry
-    ensures { λ r. ⌜ (count ≤ 4 → (parameters : List ℕ) (allowance : ℕ) (s : State) → r ≡ idleChoice (jobOf (now (image .entry)) (now (starts .entry)) parameters allowance) (showing threads cores count (contents ready) s) c) ⌝ }
+fn idle_choice(c: u8, tables: &[u8], image: &[u8], starts: &[u16]) -> Entry
+    ensures { λ r. ⌜ ((parameters : List ℕ) (allowance : ℕ) → Reads (now (tables .entry)) r (λ s. idleChoice (jobOf (now (image .entry)) (now (starts .entry)) parameters allowance) s c) (Steal c 32)) ⌝ }
 {
-    if 0 < ready.len() {
+    let q = ready(tables);
+    if 0 < q.len() {
         return Entry::Take(c);
     }
-    Entry::Steal(c, find_seed(threads, cores, count, image, starts))
+    Entry::Steal(c, find_seed(tables, image, starts))
 }
 
-// What core c tries, on which thread t runs; none does where t is 32 or more.
-pub fn choice(
-    t: u8,
-    c: u8,
-    threads: [Thread; 32],
-    cores: [u8; 4],
-    count: u8,
-    ready: Queue,
-    image: &[u8],
-    starts: &[u16],
-) -> Entry
-    ensures { λ r. ⌜ (count ≤ 4 → (parameters : List ℕ) (allowance : ℕ) (s : State) → r ≡ cond (ltb t 32) (Step c) (idleChoice (jobOf (now (image .entry)) (now (starts .entry)) parameters allowance) (showing threads cores count (contents ready) s) c)) ⌝ }
+// What core c tries.
+pub fn choice(c: u8, tables: &[u8], image: &[u8], starts: &[u16]) -> Entry
+    ensures { λ r. ⌜ ((parameters : List ℕ) (allowance : ℕ) → Reads (now (tables .entry)) r (λ s. choiceOf (jobOf (now (image .entry)) (now (starts .entry)) parameters allowance) s c) (Step c)) ⌝ }
 {
-    if t < NONE {
+    if on_core(tables, c) < NONE {
         return Entry::Step(c);
     }
-    idle_choice(c, threads, cores, count, ready, image, starts)
+    idle_choice(c, tables, image, starts)
 }
 
 // Is this the steal of no thread, which is no try?
@@ -129,12 +123,12 @@ pub fn is_nothing(entry: Entry) -> bool
 }
 
 // The lowest suspended thread.
-pub fn lowest_suspended(threads: [Thread; 32]) -> u8
-    ensures { λ r. ⌜ r ≡ suspendedFrom 32 threads 0 ⌝ }
+pub fn lowest_suspended(tables: &[u8]) -> u8
+    ensures { λ r. ⌜ Reads (now (tables .entry)) r lowestSuspended 32 ⌝ }
 {
     let mut t: u8 = 0;
     while t < NONE {
-        let h = threads[t as usize];
+        let h = thread_at(tables, t);
         let status = h.status;
         if same_status(status, Status::Suspended) {
             return t;

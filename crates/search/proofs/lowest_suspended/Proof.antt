@@ -1,37 +1,45 @@
 -- `search::lowest_suspended` meets its contract. The loop's invariant: the threads left have the lowest suspended one of all.
 -- The measure is how many are left. Assumes nothing.
+use mathlib.Core.Bool.{true}
+use mathlib.Core.List.{List}
 use mathlib.Core.Path.{_≡_, refl, sym, _∙_}
-use Prim.Native.Nat.{_-_, _≤_}
+use Prim.Native.Nat.{ℕ, _-_, _≤_}
 use native.Mathlib.Omega.{arith}
-use Rattle.search.specs.Search.{suspendedFrom}
-use Rattle.search.proofs.Searching.{lowest-here, lowest-later, lowest-none}
+use lib.ListN.{length}
 use borrow.Author.Needs.{needs}
+use Rattle.thread.specs.declared.Status.the-variants.{Suspended}
+use Rattle.thread.specs.Thread.{_is_}
+use Rattle.tables.specs.Meaning.{size, meaning}
+use Rattle.tables.proofs.Changes.{thread-seen}
+use Rattle.search.specs.Search.{suspendedFrom, lowestSuspended}
+use Rattle.search.proofs.Searching.{not-blank, lowest-here, lowest-later, lowest-none}
 use Rattle.search.proofs.lowest_suspended.Statement.{statement}
 use Rattle.search.proofs.lowest_suspended.Tie as tie
 
 abbrev Inv-loop : tie.InvT-loop
-Inv-loop threads t₀ t = (t ≤ 32) × (suspendedFrom (32 - t) threads t ≡ suspendedFrom 32 threads 0)
+Inv-loop tables t₀ t = (t ≤ 32) × (length tables ≡ size → (words memory : List ℕ) → suspendedFrom (32 - t) (meaning tables words memory .threads) t ≡ lowestSuspended (meaning tables words memory))
 
 abbrev μ-loop : tie.MeasureT-loop
-μ-loop threads t₀ t = 32 - t
+μ-loop tables t₀ t = 32 - t
 
 loop-holds : tie.Need-loop-holds Inv-loop μ-loop
-loop-holds c = (omega arith, refl)
+loop-holds c = (omega arith, λ l words memory. refl)
 
-cast-h : tie.Need-cast-h Inv-loop μ-loop
-cast-h c = search needs
-
-mul-h : tie.Need-mul-h Inv-loop μ-loop
-mul-h c = search needs
-
-array-copy-out-h : tie.Need-array-copy-out-h Inv-loop μ-loop
-array-copy-out-h c = search needs
+thread-at-requires : tie.Need-thread-at-requires Inv-loop μ-loop
+thread-at-requires c κs = search needs
 
 same-status-requires : tie.Need-same-status-requires Inv-loop μ-loop
 same-status-requires c κs = search needs
 
 returns : tie.Need-returns Inv-loop μ-loop
-returns c = sym (lowest-here _ _ _ (omega arith) (sym (c .before .same-status .ensures) ∙ c .if1 .taken)) ∙ c .before .before .before .before .loop .inv .1
+returns c =
+    let thread-at' = c .before .before .thread-at in
+    let loop' = c .before .before .before .before .loop in
+    let here : (thread-at' .result .status is Suspended) ≡ true = sym (c .before .same-status .ensures) ∙ c .if1 .taken in
+    record {
+      means = λ l words memory. sym (lowest-here _ _ _ (thread-at' .result) (omega arith) (thread-seen l words memory _ _ (omega arith) (thread-at' .ensures)) here) ∙ loop' .inv .1 l words memory;
+      other = λ n. absurd (not-blank (thread-at' .result) (thread-at' .ensures .other n) here);
+    }
 
 add-t : tie.Need-add-t Inv-loop μ-loop
 add-t c = search needs
@@ -40,13 +48,16 @@ loop-less : tie.Need-loop-less Inv-loop μ-loop
 loop-less c = search needs
 
 loop-again : tie.Need-loop-again Inv-loop μ-loop
-loop-again c = (
-  omega arith,
-  lowest-later _ _ (c .before .before .before .before .loop .t) _ (omega arith) (sym (c .before .same-status .ensures) ∙ c .if1 .left) ∙ c .before .before .before .before .loop .inv .1,
-)
+loop-again c =
+    let thread-at' = c .before .before .thread-at in
+    let loop' = c .before .before .before .before .loop in (
+      omega arith,
+      λ l words memory. lowest-later _ _ (loop' .t) _ (thread-at' .result) (omega arith) (thread-seen l words memory _ _ (omega arith) (thread-at' .ensures)) (sym (c .before .same-status .ensures) ∙ c .if1 .left) ∙ loop' .inv .1 l words memory,
+    )
 
 returns-2 : tie.Need-returns-2 Inv-loop μ-loop
-returns-2 c = sym (lowest-none _ _ (c .before .loop .t) (omega arith)) ∙ c .before .loop .inv .1
+returns-2 c =
+    record { means = λ l words memory. sym (lowest-none _ _ (c .before .loop .t) (omega arith)) ∙ c .before .loop .inv .1 l words memory; other = λ n. refl }
 
 pub lowest-suspended-spec : {M : Type 1} → statement M
 lowest-suspended-spec =
@@ -55,9 +66,7 @@ lowest-suspended-spec =
     Inv-loop
     μ-loop
     loop-holds
-    cast-h
-    mul-h
-    array-copy-out-h
+    thread-at-requires
     same-status-requires
     returns
     add-t

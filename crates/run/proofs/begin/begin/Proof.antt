@@ -1,6 +1,6 @@
 -- `run::begin::begin` meets its contract. Assumes nothing.
-use native.Mathlib.Omega.{arith}
 use Rattle.run.proofs.Running.{number-of, begins}
+use native.Mathlib.Omega.{arith}
 use borrow.Author.Needs.{needs}
 use Rattle.run.proofs.begin.begin.Statement.{statement}
 use Rattle.run.proofs.begin.begin.Tie as tie
@@ -23,8 +23,11 @@ starts-requires c κs = search needs
 same-length : tie.Need-same-length
 same-length c = search needs
 
+same-length-2 : tie.Need-same-length-2
+same-length-2 c = search needs
+
 returns : tie.Need-returns
-returns c = λ full allowance. begins _ _ _ (λ k. omega (arith, c .before .before .before .before .before .before .before .before .before .before .before .before .before .before .before .shared-slice-known .given k)) _ _ _ (c .before .before .before .before .check .ensures) (c .before .before .refusal .ensures allowance) (c .before .before .before .before .before .before .before .start .ensures full _ _ _ _) (c .starts .ensures)
+returns c = (λ allowance. begins _ _ _ (λ k. omega (arith, c .before .before .before .before .before .before .before .before .before .before .before .before .before .before .before .before .before .before .before .shared-slice-known .given k)) _ _ (c .before .before .before .before .check .ensures) (c .before .before .refusal .ensures allowance) (c .starts .ensures), c .before .before .before .before .before .before .before .before .before .start .ensures)
 
 pub begin-spec : {M : Type 1} → statement M
 begin-spec =
@@ -36,4 +39,5 @@ begin-spec =
     refusal-requires
     starts-requires
     same-length
+    same-length-2
     returns)
