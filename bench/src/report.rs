@@ -42,66 +42,16 @@ pub struct Report {
     pub undefined: Vec<String>,
 }
 
-/// The machine's structs as its crates declare them, for their sizes alone: a struct there has C's layout, an enum of names one byte.
-#[allow(dead_code)]
-mod mirror {
-    #[repr(C)]
-    pub struct Thread([u8; 6], [u16; 2], [u16; 3], u16);
-    #[repr(C)]
-    pub struct Queue([u8; 32], u8, u8);
-    #[repr(C)]
-    pub struct Machine {
-        threads: [Thread; 32],
-        cores: [u8; 4],
-        count: u8,
-        stacklets: [u8; 16],
-        free_threads: Queue,
-        free_stacklets: Queue,
-        ready: Queue,
-        units: u32,
-        over: u8,
-        result: u32,
-        fault: u8,
-        fault_thread: u8,
-        fault_offset: u16,
-        log: u8,
-    }
+/// The number that a crate's source gives a constant.
+fn constant(path: &str, name: &str) -> usize {
+    let text = std::fs::read_to_string(format!("{}/../crates/{path}", env!("CARGO_MANIFEST_DIR"))).expect("a crate's source");
+    let value = text.split(&format!("const {name}: usize = ")).nth(1).and_then(|rest| rest.split(';').next());
+    value.and_then(|value| value.parse().ok()).expect("a constant's number")
 }
 
-/// The declarations that the mirror follows: crate, struct and fields.
-const DECLARED: [(&str, &str, &str); 5] = [
-    (
-        "machine",
-        "Machine",
-        "threads: [Thread; 32], cores: [u8; 4], count: u8, stacklets: Stacklets, free_threads: Queue, free_stacklets: Queue, \
-         ready: Queue, units: u32, over: u8, result: u32, fault: u8, fault_thread: u8, fault_offset: u16, log: u8",
-    ),
-    (
-        "thread",
-        "Thread",
-        "status: Status, connected: bool, routine: u8, parent: u8, result: u8, children: u8, position: u16, base: u16, \
-         window: Window, pending: u16",
-    ),
-    ("queue", "Queue", "places: [u8; 32], head: u8, len: u8"),
-    ("stacklets", "Stacklets", "tops: [u8; 16]"),
-    ("window", "Window", "lo: u16, mark: u16, hi: u16"),
-];
-
-/// The fields of a struct in a crate's source.
-fn fields(name: &str, of: &str) -> String {
-    let path = format!("{}/../crates/{name}/src/lib.rt", env!("CARGO_MANIFEST_DIR"));
-    let text = std::fs::read_to_string(path).expect("a crate's source");
-    let body = text.split(&format!("pub struct {of} {{")).nth(1).and_then(|rest| rest.split('}').next()).unwrap_or("");
-    let lines = body.lines().map(str::trim).filter(|line| !line.is_empty() && !line.starts_with("//"));
-    lines.map(|line| line.trim_start_matches("pub ").trim_end_matches(',')).collect::<Vec<_>>().join(", ")
-}
-
-/// The bytes of the machine's struct and of a thread record.
+/// The bytes of the machine's tables and of a thread record in them.
 fn sizes() -> (usize, usize) {
-    for (name, of, expected) in DECLARED {
-        assert_eq!(fields(name, of), expected, "the mirror of {name}::{of} is out of date");
-    }
-    (std::mem::size_of::<mirror::Machine>(), std::mem::size_of::<mirror::Thread>())
+    (constant("tables/src/lib.rt", "SIZE"), constant("tables/src/records.rt", "WIDE"))
 }
 
 /// What the static libraries leave to be linked: the only functions outside them that they can call.
@@ -185,10 +135,10 @@ impl Report {
         for stack in &self.stacks {
             let _ = writeln!(out, "| {} | {} | {} |", stack.what, stack.peer, stack.ours);
         }
-        let (machine, thread) = sizes();
+        let (tables, thread) = sizes();
         let _ = write!(
             out,
-            "\nThe machine's state is a struct of {machine} bytes (32 thread records of {thread} bytes, three queues of 34, 16 stacklet tops), beside\n\
+            "\nThe machine's state is {tables} bytes of tables (32 thread records of {thread} bytes, three queues of 34, 16 stacklet tops), beside\n\
              the 4,096 bytes of the stacklets' words; the memory words, the log and the buffer are the caller's.\n\n\
              ## Nothing is allocated\n\n\
              The language has no heap. The static libraries that the tests and benchmarks link leave these names to the linker and no others, so\n\

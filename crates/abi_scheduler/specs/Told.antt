@@ -2,6 +2,7 @@
 use mathlib.Core.List.{List}
 use mathlib.Core.Path.{_≡_}
 use Prim.Native.Nat.{ℕ}
+use Rattle.tables.specs.Meaning.{meaning}
 use Rattle.demands.specs.Input.{Input}
 use Rattle.scheduler.specs.declared.Scheduled.{Scheduled}
 use Rattle.scheduler.specs.Promise.{Promise}
@@ -12,5 +13,5 @@ pub record ScheduledTold (i : Input) (before memoryAfter after answer statuses :
   pub ran : Scheduled
   pub promise : Promise i before ran memoryAfter after
   pub answered : answer ≡ answerWords (ran .answer)
-  pub counted : statuses ≡ statusesUpTo (ran .machine .threads) 32
+  pub counted : statuses ≡ statusesUpTo (meaning (ran .tables) (ran .words) memoryAfter .threads) 32
   pub taken : used ≡ ran .used

@@ -213,13 +213,6 @@ pub fn command_of(five: [u8; 5]) -> Command
     decode(five[0], five[1], five[2], five[3], five[4])
 }
 
-// The command whose first byte stands at a position, taken as whole: bytes past the end read as 0.
-pub fn fetch(bytes: &[u8], at: usize) -> Command
-    ensures { λ r. ⌜ r ≡ decodedAt (now (bytes .entry)) at ⌝ }
-{
-    command_of(five_at(bytes, at))
-}
-
 // A value's low byte.
 fn low_of(value: u16) -> u8
     ensures { λ r. ⌜ r ≡ low value ⌝ }

@@ -57,8 +57,10 @@ pub once-repeats : (j : Job) (s : State) (e : Entry) (more : ℕ) (r : Carried) 
 unfolding repeated
 once-repeats j s e more r end z f = record {
   few = omega (arith, z);
+  steps = λ l. absurd (omega (arith, z, l));
   accepts = λ i l. absurd (omega (arith, z, l));
   stays = λ i l. let first : i ≡ 0 = omega (arith, z, l) in rw first refl;
+  going = λ i l. let first : i ≡ 0 = omega (arith, z, l) in rw first refl;
   last = rw z f;
 }
 
@@ -77,12 +79,13 @@ module _ (image starts parameters : List ℕ) (allowance : ℕ) (xs ws₀ ms₀ 
   abbrev pub held : ℕ → ℕ → List ℕ → List ℕ → State
   held p left ws ms = standsAt t p (allowance - left) (meaning xs ws ms)
 
-  -- k steps were made, all accepted and none of which changed the cores
+  -- k steps were made, all accepted and none of which changed the cores or the outcome
   pub record Made (k p left : ℕ) (ws ms : List ℕ) : Type 0 where
     pub few : left ≤ allowance
     pub state : repeated j (Step c) s₀ k ≡ held p left ws ms
     pub accepts : (i : ℕ) → i < k → entryOf j (repeated j (Step c) s₀ i) (Step c) .log ≡ 0
     pub stays : (i : ℕ) → i ≤ k → repeated j (Step c) s₀ i .cores ≡ s₀ .cores
+    pub going : (i : ℕ) → i ≤ k → repeated j (Step c) s₀ i .outcome ≡ s₀ .outcome
 
   -- the command at position p, with its place in the image, its first byte and its effect
   pub record Meets (p : ℕ) (ws : List ℕ) (place byte : ℕ) (e : Effect) : Type 0 where
@@ -113,6 +116,7 @@ module _ (image starts parameters : List ℕ) (allowance : ℕ) (xs ws₀ ms₀ 
         state = rw (← same, so-far, met) (ap (λ (l : List Thread). with-threads l) (sym (set-getD (s₀ .threads) t blankThread)));
         accepts = λ i l. absurd (omega (arith, l));
         stays = λ i l. let first : i ≡ 0 = omega (arith, l) in rw first refl;
+        going = λ i l. let first : i ≡ 0 = omega (arith, l) in rw first refl;
       }
     where
       with-threads : List Thread → State
@@ -159,6 +163,7 @@ module _ (image starts parameters : List ℕ) (allowance : ℕ) (xs ws₀ ms₀ 
           state = state;
           accepts = λ i l. ⊎-elim (λ h. made .accepts i h) (λ h. rw h log) (below-or i k l);
           stays = λ i l. ⊎-elim (λ h. made .stays i (omega (arith, h))) (λ h. rw h (ap (λ (x : State). x .cores) state)) (below-or i (suc k) (omega (arith, l)));
+          going = λ i l. ⊎-elim (λ h. made .going i (omega (arith, h))) (λ h. rw h (ap (λ (x : State). x .outcome) state)) (below-or i (suc k) (omega (arith, l)));
         }
 
     -- position and units are back in the tables
@@ -171,8 +176,10 @@ module _ (image starts parameters : List ℕ) (allowance : ℕ) (xs ws₀ ms₀ 
       unfolding repeated
       ends-full more full = record {
         few = omega arith;
+        steps = λ _. refl;
         accepts = λ i l. made .accepts i (omega (arith, l, full));
         stays = λ i l. made .stays i (omega (arith, l, full));
+        going = λ i l. made .going i (omega (arith, l, full));
         last = ap accepted (put ∙ sym (made .state) ∙ ap (repeated j (Step c) s₀) full)
             ∙ ap (λ (n : ℕ). record { state = entryOf j (repeated j (Step c) s₀ more) (Step c) .state; log = n }) (sym (made .accepts more (omega (arith, full))));
       }
@@ -278,8 +285,10 @@ module _ (image starts parameters : List ℕ) (allowance : ℕ) (xs ws₀ ms₀ 
         unfolding entryOf
         ends-rest more log zs vs l f = record {
           few = l;
+          steps = λ _. refl;
           accepts = made .accepts;
           stays = made .stays;
+          going = made .going;
           last = f
               ∙ ap (λ (x : State). restOf j x (turnIn ys c t (weightOf standardWeights byte) ((p + bytesBy e) % 2 ^ 16) place) e left byte (th₀ .children)) (put ys back)
               ∙ ap (λ (h : Thread). restOf j (held p left ws ms) (turnWith c t h (weightOf standardWeights byte) ((p + bytesBy e) % 2 ^ 16) place) e left byte (th₀ .children)) same

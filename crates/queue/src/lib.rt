@@ -1,12 +1,11 @@
 // A first-in first-out queue of at most 32 numbers, document 01's "line". Its places are a ring, found by a remainder of 32.
 // Every value of the struct stands for a list (`contents`), so no function here asks anything of its caller.
 ghost use mathlib.Core.Path.{_≡_};
-ghost use mathlib.Core.Bool.{cond};
-ghost use mathlib.Core.List.{List, []};
-ghost use Prim.Native.Nat.{ℕ, _-_, _<_, min};
+ghost use mathlib.Core.List.{[]};
+ghost use Prim.Native.Nat.{_-_, _<_, min};
 ghost use lib.ListN.{length};
 ghost use Rattle.queue.specs.declared.Front.the-variants.{Number};
-ghost use Rattle.queue.specs.Contents.{capacity, contents, queueOf, firstOf, restOf, appended, ascendingFrom, Dequeues, Enqueues};
+ghost use Rattle.queue.specs.Contents.{capacity, contents, ascendingFrom, Dequeues, Enqueues};
 
 // The number of places.
 const CAPACITY: u8 = 32;
@@ -47,8 +46,7 @@ const ASCENDING: [u8; 32] = [
     31,
 ];
 
-// Narrow fields: a machine that holds three queues is copied as a value. They are public, since every value of them is a queue: a run's loop
-// changes them in place.
+// Its fields are public, since every value of them is a queue: the machine's tables hold them as bytes.
 pub struct Queue {
     pub places: [u8; 32],
     pub head: u8,
@@ -139,35 +137,4 @@ impl Queue {
         self.len = len + 1;
         self
     }
-}
-
-// The number at the head of the queue with these places, where it has one. This and the next two are for code that holds a queue among
-// other things and changes it in place.
-pub fn first_number(places: &[u8; 32], head: u8) -> u8
-    ensures { λ r. ⌜ ((len : ℕ) → 0 < len → firstOf (contents (queueOf (now (places .entry)) head len)) ≡ Number r) ⌝ }
-{
-    places[(head % CAPACITY) as usize]
-}
-
-// The head once the first number is taken; the length is then one less.
-pub fn next_head(head: u8) -> u8
-    ensures { λ r. ⌜ ((places : List ℕ) (len : ℕ) → 0 < len → contents (queueOf places r (len - 1)) ≡ restOf (contents (queueOf places head len))) ⌝ }
-{
-    (head % CAPACITY + 1) % CAPACITY
-}
-
-// Puts n behind the last number, in the places of a queue, if that is wanted; gives the length. A full queue takes nothing.
-pub fn put_last(places: &mut [u8; 32], queue: Queue, n: u8, wanted: bool) -> u8
-    ensures { λ r. ⌜ (now (places .entry) ≡ queue .places → contents (queueOf (now (places .exit)) (queue .head) r) ≡ cond wanted (appended capacity (contents queue) n) (contents queue)) ⌝ }
-{
-    let len = queue.len;
-    if !wanted {
-        return len;
-    }
-    if CAPACITY <= len {
-        return len;
-    }
-    let tail = (queue.head % CAPACITY + len) % CAPACITY;
-    places[tail as usize] = n;
-    len + 1
 }

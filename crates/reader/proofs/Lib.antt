@@ -1,4 +1,3 @@
 -- The laws of `reader`.
 pub mod Pairs
 pub mod Rows
-pub mod StepCore

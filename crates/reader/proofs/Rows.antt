@@ -1,18 +1,15 @@
--- Rows of steps of one core: what the loops of `steps_after` have passed, and what a row says of a schedule's entries. Assumes nothing.
-use mathlib.Core.List.{List, _∷_, _++_}
-use mathlib.Core.Path.{_≡_, refl, _∙_, ap}
-use Prim.Native.Nat.{ℕ, zero, suc, _+_, _*_, _-_, _/_, _≤_, _<_}
+-- Rows of steps of one core: what the loops of `steps_after` have passed. Assumes nothing.
+use mathlib.Core.List.{List}
+use mathlib.Core.Path.{_≡_}
+use Prim.Native.Nat.{ℕ, _+_, _*_, _-_, _/_, _≤_, _<_}
 use native.Mathlib.Nat.{add-zero, mul-zero}
 use native.Mathlib.Omega.{arith}
 use borrow.Author.Count.{below-none, below-more}
-use lib.ListN.{length, drop, replicate}
-use Rattle.schedule.specs.declared.Entry.{Entry}
+use lib.ListN.{length}
 use Rattle.schedule.specs.declared.Entry.the-variants.{Step}
 use Rattle.schedule.specs.declared.EntryRead.the-variants.{Found}
 use Rattle.schedule.specs.Format.{entryAt}
-use Rattle.schedule.specs.Meaning.{entries, entriesOf}
 use Rattle.schedule.proofs.Standing.{Found-at, found}
-use Rattle.schedule.proofs.Following.{Read-of, read-entry}
 use Rattle.reader.proofs.Pairs.{Steps}
 use Rattle.reader.specs.Row.{Row}
 
@@ -52,17 +49,3 @@ module _ (s : List ℕ) (at c : ℕ) where
   whole-row i p h =
       let r : (i - at) / 2 ≡ p .many = omega (arith, p .here) in
       rw r (record { each = p .each; ends = rw (p .here) at h })
-
--- where a row stands, the entries left start with as many steps, and the others are left behind it
-pub row-entries : (schedule : List ℕ) (at c r : ℕ) (rest : List Entry) → entriesOf (drop at schedule) ≡ entries rest
-    → ((i : ℕ) → i < r → entryAt schedule (at + 2 * i) ≡ Found (Step c) (at + 2 * i + 2))
-    → (others : List Entry) × (rest ≡ replicate r (Step c) ++ others) × (entriesOf (drop (at + 2 * r) schedule) ≡ entries others)
-row-entries s at c zero rest left each = (rest, refl, rw (mul-zero, add-zero) left)
-row-entries s at c (suc r) rest left each =
-    let first : entryAt s at ≡ Found (Step c) (at + 2) = rw (mul-zero, add-zero) at (each 0 (omega arith)) in
-    let f : Read-of s rest (Step c) (at + 2) = read-entry s at rest left (Step c) (at + 2) first in
-    let later : (i : ℕ) → i < r → entryAt s (at + 2 + 2 * i) ≡ Found (Step c) (at + 2 + 2 * i + 2) =
-    λ i l. let e : at + 2 * suc i ≡ at + 2 + 2 * i = omega arith in rw e at (each (suc i) (omega arith)) in
-    let t = row-entries s (at + 2) c r (f .others) (f .rest) later in
-    let e : at + 2 * suc r ≡ at + 2 + 2 * r = omega arith in
-    (t .0, f .first ∙ ap (λ (l : List Entry). Step c ∷ l) (t .1), rw e (t .2))

@@ -1,3 +1,2 @@
 -- The definitions that contracts of `reader` cite.
 pub mod Row
-pub mod StepCore

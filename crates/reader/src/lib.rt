@@ -5,7 +5,6 @@ ghost use mathlib.Core.Path.{_≡_};
 ghost use Prim.Native.Nat.{_+_, _*_};
 ghost use Rattle.schedule.specs.Format.{entryAt};
 ghost use Rattle.reader.specs.Row.{isPair, areFour, Row};
-ghost use Rattle.reader.specs.StepCore.{stepCoreOf};
 
 // A schedule, and the position of its next entry.
 pub struct EntryReader<'a> {
@@ -44,29 +43,8 @@ pub fn read_at(schedule: &[u8], at: usize) -> EntryRead
     entry(moved(new(schedule), at))
 }
 
-// No core: a machine has at most 4.
-const NO_CORE: u8 = 255;
-
 // The byte of a step entry.
 const STEP: u8 = 1;
-
-// The core that the entry at a position steps; 255 where it steps none. It looks at two bytes alone, for a loop that asks this of every
-// entry. The core of an entry that takes, or of one whose second byte is cut off, is a wrong answer.
-pub fn step_core(schedule: &[u8], at: usize) -> u8
-    ensures { λ r. ⌜ r ≡ stepCoreOf (entryAt (now (schedule .entry)) at) ⌝ }
-{
-    let length = schedule.len();
-    if length < 2 {
-        return NO_CORE;
-    }
-    if length - 2 < at {
-        return NO_CORE;
-    }
-    if schedule[at] != STEP {
-        return NO_CORE;
-    }
-    schedule[at + 1]
-}
 
 // Two bytes as one number, the low byte first.
 fn pair(a: u8, b: u8) -> u16

@@ -1,5 +1,5 @@
 // The tests of a round of the built-in scheduler: whether it goes on, and which entries it writes.
-ghost use mathlib.Core.Bool.{_&&_, _||_};
+ghost use mathlib.Core.Bool.{not, _&&_, _||_};
 ghost use mathlib.Core.Path.{_≡_};
 ghost use lib.Dec.{eqb, leb};
 ghost use Rattle.rounds.specs.Rounds.{isWritten, usable};
@@ -11,10 +11,10 @@ const MOST: usize = 32768;
 const LEAST: usize = 3;
 
 // May an entry be tried, with so many bytes left?
-pub fn may_try(over: u8, left: usize) -> bool
-    ensures { λ r. ⌜ r ≡ (eqb over 0 && leb 3 left) ⌝ }
+pub fn may_try(over: bool, left: usize) -> bool
+    ensures { λ r. ⌜ r ≡ (not over && leb 3 left) ⌝ }
 {
-    if over != 0 {
+    if over {
         return false;
     }
     LEAST <= left
@@ -51,14 +51,4 @@ pub fn usable_of(length: usize) -> usize
         return length;
     }
     MOST
-}
-
-// Does a step by a machine's only core end a round that another follows? The next try is then the same core's.
-pub fn goes_on(count: u8, over: u8, left: usize) -> bool
-    ensures { λ r. ⌜ r ≡ (eqb count 1 && (eqb over 0 && leb 3 left)) ⌝ }
-{
-    if count != 1 {
-        return false;
-    }
-    may_try(over, left)
 }

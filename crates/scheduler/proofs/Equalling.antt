@@ -1,13 +1,13 @@
 -- The scheduler's run equals the run by the entries that it wrote. Assumes nothing.
 use borrow.Author.Tests.{leb-true}
 use mathlib.Core.Bool.{Bool, true, false, cond, not}
-use mathlib.Core.List.{List, [], _∷_, _++_}
+use mathlib.Core.List.{List, [], _∷_, _++_, append-nil}
 use mathlib.Core.Path.{_≡_, refl, _∙_, ap, subst}
 use Prim.Native.Nat.{ℕ, zero, suc, _+_, _≤_, _<_}
 use native.Mathlib.Nat.{zero-add}
 use native.Mathlib.Omega.{arith}
 use lib.Dec.{leb}
-use lib.ListN.{getD, length, length-append}
+use lib.ListN.{getD, length}
 use Rattle.command.proofs.Bools.{both}
 use Rattle.schedule.specs.declared.Entry.{Entry}
 use Rattle.schedule.specs.declared.Entry.the-variants.{Enable}
@@ -24,9 +24,12 @@ use Rattle.demands.proofs.Demands.{demand-3}
 use Rattle.demands.proofs.Passing.{takes}
 use Rattle.search.specs.Search.{choiceOf, lowestSuspended}
 use Rattle.rounds.specs.Rounds.{Progress, isWritten, mayTry, recorded, tried, turns, fresh, round, goesOn, wakened, rounds, usable, beginning, bytesOfAll}
-use Rattle.scheduler.proofs.Keeping.{short}
-use Rattle.scheduler.proofs.Trying.{bytes-snoc}
+use Rattle.turns.proofs.Keeping.{short, many-append}
 use Rattle.scheduler.specs.Promise.{scheduledOf, refusalIn, EqualsRun}
+
+one-many : (e : Entry) → length (bytesOfAll (e ∷ [])) ≡ length (bytesOf e)
+unfolding bytesOfAll
+one-many e = ap length (append-nil (bytesOf e))
 
 module _ (j : Job) where
   logs-snoc : (P : ℕ → Type 0) (s : State) (es : List Entry) (e : Entry) → Every P (logsFrom j s es) → P (entryOf j (runFrom j s es) e .log)
@@ -50,7 +53,7 @@ module _ (j : Job) where
         (record {
           runs = run-next j s₀ (p .written) e ∙ ap (λ (x : State). entryOf j x e .state) (r .runs);
           logs = logs-snoc (λ n. isWritten n ≡ true) s₀ (p .written) e (r .logs) (ap (λ (x : State). isWritten (entryOf j x e .log)) (r .runs) ∙ h);
-          fits = rw (bytes-snoc, length-append) (omega (arith, r .fits, short e));
+          fits = omega (arith, r .fits, short e, many-append (p .written) (e ∷ []), one-many e);
         })
     ran-recorded p r l e false h = rw h r
 

@@ -5,22 +5,26 @@ use Prim.Native.Nat.{ℕ, _<_}
 use lib.ListN.{getD, length}
 use Rattle.thread.specs.Job.{jobOf}
 use Rattle.rules.specs.State.{State}
-use Rattle.rules.specs.Sound.{Sound}
-use Rattle.machine.specs.Meaning.{meaning, outcomeOf}
+use Rattle.tables.specs.Meaning.{size, meaning}
+use Rattle.entries.specs.Given.{Sounding, Starts}
 use Rattle.demands.specs.declared.RunAnswer.the-variants.{Refused}
 use Rattle.demands.specs.Input.{Input, jobIn, startIn, answerOf}
 use Rattle.run.specs.declared.begin.Begun.{Begun}
 use Rattle.run.specs.Run.{Begins}
-use Rattle.run.proofs.Running.{ready as playable-at-start}
+use Rattle.run.proofs.Running.{first, ready}
 use Rattle.scheduler.proofs.Equalling.{equals}
 use Rattle.scheduler.specs.declared.Scheduled.{Scheduled}
-use Rattle.scheduler.specs.Steps.{Rounded}
+use Rattle.turns.specs.Steps.{Rounded}
 use Rattle.scheduler.specs.Promise.{refusalIn, Promise}
 
-module _ (i : Input) (b : Begun) (words : List ℕ) (begun : Begins i [] [] b words) where
+module _ (i : Input) (b : Begun) (xs ys ws vs : List ℕ) (begun : Begins i [] [] b) (start : Starts (i .image) (i .arguments) (i .cores) xs ys ws vs)
+    (sized : length xs ≡ size) (wide : length ws ≡ 1024) where
+  at-start : meaning ys vs (i .memory) ≡ startIn i
+  at-start = first i [] [] b xs ys ws vs begun start sized wide
+
   -- refused
   pub refuses : (b .number ≡ 0 → ⊥) → (before : List ℕ)
-      → Promise i before (record { answer = Refused (b .number); machine = b .machine; words = words; used = 0 }) (i .memory) before
+      → Promise i before (record { answer = Refused (b .number); tables = ys; words = vs; used = 0 }) (i .memory) before
   refuses some before = record {
     refused = λ _. record {
       answer = ap Refused (begun .number);
@@ -28,7 +32,7 @@ module _ (i : Input) (b : Begun) (words : List ℕ) (begun : Begins i [] [] b wo
       memory = refl;
       buffer = refl;
       used = refl;
-      machine = begun .machine;
+      machine = at-start;
     };
     scheduled = λ z. absurd (some (begun .number ∙ z));
     equals = λ z. absurd (some (begun .number ∙ z));
@@ -38,16 +42,16 @@ module _ (i : Input) (b : Begun) (words : List ℕ) (begun : Begins i [] [] b wo
     passes : refusalIn i ≡ 0
     passes = sym (begun .number) ∙ none
 
-    pub ready : Sound (jobOf (i .image) (b .starts) (i .parameters) (i .allowance)) (meaning (b .machine) words (i .memory))
-    ready = playable-at-start i [] [] b words begun none bytes .sound
+    pub goes : length ys ≡ size → Sounding (i .image) (b .starts) (i .parameters) (i .allowance) ys vs (i .memory)
+    goes same = ready i [] [] b xs ys ws vs begun start sized wide none same bytes
 
     pub schedules : (before : List ℕ) (x : Scheduled) (memoryAfter after : List ℕ)
-        → Rounded (jobOf (i .image) (b .starts) (i .parameters) (i .allowance)) (meaning (b .machine) words (i .memory)) before
-        (meaning (x .machine) (x .words) memoryAfter) (x .used) after
-        → x .answer ≡ answerOf (outcomeOf (x .machine)) (x .machine .units) → Promise i before x memoryAfter after
+        → Rounded (jobOf (i .image) (b .starts) (i .parameters) (i .allowance)) (meaning ys vs (i .memory)) before (meaning (x .tables) (x .words) memoryAfter) (x .used) after
+        → x .answer ≡ answerOf (meaning (x .tables) (x .words) memoryAfter .outcome) (meaning (x .tables) (x .words) memoryAfter .units)
+        → Promise i before x memoryAfter after
     unfolding meaning
     schedules before x memoryAfter after q a =
-        let p : Rounded (jobIn i) (startIn i) before (meaning (x .machine) (x .words) memoryAfter) (x .used) after = rw (begun .starts passes, begun .machine) at q in
+        let p : Rounded (jobIn i) (startIn i) before (meaning (x .tables) (x .words) memoryAfter) (x .used) after = rw (begun .starts passes, at-start) at q in
         record {
           refused = λ n. absurd (n passes);
           scheduled = λ z. record {

@@ -1,3 +1,2 @@
--- In reading order: what `run` promises; and what the inner functions give, for the code's contracts alone.
+-- What `run` promises.
 pub mod Promise
-pub mod Steps

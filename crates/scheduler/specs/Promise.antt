@@ -7,7 +7,7 @@ use lib.ListN.{length}
 use Rattle.schedule.specs.Meaning.{entries, scheduleOf}
 use Rattle.rules.specs.Lists.{Every}
 use Rattle.rules.specs.Runs.{runFrom, logsFrom}
-use Rattle.machine.specs.Meaning.{meaning}
+use Rattle.tables.specs.Meaning.{meaning}
 use Rattle.demands.specs.declared.RunAnswer.the-variants.{Refused}
 use Rattle.demands.specs.Input.{Input, jobIn, startIn, refusalOf, answerOf, numberOfAnswer}
 use Rattle.demands.specs.Demands.{Demand3}
@@ -22,20 +22,20 @@ refusalIn i = refusalOf i [] []
 abbrev pub scheduledOf : Input → ℕ → Progress
 scheduledOf i size = scheduledFrom (jobIn i) (startIn i) size
 
--- a run that is refused: its number alone, and nothing written; the machine beside it is as at Start
+-- a run that is refused: its number alone, and nothing written; the tables beside it are as at Start
 pub record IsRefused (i : Input) (n : ℕ) (before : List ℕ) (r : Scheduled) (memoryAfter after : List ℕ) : Type 0 where
   pub answer : r .answer ≡ Refused n
   pub number : numberOfAnswer (r .answer) ≡ n
   pub memory : memoryAfter ≡ i .memory
   pub buffer : after ≡ before
   pub used : r .used ≡ 0
-  pub machine : meaning (r .machine) (r .words) memoryAfter ≡ startIn i
+  pub machine : meaning (r .tables) (r .words) memoryAfter ≡ startIn i
 
 -- the run of the scheduler: its state and its entries, which are written to the buffer's front
 pub record IsScheduled (p : Progress) (before : List ℕ) (r : Scheduled) (memoryAfter after : List ℕ) : Type 0 where
   pub answer : r .answer ≡ answerOf (p .state .outcome) (p .state .units)
   pub memory : memoryAfter ≡ p .state .memory
-  pub machine : meaning (r .machine) (r .words) memoryAfter ≡ p .state
+  pub machine : meaning (r .tables) (r .words) memoryAfter ≡ p .state
   pub buffer : after ≡ filled before (p .written)
   pub used : r .used ≡ length (bytesOfAll (p .written))
 

@@ -1,18 +1,14 @@
 // The built-in scheduler, document 01's "house run": it makes its own schedule, round by round, and writes the entries it used.
-
-mod turns;
-
-use crate::turns::play_rounds;
-use machine::Machine;
 use run::RunAnswer;
 use run::begin::begin;
 use run::tell::answer;
+use turns::play_rounds;
 ghost use Rattle.scheduler.specs.Promise.{Promise};
 
-// The answer, with the machine as the run left it and the words of its stacklets.
+// The answer, with the machine's tables as the run left them and the words of its stacklets.
 pub struct Scheduled {
     pub answer: RunAnswer,
-    pub machine: Machine,
+    pub tables: [u8; 712],
     pub words: [u32; 1024],
     // the bytes of the entries at the buffer's front
     pub used: usize,
@@ -33,6 +29,7 @@ pub fn run(
 {
     // the tests and Start are those of a run by no entries, which needs no log
     let none = [0u8; 0];
+    let mut tables = [0u8; 712];
     let mut words = [0u32; 1024];
     let begun = begin(
         image,
@@ -42,34 +39,34 @@ pub fn run(
         memory,
         &none,
         &none,
+        &mut tables,
         &mut words,
     );
-    let machine = begun.machine;
     let number = begun.number;
     if number != 0 {
         return Scheduled {
             answer: RunAnswer::Refused(number),
-            machine,
+            tables,
             words,
             used: 0,
         };
     }
     let starts = begun.starts;
-    let end = play_rounds(
-        machine,
+    let used = play_rounds(
         image,
         &starts,
         parameters,
+        allowance,
+        &mut tables,
         &mut words,
         memory,
-        allowance,
         buffer,
     );
-    let last = end.machine;
+    let answer = answer(&tables);
     Scheduled {
-        answer: answer(last),
-        machine: last,
+        answer,
+        tables,
         words,
-        used: end.used,
+        used,
     }
 }

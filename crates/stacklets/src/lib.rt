@@ -7,8 +7,8 @@ ghost use lib.ListN.{getD, set, replicate};
 ghost use Rattle.stacklets.specs.Tops.{topsOf, stackletsOf, topAt, fitsOn, isTopmost, baseOn, pushedTops, poppedTops};
 ghost use Rattle.stacklets.specs.Frames.{slotOf, withSlot, argumentsAt, framed, pushedWords};
 
-// How many words of each stacklet its frames take. A stacklet with top 0 has no frame. The tops are public, since any of them may be: a run's
-// loop changes one in place.
+// How many words of each stacklet its frames take. A stacklet with top 0 has no frame. The tops are public, since any of them may be: the
+// machine's tables hold them as bytes.
 pub struct Stacklets {
     pub tops: [u8; 16],
 }
@@ -123,20 +123,6 @@ impl Stacklets {
         }
         self
     }
-}
-
-// A stacklet's top, among these tops. This and the next are for code that holds the stacklets among other things and changes them in place.
-pub fn top_in(tops: &[u8; 16], stacklet: u8) -> u8
-    ensures { λ r. ⌜ (stacklet < 16 → r ≡ topAt (topsOf (stackletsOf (now (tops .entry)))) stacklet) ⌝ }
-{
-    tops[(stacklet % 16) as usize]
-}
-
-// A stacklet's top becomes another.
-pub fn set_top(tops: &mut [u8; 16], stacklet: u8, top: u8)
-    ensures { λ r. ⌜ (stacklet < 16 → topsOf (stackletsOf (now (tops .exit))) ≡ set (topsOf (stackletsOf (now (tops .entry)))) stacklet top) ⌝ }
-{
-    tops[(stacklet % 16) as usize] = top;
 }
 
 // A stacklet's top, among tops that stand in a part of other numbers; stacklets are taken by their remainder.

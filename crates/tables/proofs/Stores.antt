@@ -146,42 +146,6 @@ module _ (xs words memory : List ℕ) (a t : ℕ) (e : a ≡ 18 * t) (l : t < 32
       thread-put xs (set (set xs a (p % 256)) (a + 1) (p / 256)) words memory t (movedTo p (threadAt (meaning xs words memory) t)) l
       (rw (← e) (position-out xs a p (omega arith))) (rw (← e) (position-in xs a p (omega arith) ∙ ap (movedTo p) record-is))
 
-  -- the parts of a record that are read one by one
-  two-next : (k : ℕ) → twoAt xs (a + k) ≡ getD xs (a + k) 0 + 256 * getD xs (a + (k + 1)) 0
-  two-next k = ap (λ (n : ℕ). getD xs (a + k) 0 + 256 * getD xs n 0) (omega arith)
-
-  pub routine-is : getD xs (a + 4) 0 ≡ threadAt (meaning xs words memory) t .routine
-  unfolding recordAt
-  routine-is = ap (λ (h : Thread). h .routine) record-is
-
-  pub children-are : getD xs (a + 7) 0 ≡ threadAt (meaning xs words memory) t .children
-  unfolding recordAt
-  children-are = ap (λ (h : Thread). h .children) record-is
-
-  pub position-is : twoAt xs a ≡ threadAt (meaning xs words memory) t .position
-  unfolding recordAt
-  position-is = ap (λ (n : ℕ). getD xs n 0 + 256 * getD xs (a + 1) 0) (sym (add-zero a)) ∙ ap (λ (h : Thread). h .position) record-is
-
-  pub base-is : twoAt xs (a + 8) ≡ threadAt (meaning xs words memory) t .base
-  unfolding recordAt
-  base-is = two-next 8 ∙ ap (λ (h : Thread). h .base) record-is
-
-  pub lo-is : twoAt xs (a + 10) ≡ threadAt (meaning xs words memory) t .window .lo
-  unfolding recordAt
-  lo-is = two-next 10 ∙ ap (λ (h : Thread). h .window .lo) record-is
-
-  pub mark-is : twoAt xs (a + 12) ≡ threadAt (meaning xs words memory) t .window .mark
-  unfolding recordAt
-  mark-is = two-next 12 ∙ ap (λ (h : Thread). h .window .mark) record-is
-
-  pub hi-is : twoAt xs (a + 14) ≡ threadAt (meaning xs words memory) t .window .hi
-  unfolding recordAt
-  hi-is = two-next 14 ∙ ap (λ (h : Thread). h .window .hi) record-is
-
-  pub pending-is : twoAt xs (a + 16) ≡ threadAt (meaning xs words memory) t .pending
-  unfolding recordAt
-  pending-is = two-next 16 ∙ ap (λ (h : Thread). h .pending) record-is
-
 -- a queue is stored
 module _ (xs : List ℕ) (a : ℕ) (q : Queue) (fits : a + 34 ≤ length xs) (long : length (q .places) ≡ 32) where
   places-out : Outside xs (sets xs a (q .places)) a 34

@@ -4,7 +4,6 @@ use crate::cells::high;
 use crate::cells::low;
 use crate::cells::put_two;
 use crate::cells::two;
-use crate::cells::two_at;
 use thread::Status;
 use thread::Thread;
 use thread::record::blank_thread;
@@ -160,68 +159,4 @@ pub fn put_position(tables: &mut [u8], t: u8, p: u16)
         return;
     }
     put_two(tables, place_of(t), p);
-}
-
-// The parts of thread t's record that each step looks at, one by one.
-pub fn routine_at(tables: &[u8], t: u8) -> u8
-    ensures { λ r. ⌜ Reads (now (tables .entry)) r (λ s. threadAt s (t % 32) .routine) 0 ⌝ }
-{
-    if tables.len() != SIZE {
-        return 0;
-    }
-    tables[place_of(t) + 4]
-}
-
-pub fn children_at(tables: &[u8], t: u8) -> u8
-    ensures { λ r. ⌜ Reads (now (tables .entry)) r (λ s. threadAt s (t % 32) .children) 0 ⌝ }
-{
-    if tables.len() != SIZE {
-        return 0;
-    }
-    tables[place_of(t) + 7]
-}
-
-pub fn position_at(tables: &[u8], t: u8) -> u16
-    ensures { λ r. ⌜ Reads (now (tables .entry)) r (λ s. threadAt s (t % 32) .position) 0 ⌝ }
-{
-    if tables.len() != SIZE {
-        return 0;
-    }
-    two_at(tables, place_of(t))
-}
-
-pub fn base_at(tables: &[u8], t: u8) -> u16
-    ensures { λ r. ⌜ Reads (now (tables .entry)) r (λ s. threadAt s (t % 32) .base) 0 ⌝ }
-{
-    if tables.len() != SIZE {
-        return 0;
-    }
-    two_at(tables, place_of(t) + 8)
-}
-
-pub fn window_at(tables: &[u8], t: u8) -> Window
-    ensures { λ r. ⌜ Reads (now (tables .entry)) r (λ s. threadAt s (t % 32) .window) (blankThread .window) ⌝ }
-{
-    if tables.len() != SIZE {
-        return Window {
-            lo: 0,
-            mark: 0,
-            hi: 0,
-        };
-    }
-    let a = place_of(t);
-    Window {
-        lo: two_at(tables, a + 10),
-        mark: two_at(tables, a + 12),
-        hi: two_at(tables, a + 14),
-    }
-}
-
-pub fn pending_at(tables: &[u8], t: u8) -> u16
-    ensures { λ r. ⌜ Reads (now (tables .entry)) r (λ s. threadAt s (t % 32) .pending) 0 ⌝ }
-{
-    if tables.len() != SIZE {
-        return 0;
-    }
-    two_at(tables, place_of(t) + 16)
 }

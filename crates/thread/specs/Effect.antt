@@ -80,23 +80,3 @@ bytesBy Joins = 1
 bytesBy Suspends = 1
 bytesBy Yields = 1
 bytesBy (Returns v) = 0
-
--- does a run's loop carry a command out in place? 01 to 08, a join and a return
-abbrev pub isOwn : Command → Bool
-isOwn (Set d v) = true
-isOwn (Add d a b) = true
-isOwn (Subtract d a b) = true
-isOwn (Load d a) = true
-isOwn (Store a b) = true
-isOwn (JumpIfZero a t) = true
-isOwn (Jump t) = true
-isOwn (Lfork r d a w) = true
-isOwn (Fork r d a w) = false
-isOwn Join = true
-isOwn Suspend = false
-isOwn Yield = false
-isOwn (Return a) = true
-
--- the effect of such a command; a suspend stands for every other one
-unfoldable pub ownEffectOf : (ℕ → ℕ) → Own → Command → Effect
-ownEffectOf arguments own c = cond (isOwn c) (effectOf arguments own c) Suspends

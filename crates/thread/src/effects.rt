@@ -18,7 +18,7 @@ ghost use Rattle.image.specs.Layout.{argumentsOf};
 ghost use Rattle.window.specs.Rights.{mayLoad, mayStore};
 ghost use Rattle.stacklets.specs.Frames.{slotOf};
 ghost use Rattle.thread.specs.declared.Effect.the-variants.{Sets, Loads, Stores, Goes, Continues, Lforks, Forks, Returns};
-ghost use Rattle.thread.specs.Effect.{run, anyPending, unlessPending, provided, sum, difference, forking, effectOf, ownEffectOf};
+ghost use Rattle.thread.specs.Effect.{run, anyPending, unlessPending, provided, sum, difference, forking, effectOf};
 ghost use Rattle.thread.specs.View.{mayCut, viewOf};
 ghost use Rattle.thread.specs.Thread.{isPending};
 
@@ -247,45 +247,6 @@ pub fn effect(
         Command::Join => Effect::Joins,
         Command::Suspend => Effect::Suspends,
         Command::Yield => Effect::Yields,
-        Command::Return(a) => give_back(pending, slot(words, base, a)),
-    }
-}
-
-// The effect of a command that a run's loop carries out in place: 01 to 08, a join and a return; a suspend stands for every other one. It is
-// kept apart from `effect`, so that the loop is its only caller and has it in line.
-pub fn own_effect(
-    command: Command,
-    image: &[u8],
-    words: &[u32],
-    base: u16,
-    pending: u16,
-    window: Window,
-) -> Effect
-    ensures { λ r. ⌜ r ≡ ownEffectOf (argumentsOf (now (image .entry))) (viewOf (slotOf (now (words .entry)) base) (isPending pending) window) command ⌝ }
-{
-    match command {
-        Command::Set(d, v) => set(pending, d, v),
-        Command::Add(d, a, b) => add(words, base, pending, d, a, b),
-        Command::Subtract(d, a, b) => subtract(words, base, pending, d, a, b),
-        Command::Load(d, a) => load(pending, window, d, a, slot(words, base, a)),
-        Command::Store(a, b) => store(words, base, pending, window, a, b),
-        Command::JumpIfZero(a, t) => jump_if_zero(pending, a, slot(words, base, a), t),
-        Command::Jump(t) => Effect::Goes(t),
-        Command::Lfork {
-            routine,
-            result: d,
-            arguments: a,
-            cut: w,
-        } => lfork(image, words, base, pending, window, routine, d, a, w),
-        Command::Fork {
-            routine: _,
-            result: _,
-            arguments: _,
-            cut: _,
-        } => Effect::Suspends,
-        Command::Join => Effect::Joins,
-        Command::Suspend => Effect::Suspends,
-        Command::Yield => Effect::Suspends,
         Command::Return(a) => give_back(pending, slot(words, base, a)),
     }
 }

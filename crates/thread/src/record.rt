@@ -6,7 +6,7 @@ use window::Window;
 ghost use mathlib.Core.Path.{_≡_};
 ghost use mathlib.Core.Logic.{_⊎_};
 ghost use Prim.Native.Nat.{_-_, _≤_, _<_};
-ghost use Rattle.thread.specs.Thread.{statusNumber, _is_, isRoot, blankThread, rootThread, newThread, withStatus, disconnected, movedTo, joinedAt, behindFork, withoutChild};
+ghost use Rattle.thread.specs.Thread.{statusNumber, _is_, isRoot, blankThread, rootThread, newThread, withStatus, disconnected, joinedAt, behindFork, withoutChild};
 
 // A number for each status.
 pub fn status_number(status: Status) -> u8
@@ -139,14 +139,6 @@ pub fn disconnected(h: Thread, status: Status) -> Thread
         window,
         pending: h.pending,
     }
-}
-
-// The thread with its next command at a position.
-pub fn moved_to(mut h: Thread, position: u16) -> Thread
-    ensures { λ r. ⌜ r ≡ movedTo position h ⌝ }
-{
-    h.position = position;
-    h
 }
 
 // The thread behind a join, its next command at a position: no slot is pending and its window is whole again.

@@ -1,7 +1,7 @@
 -- `scheduler::run` meets its contract. Assumes nothing.
-use mathlib.Core.Path.{refl}
+use Rattle.scheduler.proofs.Promising.{refuses, goes, schedules}
+use mathlib.Core.Path.{refl, _∙_}
 use native.Mathlib.Omega.{arith}
-use Rattle.scheduler.proofs.Promising.{refuses, ready, schedules}
 use borrow.Author.Needs.{needs}
 use Rattle.scheduler.proofs.run.Statement.{statement}
 use Rattle.scheduler.proofs.run.Tie as tie
@@ -15,6 +15,9 @@ slice-aggregate-begin-2 c = search needs
 slice-aggregate-begin-3 : tie.Need-slice-aggregate-begin-3
 slice-aggregate-begin-3 c = search needs
 
+slice-aggregate-begin-4 : tie.Need-slice-aggregate-begin-4
+slice-aggregate-begin-4 c = search needs
+
 begin-requires : tie.Need-begin-requires
 begin-requires c κs = search needs
 
@@ -22,7 +25,9 @@ same-length : tie.Need-same-length
 same-length c = search needs
 
 returns : tie.Need-returns
-returns c = refuses _ _ _ (c .before .before .before .begin .ensures refl _) (c .if1 .taken) _
+returns c =
+    let begin' = c .before .before .before .begin in
+    refuses _ _ _ _ _ _ (begin' .ensures .0 _) (begin' .ensures .1) refl refl (c .if1 .taken) _
 
 slice-aggregate-play-rounds : tie.Need-slice-aggregate-play-rounds
 slice-aggregate-play-rounds c = search needs
@@ -30,8 +35,16 @@ slice-aggregate-play-rounds c = search needs
 slice-aggregate-play-rounds-2 : tie.Need-slice-aggregate-play-rounds-2
 slice-aggregate-play-rounds-2 c = search needs
 
+slice-aggregate-play-rounds-3 : tie.Need-slice-aggregate-play-rounds-3
+slice-aggregate-play-rounds-3 c = search needs
+
 play-rounds-requires : tie.Need-play-rounds-requires
-play-rounds-requires c κs = ready _ _ _ (c .before .before .before .before .before .before .before .before .begin .ensures refl _) (c .before .before .before .before .before .if1 .left) (λ k. omega (arith, c .before .before .before .before .before .before .before .before .before .before .before .before .before .before .before .before .before .shared-slice-known .given k))
+play-rounds-requires c κs =
+    let begin' = c .before .before .before .before .before .before .before .before .before .begin in
+    goes _ _ _ _ _ _ (begin' .ensures .0 _) (begin' .ensures .1) refl refl (c .before .before .before .before .before .before .if1 .left) (λ k. omega (arith, c .before .before .before .before .before .before .before .before .before .before .before .before .before .before .before .before .before .before .before .shared-slice-known .given k)) (begin' .kept .1 .1 .1 .1 .1 .1 .1 .0)
+
+slice-aggregate-answer : tie.Need-slice-aggregate-answer
+slice-aggregate-answer c = search needs
 
 answer-requires : tie.Need-answer-requires
 answer-requires c κs = search needs
@@ -43,7 +56,10 @@ same-length-3 : tie.Need-same-length-3
 same-length-3 c = search needs
 
 returns-2 : tie.Need-returns-2
-returns-2 c = schedules _ _ _ (c .before .before .before .before .before .before .before .before .before .before .before .before .before .before .before .before .begin .ensures refl _) (c .before .before .before .before .before .before .before .before .before .before .before .before .before .if1 .left) (λ k. omega (arith, c .before .before .before .before .before .before .before .before .before .before .before .before .before .before .before .before .before .before .before .before .before .before .before .before .before .shared-slice-known .given k)) _ _ _ _ (c .before .before .before .before .before .before .before .play-rounds .ensures) (c .answer .ensures)
+returns-2 c =
+    let play-rounds' = c .before .before .before .before .before .before .before .before .play-rounds in
+    let begin' = c .before .before .before .before .before .before .before .before .before .before .before .before .before .before .before .before .before .before .begin in
+    schedules _ _ _ _ _ _ (begin' .ensures .0 _) (begin' .ensures .1) refl refl (c .before .before .before .before .before .before .before .before .before .before .before .before .before .before .before .if1 .left) (λ k. omega (arith, c .before .before .before .before .before .before .before .before .before .before .before .before .before .before .before .before .before .before .before .before .before .before .before .before .before .before .before .before .shared-slice-known .given k)) _ _ _ _ (play-rounds' .ensures) (c .answer .ensures .means (play-rounds' .kept .1 .1 .1 .1 .0 ∙ begin' .kept .1 .1 .1 .1 .1 .1 .1 .0) _ _)
 
 pub run-spec : {M : Type 1} → statement M
 run-spec =
@@ -52,12 +68,15 @@ run-spec =
     slice-aggregate-begin
     slice-aggregate-begin-2
     slice-aggregate-begin-3
+    slice-aggregate-begin-4
     begin-requires
     same-length
     returns
     slice-aggregate-play-rounds
     slice-aggregate-play-rounds-2
+    slice-aggregate-play-rounds-3
     play-rounds-requires
+    slice-aggregate-answer
     answer-requires
     same-length-2
     same-length-3
