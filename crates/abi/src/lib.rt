@@ -6,7 +6,6 @@ pub mod words;
 use crate::words::answer_words;
 use crate::words::statuses_of;
 use image::number::image_number;
-use tables::records::threads;
 ghost use mathlib.Core.Path.{_≡_};
 ghost use Rattle.image.specs.Image.{imageVerdict, numberIn};
 ghost use Rattle.abi.specs.Told.{RunTold};
@@ -48,8 +47,7 @@ pub extern "C" fn hofnulda_run(
         schedule,
         log,
     );
-    let tables = ran.tables;
     let told = ran.answer;
     *answer = answer_words(told);
-    *statuses = statuses_of(threads(&tables));
+    *statuses = statuses_of(&ran.tables);
 }

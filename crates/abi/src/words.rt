@@ -1,9 +1,11 @@
 // Answers as words of an array, and the statuses of the thread records.
 
 use run::RunAnswer;
-use thread::Thread;
+use tables::records::thread_at;
 use thread::record::status_number;
 ghost use mathlib.Core.Path.{_≡_};
+ghost use lib.ListN.{replicate};
+ghost use Rattle.tables.specs.Change.{Reads};
 ghost use Rattle.abi.specs.Words.{answerWords, statusesUpTo};
 
 pub fn answer_words(answer: RunAnswer) -> [u32; 4]
@@ -21,14 +23,14 @@ pub fn answer_words(answer: RunAnswer) -> [u32; 4]
     }
 }
 
-// The status number of each thread record.
-pub fn statuses_of(threads: [Thread; 32]) -> [u8; 32]
-    ensures { λ r. ⌜ r ≡ statusesUpTo threads 32 ⌝ }
+// The status number of each thread record in the tables; zeros for tables of another size.
+pub fn statuses_of(tables: &[u8]) -> [u8; 32]
+    ensures { λ r. ⌜ Reads (now (tables .entry)) r (λ s. statusesUpTo (s .threads) 32) (replicate 32 0) ⌝ }
 {
     let mut all = [0u8; 32];
     let mut i: usize = 0;
     while i < 32 {
-        let thread = threads[i];
+        let thread = thread_at(tables, i as u8);
         let status = thread.status;
         all[i] = status_number(status);
         i = i + 1;

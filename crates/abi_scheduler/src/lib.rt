@@ -2,7 +2,6 @@
 // slice is passed as a pointer and a length, an array as a pointer.
 use abi::words::answer_words;
 use abi::words::statuses_of;
-use tables::records::threads;
 ghost use Rattle.abi_scheduler.specs.Told.{ScheduledTold};
 
 // A run by the built-in scheduler, told as a run by a schedule is. It gives the bytes of the entries at the buffer's front.
@@ -29,9 +28,8 @@ pub extern "C" fn hofnulda_scheduled(
         allowance,
         buffer,
     );
-    let tables = ran.tables;
     let told = ran.answer;
     *answer = answer_words(told);
-    *statuses = statuses_of(threads(&tables));
+    *statuses = statuses_of(&ran.tables);
     ran.used
 }

@@ -1,8 +1,4 @@
 -- `abi::hofnulda_run` meets its contract. Assumes nothing.
-use Rattle.abi.specs.Words.{statusesUpTo}
-use Rattle.thread.specs.declared.Thread.{Thread}
-use mathlib.Core.List.{List}
-use mathlib.Core.Path.{ap, _∙_}
 use borrow.Author.Needs.{needs}
 use Rattle.abi.proofs.hofnulda_run.Statement.{statement}
 use Rattle.abi.proofs.hofnulda_run.Tie as tie
@@ -12,12 +8,6 @@ run-requires c κs = search needs
 
 answer-words-requires : tie.Need-answer-words-requires
 answer-words-requires c κs = search needs
-
-slice-aggregate-threads : tie.Need-slice-aggregate-threads
-slice-aggregate-threads c = search needs
-
-threads-requires : tie.Need-threads-requires
-threads-requires c κs = search needs
 
 statuses-of-requires : tie.Need-statuses-of-requires
 statuses-of-requires c κs = search needs
@@ -31,7 +21,7 @@ same-length-2 c = search needs
 returns : tie.Need-returns
 returns c =
     let run' = c .before .before .before .before .before .before .before .before .before .run in
-    record { ran = run' .result; promise = run' .ensures; answered = c .before .before .before .answer-words .ensures; counted = c .statuses-of .ensures ∙ ap (λ (l : List Thread). statusesUpTo l 32) (c .before .threads .ensures .means (search needs) _ _) }
+    record { ran = run' .result; promise = run' .ensures; answered = c .before .before .before .before .answer-words .ensures; counted = c .statuses-of .ensures .means (search needs) _ _ }
 
 pub hofnulda-run-spec : {M : Type 1} → statement M
 hofnulda-run-spec =
@@ -39,8 +29,6 @@ hofnulda-run-spec =
     (tie.spec
     run-requires
     answer-words-requires
-    slice-aggregate-threads
-    threads-requires
     statuses-of-requires
     same-length
     same-length-2
