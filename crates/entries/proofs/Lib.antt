@@ -9,4 +9,3 @@ pub mod Carrying
 pub mod Weighing
 pub mod Stepping
 pub mod Bursting
-pub mod Starting

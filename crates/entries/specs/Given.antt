@@ -3,10 +3,9 @@ use mathlib.Core.Bool.{Bool, true, cond}
 use mathlib.Core.List.{List, [], _∷_}
 use mathlib.Core.Path.{_≡_}
 use Prim.Native.Nat.{ℕ, _+_, _≤_, _<_, _^_}
-use lib.ListN.{length, replicate}
-use Rattle.image.specs.Layout.{argumentsOf, slotsOf}
-use Rattle.queue.specs.Contents.{ascendingFrom}
-use Rattle.stacklets.specs.Frames.{pushedWords, slotOf}
+use lib.ListN.{length}
+use Rattle.image.specs.Layout.{argumentsOf}
+use Rattle.stacklets.specs.Frames.{slotOf}
 use Rattle.queue.specs.declared.Front.{Front}
 use Rattle.queue.specs.declared.Front.the-variants.{Number, Nothing}
 use Rattle.window.specs.Rights.{childOf, restOf}
@@ -16,18 +15,16 @@ use Rattle.thread.specs.declared.Effect.the-variants.{Faults, Sets, Loads, Stor
 use Rattle.thread.specs.Effect.{forking}
 use Rattle.thread.specs.View.{viewOf}
 use Rattle.thread.specs.declared.Status.{Status}
-use Rattle.thread.specs.Thread.{rootThread, newThread, behindFork, joinedAt, isPending, none}
+use Rattle.thread.specs.Thread.{newThread, behindFork, joinedAt, isPending}
 use Rattle.rules.specs.State.{Job, jobOf, State, After, threadAt}
-use Rattle.rules.specs.Update.{setThread, setCore, setFreeThreads, setFreeStacklets, setReady}
+use Rattle.rules.specs.Update.{setThread, setFreeStacklets, setReady}
 use Rattle.rules.specs.Turn.{Turn, done, goesOn}
 use Rattle.rules.specs.Leave.{leaves}
 use Rattle.rules.specs.Return.{stackletsWithout, readyAfter}
 use Rattle.rules.specs.declared.ForkKind.{ForkKind}
 use Rattle.rules.specs.Fork.{Asked, Place, onStacklet, nowhere, childStatus, parentStatus, isConnected}
 use Rattle.rules.specs.Sound.{Sound}
-use Rattle.rules.specs.Start.{startState}
 use Rattle.tables.specs.Meaning.{size, meaning}
-use Rattle.tables.specs.Change.{setCount}
 
 -- what the tables mean behind an entry, with its log byte
 abbrev pub after : ℕ → List ℕ → List ℕ → List ℕ → After
@@ -174,18 +171,3 @@ leavesAs o status s = leaves (o .core) (o .number) status (goesOn o s)
 pub record Sounding (image starts parameters : List ℕ) (allowance : ℕ) (xs words memory : List ℕ) : Type 0 where
   pub sized : length xs ≡ size
   pub sound : Sound (jobOf image starts parameters allowance) (meaning xs words memory)
-
--- "Free thread numbers and free stacklets each stand in a line, at first ascending", without the root's; no thread is ready
-abbrev pub allFree : State → State
-allFree s = setReady [] (setFreeStacklets (ascendingFrom 1 15) (setFreeThreads (ascendingFrom 1 31) s))
-
--- "thread 0 runs routine 0 on core 0 ..; other cores are idle", of tables of zeros
-abbrev pub rootRuns : ℕ → State → State
-rootRuns n s = setCount n (setCore 3 none (setCore 2 none (setCore 1 none (setThread 0 rootThread s))))
-
--- the tables xs have become ys, and the words ws have become vs: the state at Start, whatever they held. Tables of another size stay as
--- they are; words of any other number are zeros with the root's frame
-pub record Starts (image arguments : List ℕ) (count : ℕ) (xs ys ws vs : List ℕ) : Type 0 where
-  pub means : length xs ≡ size → length ws ≡ 1024 → (starts parameters memory : List ℕ) (allowance : ℕ) → meaning ys vs memory ≡ startState (jobOf image starts parameters allowance) count arguments memory
-  pub other : (length xs ≡ size → ⊥) → ys ≡ xs
-  pub framed : vs ≡ pushedWords (replicate 16 0) (replicate (length ws) 0) 0 (slotsOf image 0) arguments

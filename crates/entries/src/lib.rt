@@ -7,7 +7,6 @@ mod leave;
 mod own;
 mod parts;
 mod returning;
-pub mod start;
 pub mod steal;
 pub mod step;
 pub mod take;

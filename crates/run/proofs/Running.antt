@@ -16,7 +16,8 @@ use Rattle.rules.specs.Runs.{runFrom, logsFrom, logged}
 use Rattle.tables.specs.declared.Standing.{Standing}
 use Rattle.tables.specs.Meaning.{size, meaning}
 use Rattle.tables.specs.Change.{Reads, outcomeBy}
-use Rattle.entries.specs.Given.{Sounding, Starts}
+use Rattle.entries.specs.Given.{Sounding}
+use Rattle.start.specs.Start.{Starts}
 use Rattle.schedule.specs.declared.Entry.{Entry}
 use Rattle.schedule.specs.Meaning.{entries, scheduleOf}
 use Rattle.schedule.proofs.Following.{accepted}

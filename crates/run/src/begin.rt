@@ -1,9 +1,9 @@
 // What stands before a run's first entry: the whole-run tests, the machine at Start, and where the routines' codes start.
 use crate::refusal::refusal;
-use entries::start::start;
 use image::number::image_number;
+use start::start;
 ghost use Prim.Native.Nat.{ℕ};
-ghost use Rattle.entries.specs.Given.{Starts};
+ghost use Rattle.start.specs.Start.{Starts};
 ghost use Rattle.run.specs.Run.{Begins};
 
 // A run at its beginning.

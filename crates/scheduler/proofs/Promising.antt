@@ -6,7 +6,8 @@ use lib.ListN.{getD, length}
 use Rattle.thread.specs.Job.{jobOf}
 use Rattle.rules.specs.State.{State}
 use Rattle.tables.specs.Meaning.{size, meaning}
-use Rattle.entries.specs.Given.{Sounding, Starts}
+use Rattle.entries.specs.Given.{Sounding}
+use Rattle.start.specs.Start.{Starts}
 use Rattle.demands.specs.declared.RunAnswer.the-variants.{Refused}
 use Rattle.demands.specs.Input.{Input, jobIn, startIn, answerOf}
 use Rattle.run.specs.declared.begin.Begun.{Begun}

@@ -1,18 +1,10 @@
--- `entries::start::put_numbers` meets its contract. Assumes nothing.
+-- `start::put_numbers` meets its contract. Assumes nothing.
 use Rattle.tables.proofs.Changes.{then, likewise}
 use Rattle.queue.specs.Contents.{restOf}
 use mathlib.Core.Path.{ap, _∙_}
 use borrow.Author.Needs.{needs}
-use Rattle.entries.proofs.start.put_numbers.Statement.{statement}
-use Rattle.entries.proofs.start.put_numbers.Tie as tie
-use Rattle.entries.proofs.start.put_numbers.Reads as reads
-use Rattle.entries.proofs.start.put_numbers.Lts as lts
-use Rattle.queue.proofs.Queue.ascending.Reads as ascending-reads
-use Rattle.queue.proofs.Queue.dequeue.Reads as dequeue-reads
-use Rattle.queue.proofs.Queue.new.Reads as new-reads
-use Rattle.tables.proofs.lines.put_free_stacklets.Reads as put-free-stacklets-reads
-use Rattle.tables.proofs.lines.put_free_threads.Reads as put-free-threads-reads
-use Rattle.tables.proofs.lines.put_ready.Reads as put-ready-reads
+use Rattle.start.proofs.put_numbers.Statement.{statement}
+use Rattle.start.proofs.put_numbers.Tie as tie
 
 ascending-requires : tie.Need-ascending-requires
 ascending-requires c κs = search needs

@@ -12,7 +12,7 @@ use Rattle.rules.specs.Start.{startState}
 use Rattle.tables.specs.Meaning.{size, meaning}
 use Rattle.tables.specs.Change.{Becomes, Clears}
 use Rattle.tables.proofs.Zeros.{zeros, zero-threads, zero-cores, zero-units, zero-outcome}
-use Rattle.entries.specs.Given.{allFree, rootRuns, Starts}
+use Rattle.start.specs.Start.{allFree, rootRuns, Starts}
 
 laid : (j : Job) (count : ℕ) (arguments memory : List ℕ) →
     rootRuns count (allFree (setTops (pushedTops (replicate 16 0) 0 (slotsOf (j .image) 0)) (meaning (replicate size 0) (pushedWords (replicate 16 0) (replicate 1024 0) 0 (slotsOf (j .image) 0) arguments) memory)))

@@ -1,12 +1,12 @@
--- `entries::start::clear_words` meets its contract. Assumes nothing.
+-- `start::clear_words` meets its contract. Assumes nothing.
 use Prim.Native.Nat.{_≤_, _-_}
 use lib.ListN.{length, length-set}
 use mathlib.Core.Path.{_≡_, refl, _∙_}
 use native.Mathlib.Omega.{arith}
 use Rattle.tables.proofs.Zeros.{ZeroBelow, zero-more, all-zero}
 use borrow.Author.Needs.{needs}
-use Rattle.entries.proofs.start.clear_words.Statement.{statement}
-use Rattle.entries.proofs.start.clear_words.Tie as tie
+use Rattle.start.proofs.clear_words.Statement.{statement}
+use Rattle.start.proofs.clear_words.Tie as tie
 
 abbrev Inv-loop : tie.InvT-loop
 Inv-loop words₀ i₀ words i = (i ≤ length words₀) × (length words ≡ length words₀) × ZeroBelow i words

@@ -1,4 +1,4 @@
-// The tables and words at Start.
+// The machine's tables and the stacklets' words at Start.
 use image::routines::slots_of;
 use queue::Queue;
 use stacklets::Stacklets;
@@ -14,7 +14,7 @@ use thread::record::root_thread;
 ghost use mathlib.Core.Path.{_≡_};
 ghost use lib.ListN.{length, replicate};
 ghost use Rattle.tables.specs.Change.{Becomes};
-ghost use Rattle.entries.specs.Given.{allFree, rootRuns, Starts};
+ghost use Rattle.start.specs.Start.{allFree, rootRuns, Starts};
 
 // All words become zero.
 fn clear_words(words: &mut [u32])

@@ -1,18 +1,8 @@
--- `entries::start::start` meets its contract. Assumes nothing.
-use Rattle.entries.proofs.Starting.{starting}
+-- `start::start` meets its contract. Assumes nothing.
+use Rattle.start.proofs.Starting.{starting}
 use borrow.Author.Needs.{needs}
-use Rattle.entries.proofs.start.start.Statement.{statement}
-use Rattle.entries.proofs.start.start.Tie as tie
-use Rattle.entries.proofs.start.start.Reads as reads
-use Rattle.entries.proofs.start.start.Lts as lts
-use Rattle.entries.proofs.start.clear_words.Reads as clear-words-reads
-use Rattle.entries.proofs.start.put_numbers.Reads as put-numbers-reads
-use Rattle.entries.proofs.start.put_root.Reads as put-root-reads
-use Rattle.image.proofs.routines.slots_of.Reads as slots-of-reads
-use Rattle.stacklets.proofs.Stacklets.new.Reads as new-reads
-use Rattle.stacklets.proofs.Stacklets.push_arguments.Reads as push-arguments-reads
-use Rattle.tables.proofs.lines.put_stacklets.Reads as put-stacklets-reads
-use Rattle.tables.proofs.marks.clear.Reads as clear-reads
+use Rattle.start.proofs.start.Statement.{statement}
+use Rattle.start.proofs.start.Tie as tie
 
 clear-requires : tie.Need-clear-requires
 clear-requires c κs = search needs

@@ -1,14 +1,8 @@
--- `entries::start::put_root` meets its contract. Assumes nothing.
+-- `start::put_root` meets its contract. Assumes nothing.
 use Rattle.tables.proofs.Changes.{then, likewise}
 use borrow.Author.Needs.{needs}
-use Rattle.entries.proofs.start.put_root.Statement.{statement}
-use Rattle.entries.proofs.start.put_root.Tie as tie
-use Rattle.entries.proofs.start.put_root.Reads as reads
-use Rattle.entries.proofs.start.put_root.Lts as lts
-use Rattle.tables.proofs.marks.put_core.Reads as put-core-reads
-use Rattle.tables.proofs.marks.put_count.Reads as put-count-reads
-use Rattle.tables.proofs.records.put_thread.Reads as put-thread-reads
-use Rattle.thread.proofs.record.root_thread.Reads as root-thread-reads
+use Rattle.start.proofs.put_root.Statement.{statement}
+use Rattle.start.proofs.put_root.Tie as tie
 
 root-thread-requires : tie.Need-root-thread-requires
 root-thread-requires c κs = search needs

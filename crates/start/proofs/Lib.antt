@@ -1,0 +1,2 @@
+-- The law of Start.
+pub mod Starting

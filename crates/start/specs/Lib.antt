@@ -1,0 +1,2 @@
+-- The definitions that the contracts of `start` cite.
+pub mod Start
