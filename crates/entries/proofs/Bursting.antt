@@ -1,10 +1,12 @@
 -- Steps of one core in a row, with the thread's position and the units held apart from the tables. Assumes nothing.
+use mathlib.Core.Bool.{Bool, _&&_}
 use mathlib.Core.List.{List}
 use mathlib.Core.Logic.{_⊎_, inl, inr, ⊎-elim}
 use mathlib.Core.Path.{_≡_, refl, sym, ap, subst, _∙_}
 use Prim.Native.Nat.{ℕ, zero, suc, _+_, _-_, _%_, _≤_, _<_, _^_}
 use native.Mathlib.Nat.{mod-eq-of-lt}
 use native.Mathlib.Omega.{arith}
+use lib.Dec.{eqb, ltb}
 use lib.ListN.{getD, length}
 use lib.Seq.{getD-set-same, set-getD, set-set}
 use Rattle.command.specs.declared.Command.{Command}
@@ -22,13 +24,13 @@ use Rattle.thread.proofs.Widths.{Widened}
 use Rattle.stacklets.specs.Frames.{slotOf}
 use Rattle.image.specs.Layout.{argumentsOf}
 use Rattle.rules.specs.Turn.{Turn, offsetOf, byteOf, done}
-use Rattle.entries.specs.Given.{Seated, recordIn, turnWith, turnIn, after}
-use Rattle.entries.proofs.Meeting.{place-low, next-low, known, tested, wide, few, based, carrying}
+use Rattle.entries.specs.Given.{Seated, Leaving, Carrying, recordIn, turnWith, turnIn, after}
+use Rattle.entries.proofs.Meeting.{place-low, next-low, known-byte, tested, wide, few, based, carrying}
 use Rattle.entries.proofs.Able.{linked-below, free-first, stacklet-first}
 use Rattle.entries.specs.declared.own.Own.the-variants.{Moved}
-use Rattle.entries.specs.Own.{IsOther, OwnAs, weightBy, withBoth}
-use Rattle.entries.proofs.Weighing.{Weighed, weighed, joins, kind}
-use Rattle.entries.proofs.Stepping.{rest-is, rest-own}
+use Rattle.entries.specs.Own.{IsOther, OwnAs, withBoth}
+use Rattle.entries.proofs.Owning.{joins}
+use Rattle.entries.proofs.Stepping.{short-is, rest-is, own-is}
 use Rattle.rules.specs.State.{Job, jobOf, State, After, threadAt}
 use Rattle.rules.specs.Update.{accepted}
 use Rattle.rules.specs.Rules.{entryOf, stepOf}
@@ -38,7 +40,7 @@ use Rattle.tables.specs.Meaning.{size, meaning}
 use Rattle.tables.specs.Change.{Becomes}
 use Rattle.entries.specs.declared.Carried.{Carried}
 use Rattle.entries.specs.Repeat.{repeated, Repeats}
-use Rattle.entries.specs.Burst.{Busy, Resting, standsAt, restOf}
+use Rattle.entries.specs.Burst.{Busy, standsAt, shortOf, restOf}
 
 below-or : (i n : ℕ) → i < suc n → (i < n) ⊎ (i ≡ n)
 below-or zero zero l = inr refl
@@ -64,7 +66,7 @@ once-repeats j s e more r end z f = record {
   last = rw z f;
 }
 
-module _ (image starts parameters : List ℕ) (allowance : ℕ) (xs ws₀ ms₀ : List ℕ) (c t : ℕ) (busy : Busy image starts parameters allowance xs ws₀ ms₀ c t) where
+module _ {image starts parameters : List ℕ} {allowance : ℕ} {xs ws₀ ms₀ : List ℕ} {c t : ℕ} (busy : Busy image starts parameters allowance xs ws₀ ms₀ c t) where
   abbrev j : Job
   j = jobOf image starts parameters allowance
 
@@ -87,21 +89,26 @@ module _ (image starts parameters : List ℕ) (allowance : ℕ) (xs ws₀ ms₀ 
     pub stays : (i : ℕ) → i ≤ k → repeated j (Step c) s₀ i .cores ≡ s₀ .cores
     pub going : (i : ℕ) → i ≤ k → repeated j (Step c) s₀ i .outcome ≡ s₀ .outcome
 
-  -- the command at position p, with its place in the image, its first byte and its effect
-  pub record Meets (p : ℕ) (ws : List ℕ) (place byte : ℕ) (e : Effect) : Type 0 where
+  -- the command at position p: its place in the image, and its first byte
+  pub record Stands (p place byte : ℕ) : Type 0 where
     pub there : place ≡ offsetOf j (movedTo p th₀)
     pub first : byte ≡ getD image place 0
-    pub does : e ≡ effectOf (argumentsOf image) (viewOf (slotOf ws (th₀ .base)) (isPending (th₀ .pending)) (th₀ .window)) (decodedAt image place)
 
   -- as the code finds it
-  pub meets : (th : Thread) (start p place : ℕ) (ws five : List ℕ) (command : Command) (e : Effect) → th ≡ th₀ → start ≡ getD starts (th .routine) 0 + 0
-      → place ≡ start + p → five ≡ fiveAt image place → command ≡ decodedAt five 0
-      → e ≡ effectOf (argumentsOf image) (viewOf (slotOf ws (th .base)) (isPending (th .pending)) (th .window)) command → Meets p ws place (getD five 0 0) e
-  meets th start p place ws five command e seen starting at bytes is does = record {
-    there = omega (arith, at, starting, ap (λ (h : Thread). getD starts (h .routine) 0) seen);
+  pub stands : (th : Thread) (start p : ℕ) (five : List ℕ) → th ≡ th₀ → start ≡ getD starts (th .routine) 0 + 0 → five ≡ fiveAt image (start + p)
+      → Stands p (start + p) (getD five 0 0)
+  stands th start p five seen starting bytes = record {
+    there = omega (arith, starting, ap (λ (h : Thread). getD starts (h .routine) 0) seen);
     first = ap (λ (l : List ℕ). getD l 0 0) bytes;
-    does = does ∙ rw (seen, is, bytes) refl;
   }
+
+  -- its effect
+  abbrev pub Does : List ℕ → ℕ → Effect → Type 0
+  Does ws place e = e ≡ effectOf (argumentsOf image) (viewOf (slotOf ws (th₀ .base)) (isPending (th₀ .pending)) (th₀ .window)) (decodedAt image place)
+
+  pub does : (th : Thread) (place : ℕ) (ws five : List ℕ) (command : Command) (e : Effect) → th ≡ th₀ → five ≡ fiveAt image place → command ≡ decodedAt five 0
+      → e ≡ effectOf (argumentsOf image) (viewOf (slotOf ws (th .base)) (isPending (th .pending)) (th .window)) command → Does ws place e
+  does th place ws five command e seen bytes is f = f ∙ rw (seen, is, bytes) refl
 
   many : length (s₀ .threads) ≡ 32
   many = busy .sounding .sound .sized .threads
@@ -134,7 +141,7 @@ module _ (image starts parameters : List ℕ) (allowance : ℕ) (xs ws₀ ms₀ 
         memory = s₀ .memory;
       }
 
-  module _ (k p left : ℕ) (ws ms : List ℕ) (made : Made k p left ws ms) where
+  module _ {k p left : ℕ} {ws ms : List ℕ} (made : Made k p left ws ms) where
     -- the state before the next step is sound, and its thread in use
     pub sound : Sound j (held p left ws ms)
     sound = rw (made .state) at (repeated-sound j (Step c) s₀ (busy .sounding .sound) k)
@@ -167,130 +174,146 @@ module _ (image starts parameters : List ℕ) (allowance : ℕ) (xs ws₀ ms₀ 
         }
 
     -- position and units are back in the tables
-    module _ (ys : List ℕ) (back : Becomes xs ys (standsAt (t % 32) p (allowance - left))) where
+    module _ {ys : List ℕ} (back : Becomes xs ys (standsAt (t % 32) p (allowance - left))) where
       pub put : meaning ys ws ms ≡ held p left ws ms
       put = back .means (busy .sounding .sized) ws ms ∙ ap (λ (n : ℕ). standsAt n p (allowance - left) (meaning xs ws ms)) (mod-eq-of-lt (busy .number))
 
       -- as many as may follow were made
-      pub ends-full : (more : ℕ) → k ≡ suc more → Repeats j s₀ (Step c) more (record { again = more; log = 0 }) (meaning ys ws ms)
+      pub ends-full : (more : ℕ) (r : Carried) → k ≡ suc more → r .again ≡ more → r .log ≡ 0 → Repeats j s₀ (Step c) more r (meaning ys ws ms)
       unfolding repeated
-      ends-full more full = record {
-        few = omega arith;
+      ends-full more r full again log = record {
+        few = omega (arith, again);
         steps = λ _. refl;
-        accepts = λ i l. made .accepts i (omega (arith, l, full));
-        stays = λ i l. made .stays i (omega (arith, l, full));
-        going = λ i l. made .going i (omega (arith, l, full));
-        last = ap accepted (put ∙ sym (made .state) ∙ ap (repeated j (Step c) s₀) full)
-            ∙ ap (λ (n : ℕ). record { state = entryOf j (repeated j (Step c) s₀ more) (Step c) .state; log = n }) (sym (made .accepts more (omega (arith, full))));
+        accepts = λ i l. made .accepts i (omega (arith, l, full, again));
+        stays = λ i l. made .stays i (omega (arith, l, full, again));
+        going = λ i l. made .going i (omega (arith, l, full, again));
+        last = rw (again, log) (ap accepted (put ∙ sym (made .state) ∙ ap (repeated j (Step c) s₀) full)
+            ∙ ap (λ (n : ℕ). record { state = entryOf j (repeated j (Step c) s₀ more) (Step c) .state; log = n }) (sym (made .accepts more (omega (arith, full)))));
       }
 
-    -- the next command, with its place, first byte and effect
-    module _ (place byte : ℕ) (e : Effect) (here : Meets p ws place byte e) where
-      -- its turn
-      abbrev turn : Turn
-      turn = turnWith c t (movedTo p th₀) (weightOf standardWeights byte) ((p + bytesBy e) % 2 ^ 16) place
+      -- the step after them ends the row
+      ends-by : (more : ℕ) (r : Carried) (zs vs : List ℕ) → k ≤ more → r .again ≡ k → after (r .log) zs vs ms ≡ stepOf j (held p left ws ms) c
+          → Repeats j s₀ (Step c) more r (meaning zs vs ms)
+      unfolding entryOf
+      ends-by more r zs vs l again f = record {
+        few = omega (arith, l, again);
+        steps = λ _. refl;
+        accepts = λ i h. made .accepts i (omega (arith, h, again));
+        stays = λ i h. made .stays i (omega (arith, h, again));
+        going = λ i h. made .going i (omega (arith, h, again));
+        last = rw again (f ∙ ap (λ (x : State). stepOf j x c) (sym (made .state)));
+      }
 
+    -- the next command
+    module _ {place byte : ℕ} (at : Stands p place byte) where
       -- the first byte as the rule has it
       byte-is : byteOf j (movedTo p th₀) ≡ byte
-      byte-is = sym (here .first ∙ ap (λ (i : ℕ). getD image i 0) (here .there))
+      byte-is = sym (at .first ∙ ap (λ (i : ℕ). getD image i 0) (at .there))
+
+      pub byte-low : byte < 14
+      byte-low = rw byte-is at (known-byte j (held p left ws ms) sound t (movedTo p th₀) met used)
 
       pub place-fits : place < 65536
-      place-fits = rw (here .there) (place-low j (held p left ws ms) sound t (movedTo p th₀) met used)
+      place-fits = rw (at .there) (place-low j (held p left ws ms) sound t (movedTo p th₀) met used)
 
       next-fits : p + widthOf byte < 65536
       next-fits = rw byte-is at (next-low j (held p left ws ms) sound t (movedTo p th₀) met used)
 
-      wider : Widened (widthOf byte) e
-      wider = subst (λ (b : ℕ). Widened (widthOf b) e) byte-is
-          (rw (here .does, here .there) (wide j (held p left ws ms) sound t (movedTo p th₀) met used (viewOf (slotOf ws (th₀ .base)) (isPending (th₀ .pending)) (th₀ .window))))
+      -- whether it waits, and its weight
+      abbrev waits : Bool
+      waits = eqb byte 10 && ltb 0 (th₀ .children)
 
-      pub guarded : Guarded (argumentsOf image) (viewOf (slotOf ws (th₀ .base)) (isPending (th₀ .pending)) (th₀ .window)) e
-      guarded = rw (here .does, here .there) (tested j (held p left ws ms) sound t (movedTo p th₀) met used (viewOf (slotOf ws (th₀ .base)) (isPending (th₀ .pending)) (th₀ .window)))
+      abbrev weight : ℕ
+      weight = weightOf standardWeights byte
 
-      -- by its effect it is the rule's step
-      pub stepped : restOf j (held p left ws ms) turn e left byte (th₀ .children) ≡ stepOf j (held p left ws ms) c
-      unfolding meaning
-      stepped =
-          rest-is j (held p left ws ms) c t (busy .going) (busy .core) (busy .on) (busy .number) (movedTo p th₀) met place byte left e (here .there) (here .first)
-          (omega (arith, made .few)) (here .does) wider next-fits
+      -- with its effect
+      module _ (e : Effect) (is : Does ws place e) where
+        -- its turn
+        abbrev turn : Turn
+        turn = turnWith c t (movedTo p th₀) weight ((p + bytesBy e) % 2 ^ 16) place
 
-      -- the weight as the effect tells it, and a join is no command of its own thread's alone
-      weighs : (IsOther e → ⊥) → weightBy e ≡ weightOf standardWeights byte
-      weighs own =
-          let some : 1 ≤ widthOf byte = subst (λ (b : ℕ). 1 ≤ widthOf b) byte-is (known j (held p left ws ms) sound t (movedTo p th₀) met used) in
-          let is : Weighed (weightOf standardWeights byte) e =
-          rw (here .does, here .first) (weighed (argumentsOf image) (viewOf (slotOf ws (th₀ .base)) (isPending (th₀ .pending)) (th₀ .window)) (getD image place 0)
-          (getD image (place + 1) 0) (getD image (place + 2) 0) (getD image (place + 3) 0) (getD image (place + 4) 0) (rw (here .first) at some))
-          in
-          is .is own
+        wider : Widened (widthOf byte) e
+        wider = subst (λ (b : ℕ). Widened (widthOf b) e) byte-is
+            (rw (is, at .there) (wide j (held p left ws ms) sound t (movedTo p th₀) met used (viewOf (slotOf ws (th₀ .base)) (isPending (th₀ .pending)) (th₀ .window))))
 
-      no-join : byte ≡ 10 → IsOther e
-      no-join ten = rw (here .does, ← here .first, ten) (joins (argumentsOf image) (viewOf (slotOf ws (th₀ .base)) (isPending (th₀ .pending)) (th₀ .window))
-          (getD image (place + 1) 0) (getD image (place + 2) 0) (getD image (place + 3) 0) (getD image (place + 4) 0))
+        pub guarded : Guarded (argumentsOf image) (viewOf (slotOf ws (th₀ .base)) (isPending (th₀ .pending)) (th₀ .window)) e
+        guarded = rw (is, at .there) (tested j (held p left ws ms) sound t (movedTo p th₀) met used (viewOf (slotOf ws (th₀ .base)) (isPending (th₀ .pending)) (th₀ .window)))
 
-      -- what an own effect does to what is held
-      moved : (p' left' : ℕ) (ws' ms' : List ℕ) → weightOf standardWeights byte ≤ left → left' ≡ left - weightOf standardWeights byte
-          → done turn (movedTo p' (movedTo p th₀)) (withBoth ws' ms' (held p left ws ms)) ≡ held p' left' ws' ms'
-      unfolding meaning
-      moved p' left' ws' ms' l is =
-          let units : (allowance - left) + weightOf standardWeights byte ≡ allowance - left' = omega (arith, made .few, l, is) in
-          rw (units, set-set (s₀ .threads) t (movedTo p th₀) (movedTo p' th₀)) refl
+        no-join : byte ≡ 10 → IsOther e
+        no-join ten = rw (is, ← at .first, ten) (joins (argumentsOf image) (viewOf (slotOf ws (th₀ .base)) (isPending (th₀ .pending)) (th₀ .window))
+            (getD image (place + 1) 0) (getD image (place + 2) 0) (getD image (place + 3) 0) (getD image (place + 4) 0))
 
-      -- a command that is its own thread's alone
-      pub goes-own : (p' left' : ℕ) (ws' ms' : List ℕ) → OwnAs e left p (th₀ .base) parameters ws ms ws' ms' (Moved p' left') → Made (suc k) p' left' ws' ms'
-      unfolding meaning
-      goes-own p' left' ws' ms' told =
-          let weight = weighs (told .2) in
-          let enough : weightOf standardWeights byte ≤ left = omega (arith, weight, told .0) in
-          let rest : left' ≡ left - weightOf standardWeights byte = told .1 ∙ ap (λ (x : ℕ). left - x) weight in
-          goes p' left' ws' ms' (omega (arith, rest, made .few))
-          (sym stepped ∙ rest-own j (held p left ws ms) turn e left byte (th₀ .children) no-join (told .2) enough
-          ∙ told .3 j (held p left ws ms) turn refl refl refl refl refl ∙ ap accepted (moved p' left' ws' ms' enough rest))
+        -- its weight is left
+        module _ (enough : weight ≤ left) where
+          -- what an own effect does to what is held
+          moved : (p' : ℕ) (ws' ms' : List ℕ) → done turn (movedTo p' (movedTo p th₀)) (withBoth ws' ms' (held p left ws ms)) ≡ held p' (left - weight) ws' ms'
+          unfolding meaning
+          moved p' ws' ms' =
+              let units : (allowance - left) + weight ≡ allowance - (left - weight) = omega (arith, made .few, enough) in
+              rw (units, set-set (s₀ .threads) t (movedTo p th₀) (movedTo p' th₀)) refl
 
-      -- a command of another kind, or one that is too dear
-      module _ (ys : List ℕ) (back : Becomes xs ys (standsAt (t % 32) p (allowance - left))) where
+          -- a command that is its own thread's alone
+          pub goes-own : (p' : ℕ) (ws' ms' : List ℕ) → OwnAs e p (th₀ .base) parameters ws ms ws' ms' (Moved p') → Made (suc k) p' (left - weight) ws' ms'
+          unfolding meaning
+          goes-own p' ws' ms' told =
+              goes p' (left - weight) ws' ms' (omega (arith, made .few))
+              (sym (own-is j (held p left ws ms) c t (busy .going) (busy .core) (busy .on) (busy .number) (movedTo p th₀) met place byte left e (at .there) (at .first)
+              (omega (arith, made .few)) is wider next-fits enough no-join (told .0))
+              ∙ told .1 j (held p left ws ms) turn refl refl refl refl refl ∙ ap accepted (moved p' ws' ms'))
+
+      -- position and units are back in the tables
+      module _ {ys : List ℕ} (back : Becomes xs ys (standsAt (t % 32) p (allowance - left))) where
         same : recordIn ys t ≡ movedTo p th₀
         unfolding meaning
-        same = ap (λ (x : State). threadAt x t) (put ys back) ∙ sym met
+        same = ap (λ (x : State). threadAt x t) (put back) ∙ sym met
 
         ok : Sound j (meaning ys ws ms)
-        ok = subst (λ (x : State). Sound j x) (sym (put ys back)) sound
+        ok = subst (λ (x : State). Sound j x) (sym (put back)) sound
 
-        pub resting : allowance < 2 ^ 32 → (weightBy e ≤ left → IsOther e) → Resting ys c t left byte e
+        sized : length ys ≡ size
+        sized = back .sized ∙ busy .sounding .sized
+
+        low : c < 4
+        low = omega (arith, busy .core, busy .sounding .sound .sized .most)
+
+        pub leaving : Leaving ys c t
         unfolding meaning
-        resting small told =
-            let sized : length ys ≡ size = back .sized ∙ busy .sounding .sized in
-            let low : c < 4 = omega (arith, busy .core, busy .sounding .sound .sized .most) in
-            let units : meaning ys ws ms .units ≡ allowance - left = ap (λ (x : State). x .units) (put ys back) in
-            let linked = linked-below j (meaning ys ws ms) ok t in
-            record {
-              leaving = record { sized = sized; core = low; number = busy .number; linked = linked };
-              carrying = λ enough.
-                  let seated : Seated ys c t (weightOf standardWeights byte) = record {
-                    sized = sized;
-                    core = low;
-                    number = busy .number;
-                    units = omega (arith, units, enough, made .few, small);
-                    base = rw same (based j (held p left ws ms) sound t (movedTo p th₀) met used);
-                  } in
-                  let other : IsOther e = ⊎-elim (λ o. o) (λ own. told (omega (arith, weighs own, enough))) (kind e) in
-                  carrying (argumentsOf image) (slotOf ws (th₀ .base)) (isPending (th₀ .pending)) (th₀ .window) ys c t (weightOf standardWeights byte)
-                  (sym (ap (λ (h : Thread). h .window) same)) seated linked (rw same (few j (held p left ws ms) sound t (movedTo p th₀) met used))
-                  (free-first j (meaning ys ws ms) ok) (stacklet-first j (meaning ys ws ms) ok) e guarded other;
-            }
+        leaving = record { sized = sized; core = low; number = busy .number; linked = linked-below j (meaning ys ws ms) ok t }
 
-        pub ends-rest : (more log : ℕ) (zs vs : List ℕ) → k ≤ more
-            → after log zs vs ms ≡ restOf j (meaning ys ws ms) (turnIn ys c t (weightOf standardWeights byte) ((p + bytesBy e) % 2 ^ 16) place) e left byte (th₀ .children)
-            → Repeats j s₀ (Step c) more (record { again = k; log = log }) (meaning zs vs ms)
-        unfolding entryOf
-        ends-rest more log zs vs l f = record {
-          few = l;
-          steps = λ _. refl;
-          accepts = made .accepts;
-          stays = made .stays;
-          going = made .going;
-          last = f
-              ∙ ap (λ (x : State). restOf j x (turnIn ys c t (weightOf standardWeights byte) ((p + bytesBy e) % 2 ^ 16) place) e left byte (th₀ .children)) (put ys back)
-              ∙ ap (λ (h : Thread). restOf j (held p left ws ms) (turnWith c t h (weightOf standardWeights byte) ((p + bytesBy e) % 2 ^ 16) place) e left byte (th₀ .children)) same
-              ∙ stepped ∙ ap (λ (x : State). stepOf j x c) (sym (made .state));
-        }
+        -- a command that is too dear
+        pub ends-short : left < weight → (more : ℕ) (r : Carried) (zs : List ℕ) → k ≤ more → r .again ≡ k
+            → after (r .log) zs ws ms ≡ shortOf c t waits (meaning ys ws ms) → Repeats j s₀ (Step c) more r (meaning zs ws ms)
+        unfolding meaning
+        ends-short dear more r zs l again f =
+            ends-by back more r zs ws l again
+            (f ∙ ap (shortOf c t waits) (put back)
+            ∙ short-is j (held p left ws ms) c t (busy .going) (busy .core) (busy .on) (busy .number) (movedTo p th₀) met place byte left _ (at .there) (at .first)
+            (omega (arith, made .few)) refl dear)
+
+        -- a command of another kind
+        module _ (e : Effect) (is : Does ws place e) (enough : weight ≤ left) where
+          pub resting : allowance < 2 ^ 32 → IsOther e → Carrying ys c t weight e
+          unfolding meaning
+          resting small other =
+              let units : meaning ys ws ms .units ≡ allowance - left = ap (λ (x : State). x .units) (put back) in
+              let seated : Seated ys c t weight = record {
+                sized = sized;
+                core = low;
+                number = busy .number;
+                units = omega (arith, units, enough, made .few, small);
+                base = rw same (based j (held p left ws ms) sound t (movedTo p th₀) met used);
+              } in
+              carrying (argumentsOf image) (slotOf ws (th₀ .base)) (isPending (th₀ .pending)) (th₀ .window) ys c t weight
+              (sym (ap (λ (h : Thread). h .window) same)) seated (linked-below j (meaning ys ws ms) ok t) (rw same (few j (held p left ws ms) sound t (movedTo p th₀) met used))
+              (free-first j (meaning ys ws ms) ok) (stacklet-first j (meaning ys ws ms) ok) e (guarded e is) other
+
+          pub ends-rest : (more : ℕ) (r : Carried) (zs vs : List ℕ) → k ≤ more → r .again ≡ k
+              → after (r .log) zs vs ms ≡ restOf j (meaning ys ws ms) (turnIn ys c t weight ((p + bytesBy e) % 2 ^ 16) place) e waits
+              → Repeats j s₀ (Step c) more r (meaning zs vs ms)
+          unfolding meaning
+          ends-rest more r zs vs l again f =
+              ends-by back more r zs vs l again
+              (f ∙ ap (λ (x : State). restOf j x (turnIn ys c t weight ((p + bytesBy e) % 2 ^ 16) place) e waits) (put back)
+              ∙ ap (λ (h : Thread). restOf j (held p left ws ms) (turnWith c t h weight ((p + bytesBy e) % 2 ^ 16) place) e waits) same
+              ∙ rest-is j (held p left ws ms) c t (busy .going) (busy .core) (busy .on) (busy .number) (movedTo p th₀) met place byte left e (at .there) (at .first)
+              (omega (arith, made .few)) is (wider e is) next-fits enough)

@@ -6,6 +6,5 @@ pub mod Meeting
 pub mod Stealing
 pub mod Owning
 pub mod Carrying
-pub mod Weighing
 pub mod Stepping
 pub mod Bursting

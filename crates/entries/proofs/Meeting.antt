@@ -2,9 +2,10 @@
 use mathlib.Core.Bool.{Bool, true}
 use mathlib.Core.List.{List, []}
 use mathlib.Core.Path.{_≡_, refl}
-use Prim.Native.Nat.{ℕ, _+_, _%_, _≤_, _<_, _^_}
+use Prim.Native.Nat.{ℕ, _+_, _%_, _<_, _^_}
 use native.Mathlib.Nat.{mod-eq-of-lt}
 use native.Mathlib.Omega.{arith}
+use lib.ListN.{length}
 use Rattle.command.specs.Command.{decodedAt, widthOf}
 use Rattle.image.specs.Layout.{argumentsOf}
 use Rattle.window.specs.declared.Window.{Window}
@@ -22,7 +23,7 @@ use Rattle.rules.specs.Turn.{offsetOf, byteOf}
 use Rattle.rules.specs.Return.{returnOf, returnToParent}
 use Rattle.rules.specs.Rules.{carriedOf}
 use Rattle.rules.specs.Sound.{Sound, Used}
-use Rattle.met.proofs.CommandMet.{cut-inside, place-small, next-small, some-bytes, operands-few, tested-here, width-here}
+use Rattle.met.proofs.CommandMet.{cut-inside, place-small, next-small, byte-few, operands-few, tested-here, width-here}
 use Rattle.tables.specs.Meaning.{meaning}
 use Rattle.entries.specs.Own.{Stored, IsOther}
 use Rattle.entries.specs.Given.{HeadBelow, Seated, Carrying, recordIn, turnWith}
@@ -35,8 +36,8 @@ module _ (j : Job) (s : State) (ok : Sound j s) (t : ℕ) (th : Thread) (met : t
   pub next-low : th .position + widthOf (byteOf j th) < 65536
   next-low = rw met (next-small j (ok .job) (threadAt s t .routine) (threadAt s t .position) (ok .placed .routine t used) (ok .placed .position t used))
 
-  pub known : 1 ≤ widthOf (byteOf j th)
-  known = rw met (some-bytes j (ok .job) (threadAt s t .routine) (threadAt s t .position) (ok .placed .routine t used) (ok .placed .position t used))
+  pub known-byte : byteOf j th < length (j .weights)
+  known-byte = rw met (byte-few j (ok .job) (threadAt s t .routine) (threadAt s t .position) (ok .placed .routine t used) (ok .placed .position t used))
 
   pub range : InRange (decodedAt (j .image) (offsetOf j th))
   range = rw met (operands-few j (ok .job) (threadAt s t .routine) (threadAt s t .position) (ok .placed .routine t used) (ok .placed .position t used))

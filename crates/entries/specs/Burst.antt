@@ -1,10 +1,8 @@
 -- Steps of one core in a row: what they rely on, and the command that ends them.
-use mathlib.Core.Bool.{false, cond, _&&_}
+use mathlib.Core.Bool.{Bool, false, cond}
 use mathlib.Core.List.{List}
 use mathlib.Core.Path.{_≡_}
-use Prim.Native.Nat.{ℕ, _≤_, _<_}
-use lib.Dec.{eqb, ltb}
-use Rattle.command.specs.Weight.{weightOf, standardWeights}
+use Prim.Native.Nat.{ℕ, _<_}
 use Rattle.thread.specs.declared.Effect.{Effect}
 use Rattle.thread.specs.declared.Status.the-variants.{Waiting}
 use Rattle.rules.specs.State.{Job, State, After, isOver, onCore}
@@ -14,7 +12,7 @@ use Rattle.rules.specs.Leave.{leaves}
 use Rattle.rules.specs.Rules.{carriedOf}
 use Rattle.tables.specs.Meaning.{meaning}
 use Rattle.tables.specs.Change.{movesOn, setUnits}
-use Rattle.entries.specs.Given.{Sounding, Leaving, Carrying}
+use Rattle.entries.specs.Given.{Sounding}
 
 -- a sound state in which thread t runs on core c
 pub record Busy (image starts parameters : List ℕ) (allowance : ℕ) (xs words memory : List ℕ) (c t : ℕ) : Type 0 where
@@ -28,13 +26,14 @@ pub record Busy (image starts parameters : List ℕ) (allowance : ℕ) (xs words
 abbrev pub standsAt : ℕ → ℕ → ℕ → State → State
 standsAt t p n s = setUnits n (movesOn t p s)
 
--- what carrying out a command by its effect relies on: the thread may leave its core, and what else its effect asks, if its weight is left
-pub record Resting (xs : List ℕ) (c t left byte : ℕ) (e : Effect) : Type 0 where
-  pub leaving : Leaving xs c t
-  pub carrying : weightOf standardWeights byte ≤ left → Carrying xs c t (weightOf standardWeights byte) e
+-- a join whose children have not all ended waits, and nothing is charged
+abbrev pub waitsOf : ℕ → ℕ → State → After
+waitsOf c t s = accepted (leaves c t Waiting s)
 
--- a command by its effect: a join may wait, a command be too dear
-abbrev pub restOf : Job → State → Turn → Effect → ℕ → ℕ → ℕ → After
-restOf j s o e left byte children =
-    cond (eqb byte 10 && ltb 0 children) (accepted (leaves (o .core) (o .number) Waiting s))
-    (cond (ltb left (o .weight)) (refused 22 s) (carriedOf j s o e))
+-- a command that is too dear, unless it waits
+abbrev pub shortOf : ℕ → ℕ → Bool → State → After
+shortOf c t waits s = cond waits (waitsOf c t s) (refused 22 s)
+
+-- a command whose weight is left, by its effect, unless it waits
+abbrev pub restOf : Job → State → Turn → Effect → Bool → After
+restOf j s o e waits = cond waits (waitsOf (o .core) (o .number) s) (carriedOf j s o e)

@@ -66,29 +66,13 @@ withBoth words memory s = record {
   memory = memory;
 }
 
--- the weight of an effect's command, where it is its own thread's alone
-abbrev pub weightBy : Effect → ℕ
-weightBy (Faults n) = 0
-weightBy (Sets d v) = 1
-weightBy (Loads d a) = 2
-weightBy (Stores a v) = 2
-weightBy (Goes p) = 1
-weightBy Continues = 1
-weightBy (Lforks r d a e) = 0
-weightBy (Forks r d a e) = 0
-weightBy Joins = 0
-weightBy Suspends = 0
-weightBy Yields = 0
-weightBy (Returns v) = 0
-
 -- the rule carries out an effect on the frame at a base so, whatever the state around it
 abbrev pub CarriedSo : Effect → ℕ → ℕ → List ℕ → List ℕ → List ℕ → List ℕ → List ℕ → ℕ → Type 0
 CarriedSo e position base parameters ws ms ws' ms' p =
     (j : Job) (s : State) (o : Turn) → j .parameters ≡ parameters → s .words ≡ ws → s .memory ≡ ms → o .thread .base ≡ base → o .next ≡ (position + bytesBy e) % 2 ^ 16
     → carriedOf j s o e ≡ accepted (done o (movedTo p (o .thread)) (withBoth ws' ms' s))
 
--- what the answer says: the rule carries the effect out so, and its weight was left; or nothing has changed
-abbrev pub OwnAs : Effect → ℕ → ℕ → ℕ → List ℕ → List ℕ → List ℕ → List ℕ → List ℕ → Own → Type 0
-OwnAs e left position base parameters ws ms ws' ms' (Moved p rest) =
-    (weightBy e ≤ left) × (rest ≡ left - weightBy e) × (IsOther e → ⊥) × CarriedSo e position base parameters ws ms ws' ms' p
-OwnAs e left position base parameters ws ms ws' ms' Other = (ws' ≡ ws) × (ms' ≡ ms) × (weightBy e ≤ left → IsOther e)
+-- what the answer says: the rule carries the effect out so; or it is of another kind, and nothing has changed
+abbrev pub OwnAs : Effect → ℕ → ℕ → List ℕ → List ℕ → List ℕ → List ℕ → List ℕ → Own → Type 0
+OwnAs e position base parameters ws ms ws' ms' (Moved p) = (IsOther e → ⊥) × CarriedSo e position base parameters ws ms ws' ms' p
+OwnAs e position base parameters ws ms ws' ms' Other = (ws' ≡ ws) × (ms' ≡ ms) × IsOther e

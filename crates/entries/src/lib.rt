@@ -28,6 +28,12 @@ pub struct Carried {
     pub log: u8,
 }
 
+fn told(again: usize, log: u8) -> Carried
+    ensures { λ r. ⌜ (r .again ≡ again) × (r .log ≡ log) ⌝ }
+{
+    Carried { again, log }
+}
+
 // An entry that was carried out once.
 fn once(log: u8) -> Carried
     ensures { λ r. ⌜ (r .again ≡ 0) × (r .log ≡ log) ⌝ }

@@ -8,9 +8,9 @@ ghost use Rattle.entries.specs.Own.{Stored, OwnAs, wordIn};
 
 // What carrying out an effect gave.
 pub enum Own {
-    // done: the next position, and what is left of the allowance
-    Moved(u16, u32),
-    // a fault, a command of another kind or one that is too dear: nothing has changed
+    // done: the next position
+    Moved(u16),
+    // a fault, or a command of another kind: nothing has changed
     Other,
 }
 
@@ -43,11 +43,10 @@ fn load(parameters: &[u32], memory: &[u32], a: u32) -> u32
     word_in(memory, (a - 32) as usize)
 }
 
-// What a command does to its own thread is carried out, if it is of this kind and its weight is left. The next position and the weight are
-// constants of the effect, so that they wait for no table.
+// What a command does to its own thread is carried out, if it is of this kind. The command's width is a constant of the effect, so that the next
+// position waits for no table.
 pub fn carry_own(
     done: Effect,
-    left: u32,
     position: u16,
     base: u16,
     parameters: &[u32],
@@ -55,43 +54,24 @@ pub fn carry_own(
     memory: &mut [u32],
 ) -> Own
     requires { ⌜ Stored done ⌝ }
-    ensures { λ r. ⌜ OwnAs done left position base (now (parameters .entry)) (now (words .entry)) (now (memory .entry)) (now (words .exit)) (now (memory .exit)) r ⌝ }
+    ensures { λ r. ⌜ OwnAs done position base (now (parameters .entry)) (now (words .entry)) (now (memory .entry)) (now (words .exit)) (now (memory .exit)) r ⌝ }
 {
     match done {
         Effect::Sets(d, v) => {
-            if left < 1 {
-                return Own::Other;
-            }
             set_slot(words, base, d, v);
-            Own::Moved(wrapping_add_u16(position, 4), left - 1)
+            Own::Moved(wrapping_add_u16(position, 4))
         }
         Effect::Loads(d, a) => {
-            if left < 2 {
-                return Own::Other;
-            }
             let v = load(parameters, memory, a);
             set_slot(words, base, d, v);
-            Own::Moved(wrapping_add_u16(position, 3), left - 2)
+            Own::Moved(wrapping_add_u16(position, 3))
         }
         Effect::Stores(a, v) => {
-            if left < 2 {
-                return Own::Other;
-            }
             put_in(memory, (a - 32) as usize, v);
-            Own::Moved(wrapping_add_u16(position, 3), left - 2)
+            Own::Moved(wrapping_add_u16(position, 3))
         }
-        Effect::Goes(p) => {
-            if left < 1 {
-                return Own::Other;
-            }
-            Own::Moved(p, left - 1)
-        }
-        Effect::Continues => {
-            if left < 1 {
-                return Own::Other;
-            }
-            Own::Moved(wrapping_add_u16(position, 4), left - 1)
-        }
+        Effect::Goes(p) => Own::Moved(p),
+        Effect::Continues => Own::Moved(wrapping_add_u16(position, 4)),
         Effect::Faults(n) => Own::Other,
         Effect::Lforks(r, d, a, e) => Own::Other,
         Effect::Forks(r, d, a, e) => Own::Other,

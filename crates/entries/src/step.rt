@@ -5,9 +5,10 @@ use crate::leave::leave;
 use crate::once;
 use crate::own::Own;
 use crate::own::carry_own;
+use crate::told;
 use command::command_of;
 use command::five_at;
-use command::weight;
+use command::weights;
 use image::routines::place_in_image;
 use tables::marks::core_at;
 use tables::marks::count;
@@ -24,15 +25,14 @@ ghost use mathlib.Core.List.{List};
 ghost use mathlib.Core.Path.{_≡_};
 ghost use Prim.Native.Nat.{ℕ, _+_, _%_, _^_};
 ghost use lib.Dec.{eqb, ltb};
-ghost use Rattle.command.specs.Weight.{weightOf, standardWeights};
 ghost use Rattle.schedule.specs.declared.Entry.the-variants.{Step};
 ghost use Rattle.thread.specs.Effect.{bytesBy};
 ghost use Rattle.rules.specs.State.{jobOf};
 ghost use Rattle.tables.specs.Meaning.{meaning};
 ghost use Rattle.tables.specs.Change.{Becomes};
-ghost use Rattle.entries.specs.Given.{Sounding, turnIn, after};
+ghost use Rattle.entries.specs.Given.{Sounding, Leaving, Carrying, turnIn, after};
 ghost use Rattle.entries.specs.Repeat.{Repeats};
-ghost use Rattle.entries.specs.Burst.{Busy, Resting, standsAt, restOf};
+ghost use Rattle.entries.specs.Burst.{Busy, standsAt, shortOf, restOf};
 
 // Is this a join of a thread whose children have not all ended?
 fn must_wait(byte: u8, children: u8) -> bool
@@ -52,30 +52,44 @@ fn put_back(tables: &mut [u8], t: u8, position: u16, used: u32)
     put_units(tables, used);
 }
 
-// A command of thread t that is not its own thread's alone, or is too dear, by its effect. The log byte is given.
+// A weight in units.
+fn wide(weight: u8) -> u32
+    ensures { λ r. ⌜ r ≡ weight ⌝ }
+{
+    weight as u32
+}
+
+// The command of thread t is too dear: 22, unless it waits. The log byte is given.
+fn fall_short(tables: &mut [u8], c: u8, t: u8, waits: bool) -> u8
+    requires { ⌜ Leaving (now tables) c t ⌝ }
+    ensures { λ x. ⌜ ((words memory : List ℕ) → after x (now (tables .exit)) words memory ≡ shortOf c t waits (meaning (now (tables .entry)) words memory)) ⌝ }
+{
+    if waits {
+        leave(tables, c, t, Status::Waiting);
+        return 0;
+    }
+    22
+}
+
+// A command of thread t that is not its own thread's alone, by its effect, unless it waits. The log byte is given.
 fn carry_rest(
     tables: &mut [u8],
     words: &mut [u32],
     done: Effect,
     c: u8,
     t: u8,
-    left: u32,
-    byte: u8,
-    children: u8,
+    waits: bool,
+    cost: u8,
     position: u16,
     place: u16,
     image: &[u8],
 ) -> u8
-    requires { ⌜ Resting (now tables) c t left byte done ⌝ }
-    ensures { λ x. ⌜ ((starts parameters memory : List ℕ) (allowance : ℕ) → after x (now (tables .exit)) (now (words .exit)) memory ≡ restOf (jobOf (now (image .entry)) starts parameters allowance) (meaning (now (tables .entry)) (now (words .entry)) memory) (turnIn (now (tables .entry)) c t (weightOf standardWeights byte) ((position + bytesBy done) % 2 ^ 16) place) done left byte children) ⌝ }
+    requires { ⌜ Leaving (now tables) c t × Carrying (now tables) c t cost done ⌝ }
+    ensures { λ x. ⌜ ((starts parameters memory : List ℕ) (allowance : ℕ) → after x (now (tables .exit)) (now (words .exit)) memory ≡ restOf (jobOf (now (image .entry)) starts parameters allowance) (meaning (now (tables .entry)) (now (words .entry)) memory) (turnIn (now (tables .entry)) c t cost ((position + bytesBy done) % 2 ^ 16) place) done waits) ⌝ }
 {
-    if must_wait(byte, children) {
+    if waits {
         leave(tables, c, t, Status::Waiting);
         return 0;
-    }
-    let cost = weight(byte);
-    if left < (cost as u32) {
-        return 22;
     }
     carry_other(tables, words, done, c, t, cost, position, place, image)
 }
@@ -100,47 +114,37 @@ fn burst(
     let th = thread_at(tables, t);
     let start = place_in_image(starts, th.routine, 0);
     let window = th.window;
+    // held by the loop: a constant table is laid out anew where it is named
+    let weights = weights();
     let mut position = th.position;
     let mut left = allowance - units(tables);
     let mut rest = more;
     loop {
         let place = start + (position as usize);
         let five = five_at(image, place);
+        let cost = weights[five[0] as usize];
+        let waits = must_wait(five[0], th.children);
+        if left < wide(cost) {
+            put_back(tables, t, position, allowance - left);
+            return told(more - rest, fall_short(tables, c, t, waits));
+        }
         let done = effect(command_of(five), image, words, th.base, th.pending, window);
-        let own = carry_own(done, left, position, th.base, parameters, words, memory);
+        let own = carry_own(done, position, th.base, parameters, words, memory);
         match own {
-            Own::Moved(next, less) => {
+            Own::Moved(next) => {
                 position = next;
-                left = less;
+                left = left - wide(cost);
                 if rest == 0 {
                     put_back(tables, t, position, allowance - left);
-                    return Carried {
-                        again: more,
-                        log: 0,
-                    };
+                    return told(more, 0);
                 }
                 rest = rest - 1;
             }
             Own::Other => {
                 put_back(tables, t, position, allowance - left);
-                let first = place as u16;
-                let log = carry_rest(
-                    tables,
-                    words,
-                    done,
-                    c,
-                    t,
-                    left,
-                    five[0],
-                    th.children,
-                    position,
-                    first,
-                    image,
-                );
-                return Carried {
-                    again: more - rest,
-                    log,
-                };
+                let at = place as u16;
+                let log = carry_rest(tables, words, done, c, t, waits, cost, position, at, image);
+                return told(more - rest, log);
             }
         }
     }

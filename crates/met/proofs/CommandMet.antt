@@ -5,10 +5,11 @@ use mathlib.Core.Bool.{Bool, true, false, cond, _&&_}
 use mathlib.Core.List.{List}
 use mathlib.Core.Path.{_≡_, refl, sym, _∙_, ap}
 use Prim.Native.Nat.{ℕ, _+_, _≤_, _<_}
+use native.Mathlib.Decide.{decLt}
 use native.Mathlib.Omega.{arith}
 use borrow.Author.Tests.{ltb-true, leb-true}
 use lib.Dec.{ltb, leb, eqb}
-use lib.ListN.{getD}
+use lib.ListN.{getD, length, List·getD-eq-default}
 use Rattle.command.specs.declared.Command.{Command}
 use Rattle.command.specs.declared.Command.the-variants.{Set, Add, Subtract, Load, Store, JumpIfZero, Jump, Lfork, Fork, Join, Suspend, Yield, Return}
 use Rattle.command.specs.Command.{decodedAt, widthOf}
@@ -166,6 +167,14 @@ module _ (j : Job) (good : GoodJob j) (r p : ℕ) (routine : r < countOf (j .ima
   -- it weighs 1 at least
   pub weighs : 1 ≤ weightOf (j .weights) (byteAt j r p)
   weighs = good .weighs (byteAt j r p) some-bytes
+
+  -- so its first byte is one of the table's
+  pub byte-few : byteAt j r p < length (j .weights)
+  byte-few = go (decLt (byteAt j r p) (length (j .weights)))
+    where
+      go : Dec (byteAt j r p < length (j .weights)) → byteAt j r p < length (j .weights)
+      go (yes h) = h
+      go (no h) = omega (arith, weighs, List·getD-eq-default (j .weights) 0 {n = byteAt j r p} (omega arith))
 
   pub operands-few : InRange (decodedAt (j .image) (offsetAt j r p))
   operands-few = rw command-is at (in-range (j .image) (slotsOf (j .image) r) (here .command) slots-few (in-frame (j .image) (slotsOf (j .image) r) (here .command) (here .range)))
