@@ -16,10 +16,10 @@ use Rattle.thread.specs.declared.Thread.{Thread}
 use Rattle.thread.specs.Thread.{newThread, behindFork}
 use Rattle.rules.specs.declared.ForkKind.{ForkKind}
 use Rattle.rules.specs.State.{Job, State}
-use Rattle.rules.specs.Update.{accepted, refused, setThread, setTops, setFreeThreads, setFreeStacklets, setWords, charge}
+use Rattle.rules.specs.Update.{accepted, refused, setThread, setTops, setFreeStacklets, setWords, charge}
 use Rattle.rules.specs.Turn.{Turn}
-use Rattle.rules.specs.Fork.{placeOf, goesAbove, Asked, born, forkOn, forkWith, forkOf, childGoes, childStatus, parentStatus, isConnected}
-use Rattle.entries.specs.Given.{HeadBelow, placeBy, bothRecords}
+use Rattle.rules.specs.Fork.{placeOf, goesAbove, Asked, born, forkOn, forkWith, forkOf, childGoes, isConnected}
+use Rattle.entries.specs.Given.{HeadBelow, placeBy, bothRecords, leftBy, handsOutNumber}
 use native.Mathlib.Omega.{arith}
 use native.Mathlib.Nat.{mod-eq-of-lt}
 use lib.ListN.{length}
@@ -36,16 +36,23 @@ pub with-words : (xs ws ws' ms : List ℕ) → meaning xs ws' ms ≡ setWords ws
 unfolding meaning
 with-words xs ws ws' ms = refl
 
+-- the place by the stacklet that is found, with the free stacklets that are left
 place-go : (above : Bool) (p : ℕ) (free : List ℕ) → placeBy (cond above (Number p) (firstOf free)) (cond above free (restOf free)) ≡ placeOf above p free
 unfolding placeOf
 place-go true p free = refl
 place-go false p [] = refl
 place-go false p (y ∷ ys) = refl
 
--- the place by the first free stacklet, and the free stacklets that are left
-pub place-by : (above : Bool) (p : ℕ) (free : List ℕ) (first spot : Front) → first ≡ firstOf free → spot ≡ cond above (Number p) first
+place-by : (above : Bool) (p : ℕ) (free : List ℕ) (spot : Front) → spot ≡ cond above (Number p) (firstOf free)
     → placeBy spot (cond above free (restOf free)) ≡ placeOf above p free
-place-by above p free first spot e f = rw (f, e) (place-go above p free)
+place-by above p free spot e = rw e (place-go above p free)
+
+-- where no stacklet is free, handing one out changes nothing
+rest-none : (free : List ℕ) → firstOf free ≡ Nothing → restOf free ≡ free
+rest-none free e = rw (nothing-empty free e)
+
+pub none-left : (s : State) (rest : List ℕ) → rest ≡ restOf (s .freeStacklets) → firstOf (s .freeStacklets) ≡ Nothing → setFreeStacklets rest s ≡ s
+none-left s rest e f = ap (λ (xs : List ℕ). setFreeStacklets xs s) (e ∙ rest-none (s .freeStacklets) f)
 
 module _ (j : Job) (s : State) (o : Turn) (f : Asked) where
   -- "20: no free thread number"
@@ -53,15 +60,15 @@ module _ (j : Job) (s : State) (o : Turn) (f : Asked) where
   unfolding forkOf forkWith
   no-number kind first e1 e2 = rw (nothing-empty (s .freeThreads) (sym e1 ∙ e2))
 
-  module _ (kind : ForkKind) (n sl size : ℕ) (above : Bool) (first spot : Front) (places tops : List ℕ) (e1 : first ≡ firstOf (s .freeThreads))
+  module _ (kind : ForkKind) (n sl size : ℕ) (above : Bool) (first spot : Front) (tops : List ℕ) (e1 : first ≡ firstOf (s .freeThreads))
       (e2 : first ≡ Number n) (e3 : sl ≡ slotsOf (j .image) (o .thread .routine)) (e4 : size ≡ slotsOf (j .image) (f .routine)) (e0 : tops ≡ s .tops)
       (e5 : above ≡ (isConnected kind && (isTopmost tops (o .thread .base) sl && fitsOn tops (o .thread .base / 64) size)))
-      (e6 : placeBy spot places ≡ placeOf above (o .thread .base / 64) (s .freeStacklets)) where
-    place-found : placeOf (goesAbove j s kind (o .thread) (f .routine)) (o .thread .base / 64) (s .freeStacklets) ≡ placeBy spot places
+      (e6 : spot ≡ cond above (Number (o .thread .base / 64)) (firstOf (s .freeStacklets))) where
+    place-found : placeOf (goesAbove j s kind (o .thread) (f .routine)) (o .thread .base / 64) (s .freeStacklets) ≡ placeBy spot (leftBy above s .freeStacklets)
     unfolding goesAbove
-    place-found = rw (← e0, ← e4, ← e3, ← e5) (sym e6)
+    place-found = rw (← e0, ← e4, ← e3, ← e5) (sym (place-by above (o .thread .base / 64) (s .freeStacklets) spot e6))
 
-    pub fork-found : forkOn j s kind o f n (restOf (s .freeThreads)) (placeBy spot places) ≡ forkOf j s kind o f
+    pub fork-found : forkOn j s kind o f n (restOf (s .freeThreads)) (placeBy spot (leftBy above s .freeStacklets)) ≡ forkOf j s kind o f
     unfolding forkOf forkWith
     fork-found = rw (← place-found, number-first (s .freeThreads) n (sym e1 ∙ e2))
 
@@ -71,37 +78,38 @@ module _ (j : Job) (s : State) (o : Turn) (f : Asked) where
     no-stacklet e7 = rw (← fork-found, e7)
 
     -- the stores one after another
-    pub born-by : (x : ℕ) → spot ≡ Number x → (s0 s1 s2 s3 s4 s5 s6 s7 : State) (P C : Thread) (ws left ns : List ℕ) (base ar : ℕ)
-        → s0 ≡ setWords ws s → s1 ≡ setThread (o .number) P s0 → s2 ≡ setThread n C s1 → s3 ≡ charge (o .weight) s2
-        → s4 ≡ setTops (pushedTops (s3 .tops) x size) s3 → s5 ≡ setFreeStacklets (cond above (s4 .freeStacklets) left) s4
-        → s6 ≡ setFreeThreads ns s5 → s7 ≡ childGoes kind (o .core) n s6
-        → P ≡ behindFork (parentStatus kind) (o .next) (f .result) (rest-of (o .thread .window) (f .cut)) (o .thread)
-        → C ≡ newThread (childStatus kind) (isConnected kind) (f .routine) (o .number) (f .result) base (childOf (o .thread .window) (f .cut))
-        → base ≡ baseOn tops x → ar ≡ argumentsOf (j .image) (f .routine)
-        → ws ≡ pushedWords (s3 .tops) (s .words) x size (argumentsAt (s .words) (o .thread .base + f .first) ar)
-        → left ≡ restOf (s .freeStacklets) → ns ≡ restOf (s .freeThreads) → places ≡ cond above (s .freeStacklets) (restOf (s .freeStacklets))
-        → accepted s7 ≡ forkOf j s kind o f
+    pub born-by : (x : ℕ) → spot ≡ Number x → (s0 s1 s2 s3 s4 s5 s6 : State) (ws : List ℕ) (base ar : ℕ)
+        → s0 ≡ setWords ws s → s1 ≡ leftBy above s0 → s2 ≡ handsOutNumber s1 → s3 ≡ bothRecords kind (o .number) n (o .thread) (o .next) f base s2
+        → s4 ≡ charge (o .weight) s3 → s5 ≡ setTops (pushedTops (s4 .tops) x size) s4 → s6 ≡ childGoes kind (o .core) n s5
+        → base ≡ baseOn (s2 .tops) x → ar ≡ argumentsOf (j .image) (f .routine)
+        → ws ≡ pushedWords (s4 .tops) (s .words) x size (argumentsAt (s .words) (o .thread .base + f .first) ar)
+        → accepted s6 ≡ forkOf j s kind o f
     unfolding forkOn born
-    born-by x e7 s0 s1 s2 s3 s4 s5 s6 s7 P C ws left ns base ar g0 g1 g2 g3 g4 g5 g6 g7 hP hC hb ha hw hl hn hp =
-        go ∙ fork-found
+    born-by x e7 s0 s1 s2 s3 s4 s5 s6 ws base ar g0 g1 g2 g3 g4 g5 g6 hb ha hw = go ∙ fork-found
       where
-        same : s3 .tops ≡ s .tops
-        same = rw (g3, g2, g1, g0)
+        same2 : s2 .tops ≡ s .tops
+        same2 = rw (g2, g1, g0)
 
-        g4' : s4 ≡ setTops (pushedTops (s .tops) x size) s3
-        g4' = g4 ∙ ap (λ (ts : List ℕ). setTops (pushedTops ts x size) s3) same
+        same4 : s4 .tops ≡ s .tops
+        same4 = rw (g4, g3) same2
+
+        g5' : s5 ≡ setTops (pushedTops (s .tops) x size) s4
+        g5' = g5 ∙ ap (λ (ts : List ℕ). setTops (pushedTops ts x size) s4) same4
+
+        hb' : base ≡ baseOn (s .tops) x
+        hb' = hb ∙ ap (λ (ts : List ℕ). baseOn ts x) same2
 
         hw' : ws ≡ pushedWords (s .tops) (s .words) x size (argumentsAt (s .words) (o .thread .base + f .first) ar)
-        hw' = hw ∙ ap (λ (ts : List ℕ). pushedWords ts (s .words) x size (argumentsAt (s .words) (o .thread .base + f .first) ar)) same
+        hw' = hw ∙ ap (λ (ts : List ℕ). pushedWords ts (s .words) x size (argumentsAt (s .words) (o .thread .base + f .first) ar)) same4
 
-        go : accepted s7 ≡ forkOn j s kind o f n (restOf (s .freeThreads)) (placeBy spot places)
-        go = rw (g7, g6, g5, g4', g3, g2, g1, g0, hP, hC, hb, hw', ha, hl, hn, e0, e4, e7, hp)
+        go : accepted s6 ≡ forkOn j s kind o f n (restOf (s .freeThreads)) (placeBy spot (leftBy above s .freeStacklets))
+        go = rw (g6, g5', g4, g3, g2, g1, g0, hb', hw', ha, e4, e7)
 
 -- the stacklet that is found is one of 16
-pub spot-low : (above : Bool) (p x : ℕ) (free : List ℕ) (first spot : Front) → p < 16 → HeadBelow 16 free → first ≡ firstOf free
-    → spot ≡ cond above (Number p) first → spot ≡ Number x → x < 16
-spot-low true p x free first spot l h e f g = let z : p ≡ x = cc in omega arith
-spot-low false p x free first spot l h e f g = head-below free 16 x h (sym e ∙ sym f ∙ g)
+pub spot-low : (above : Bool) (p x : ℕ) (free : List ℕ) (spot : Front) → p < 16 → HeadBelow 16 free → spot ≡ cond above (Number p) (firstOf free)
+    → spot ≡ Number x → x < 16
+spot-low true p x free spot l h f g = let z : p ≡ x = cc in omega arith
+spot-low false p x free spot l h f g = head-below free 16 x h (sym f ∙ g)
 
 -- the two parts of a cut in range
 pub cut-parts : (w : Window) (e : ℕ) (c : Cut) (child rest : Window) → c ≡ cutAt w e → c ≡ Parts child rest → (child ≡ childOf w e) × (rest ≡ rest-of w e)
@@ -132,10 +140,10 @@ pub child-is : (h : Thread) (st st' : Status) (b b' : Bool) (r t d base : ℕ) (
     → h ≡ newThread st' b' r t d base w'
 child-is h st st' b b' r t d base w w' e f g k = rw (e, f, g, k)
 
--- both records leave the units
-pub room-kept : (xs ys : List ℕ) (kind : ForkKind) (t n next base w most : ℕ) (th : Thread) (f : Asked)
-    → meaning ys [] [] ≡ bothRecords kind t n th next f base (meaning xs [] []) → meaning xs [] [] .units + w < most → meaning ys [] [] .units + w < most
-room-kept xs ys kind t n next base w most th f e l = rw e l
+-- what is stored before the units leaves them
+pub room-kept : (above : Bool) (kind : ForkKind) (t n next base w most : ℕ) (th : Thread) (f : Asked) (s s1 s2 s3 : State) → s1 ≡ leftBy above s
+    → s2 ≡ handsOutNumber s1 → s3 ≡ bothRecords kind t n th next f base s2 → s .units + w < most → s3 .units + w < most
+room-kept above kind t n next base w most th f s s1 s2 s3 e1 e2 e3 l = rw (e3, e2, e1) l
 
 pub both-stored : (s : State) (t n : ℕ) (p p' h h' : Thread) → t < 32 → n < 32 → p ≡ p' → h ≡ h'
     → setThread (n % 32) h (setThread (t % 32) p s) ≡ setThread n h' (setThread t p' s)

@@ -8,7 +8,8 @@ use Rattle.image.specs.Layout.{argumentsOf}
 use Rattle.stacklets.specs.Frames.{slotOf}
 use Rattle.queue.specs.declared.Front.{Front}
 use Rattle.queue.specs.declared.Front.the-variants.{Number, Nothing}
-use Rattle.window.specs.Rights.{childOf, restOf}
+use Rattle.queue.specs.Contents.{restOf}
+use Rattle.window.specs.Rights.{childOf, restOf as restOfWindow}
 use Rattle.thread.specs.declared.Thread.{Thread}
 use Rattle.thread.specs.declared.Effect.{Effect}
 use Rattle.thread.specs.declared.Effect.the-variants.{Faults, Sets, Loads, Stores, Goes, Continues, Lforks, Forks, Joins, Suspends, Yields, Returns}
@@ -17,7 +18,7 @@ use Rattle.thread.specs.View.{viewOf}
 use Rattle.thread.specs.declared.Status.{Status}
 use Rattle.thread.specs.Thread.{newThread, behindFork, joinedAt, isPending}
 use Rattle.rules.specs.State.{Job, jobOf, State, After, threadAt}
-use Rattle.rules.specs.Update.{setThread, setFreeStacklets, setReady}
+use Rattle.rules.specs.Update.{setThread, setFreeThreads, setFreeStacklets, setReady}
 use Rattle.rules.specs.Turn.{Turn, done, goesOn}
 use Rattle.rules.specs.Leave.{leaves}
 use Rattle.rules.specs.Return.{stackletsWithout, readyAfter}
@@ -93,11 +94,15 @@ pub record Cutting (th : Thread) (t n d e : ℕ) : Type 0 where
 abbrev pub bothRecords : ForkKind → ℕ → ℕ → Thread → ℕ → Asked → ℕ → State → State
 bothRecords kind t n th next f base s =
     setThread n (newThread (childStatus kind) (isConnected kind) (f .routine) t (f .result) base (childOf (th .window) (f .cut)))
-    (setThread t (behindFork (parentStatus kind) next (f .result) (restOf (th .window) (f .cut)) th) s)
+    (setThread t (behindFork (parentStatus kind) next (f .result) (restOfWindow (th .window) (f .cut)) th) s)
 
--- the free stacklets that are left by a new frame, unless it goes above its parent's
-abbrev pub leftBy : Bool → List ℕ → State → State
-leftBy above rest s = setFreeStacklets (cond above (s .freeStacklets) rest) s
+-- the free stacklets that are left by a new frame: all where it goes above its parent's, or else all but the first
+abbrev pub leftBy : Bool → State → State
+leftBy above s = setFreeStacklets (cond above (s .freeStacklets) (restOf (s .freeStacklets))) s
+
+-- the first free thread number is handed out; where none is free, nothing changes
+abbrev pub handsOutNumber : State → State
+handsOutNumber s = setFreeThreads (restOf (s .freeThreads)) s
 
 -- a stacklet is given back when its last frame goes
 abbrev pub givesBack : ℕ → State → State

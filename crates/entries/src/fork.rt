@@ -1,13 +1,11 @@
 // A fork: 08 and 09 by a step, and either as a seed by a steal.
 use crate::parts::child_status;
-use crate::parts::find_place;
 use crate::parts::goes_above;
 use crate::parts::is_connected;
 use crate::parts::parent_status;
 use image::routines::arguments_of;
 use image::routines::slots_of;
 use queue::Front;
-use queue::Queue;
 use rules::ForkKind;
 use tables::frames::next_base;
 use tables::frames::push_frame;
@@ -25,16 +23,18 @@ use thread::Thread;
 use thread::record::behind_fork;
 use thread::record::new_thread;
 use window::Cut;
+ghost use mathlib.Core.Bool.{cond};
 ghost use mathlib.Core.List.{List};
 ghost use mathlib.Core.Path.{_≡_};
-ghost use Prim.Native.Nat.{ℕ, _<_};
+ghost use Prim.Native.Nat.{ℕ, _/_, _<_};
 ghost use lib.ListN.{length};
-ghost use Rattle.queue.specs.Contents.{contents};
+ghost use Rattle.queue.specs.declared.Front.the-variants.{Number, Nothing};
+ghost use Rattle.queue.specs.Contents.{firstOf};
 ghost use Rattle.rules.specs.State.{jobOf};
 ghost use Rattle.rules.specs.Fork.{asked, childGoes, forkOf};
 ghost use Rattle.tables.specs.Meaning.{size, meaning};
-ghost use Rattle.tables.specs.Change.{Becomes};
-ghost use Rattle.entries.specs.Given.{Cutting, Forking, turnIn, after, bothRecords, leftBy};
+ghost use Rattle.tables.specs.Change.{Reads, Becomes};
+ghost use Rattle.entries.specs.Given.{Cutting, Forking, turnIn, after, bothRecords, leftBy, handsOutNumber};
 
 // The child takes its place: on the core, or in the ready queue.
 fn place_child(tables: &mut [u8], kind: ForkKind, c: u8, n: u8)
@@ -48,14 +48,31 @@ fn place_child(tables: &mut [u8], kind: ForkKind, c: u8, n: u8)
     }
 }
 
-// The free stacklets that are left, unless the frame goes above its parent's.
-fn keep_stacklets(tables: &mut [u8], above: bool, rest: Queue)
-    ensures { λ _. ⌜ Becomes (now (tables .entry)) (now (tables .exit)) (leftBy above (contents rest)) ⌝ }
+// The stacklet of a new frame: that of its parent's frame, at a base, where it goes above it; or else the first free one, which is handed out.
+// Only a frame that needs a free one loads their queue.
+fn find_place(tables: &mut [u8], above: bool, base: u16) -> Front
+    requires { ⌜ base < 1024 ⌝ }
+    ensures left { λ _. ⌜ Becomes (now (tables .entry)) (now (tables .exit)) (leftBy above) ⌝ }
+    ensures spot { λ r. ⌜ Reads (now (tables .entry)) r (λ s. cond above (Number (base / 64)) (firstOf (s .freeStacklets))) (cond above (Number (base / 64)) Nothing) ⌝ }
+    ensures none { λ r. ⌜ (r ≡ Nothing → Becomes (now (tables .entry)) (now (tables .exit)) (λ s. s)) ⌝ }
 {
     if above {
-        return;
+        return Front::Number((base / 64) as u8);
     }
+    let places = free_stacklets(tables).dequeue();
+    let free = places.first;
+    let rest = places.queue;
     put_free_stacklets(tables, rest);
+    free
+}
+
+// The first free thread number is handed out: once a stacklet is found, since a fork that is refused changes nothing.
+fn hand_out_number(tables: &mut [u8])
+    ensures { λ _. ⌜ Becomes (now (tables .entry)) (now (tables .exit)) handsOutNumber ⌝ }
+{
+    let numbers = free_threads(tables).dequeue();
+    let rest = numbers.queue;
+    put_free_threads(tables, rest);
 }
 
 // Both records of a fork: thread t's, which was th, and its child's, thread n with its frame at a base. The window is cut in two.
@@ -118,21 +135,16 @@ pub fn fork(
     let base = th.base;
     let wide = slots_of(image, r);
     let above = goes_above(tables, kind, base, slots_of(image, th.routine), wide);
-    let places = free_stacklets(tables).dequeue();
-    let free = places.first;
-    let spot = find_place(above, (base / 64) as u8, free);
+    let spot = find_place(tables, above, base);
     let Front::Number(x) = spot else {
         return 21;
     };
+    hand_out_number(tables);
     let above_it = next_base(tables, x);
     put_records(tables, kind, t, n, th, next, r, d, e, above_it);
     charge(tables, weight);
     let given = arguments_of(image, r);
     push_frame(tables, words, x, wide, base + (a as u16), given);
-    let stacklets_left = places.queue;
-    keep_stacklets(tables, above, stacklets_left);
-    let numbers_left = numbers.queue;
-    put_free_threads(tables, numbers_left);
     place_child(tables, kind, c, n);
     0
 }

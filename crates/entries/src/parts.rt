@@ -1,5 +1,4 @@
 // Parts of a fork and of a return.
-use queue::Front;
 use rules::ForkKind;
 use tables::frames::fits;
 use tables::frames::is_topmost;
@@ -11,7 +10,6 @@ ghost use mathlib.Core.List.{List};
 ghost use mathlib.Core.Path.{_≡_};
 ghost use Prim.Native.Nat.{ℕ, _/_, _<_};
 ghost use lib.ListN.{length};
-ghost use Rattle.queue.specs.declared.Front.the-variants.{Number};
 ghost use Rattle.stacklets.specs.Tops.{isTopmost, fitsOn};
 ghost use Rattle.thread.specs.Thread.{none};
 ghost use Rattle.rules.specs.Fork.{childStatus, parentStatus, isConnected};
@@ -63,16 +61,6 @@ pub fn goes_above(tables: &[u8], kind: ForkKind, base: u16, slots: u8, wide: u8)
         return false;
     }
     fits(tables, (base / 64) as u8, wide)
-}
-
-// The stacklet of a new frame: the parent's where it goes above, or else the first free one.
-pub fn find_place(above: bool, parents: u8, free: Front) -> Front
-    ensures { λ r. ⌜ r ≡ cond above (Number parents) free ⌝ }
-{
-    if above {
-        return Front::Number(parents);
-    }
-    free
 }
 
 // Does a parent, whose record is q, become ready when a child of its ends?
