@@ -306,6 +306,7 @@ loop-less c = omega (arith, c .if2 .left)
 
 loop-again : tie.Need-loop-again Inv-loop μ-loop
 loop-again c =
+    let low : c .before .before .before .own .given .0 .0 < 65536 = search needs in
     let own' = c .before .before .before .own in
     let carry-own' = c .before .before .before .before .before .before .before .before .before .carry-own in
     let effect' = c .before .before .before .before .before .before .before .before .before .before .before .before .effect in
@@ -319,8 +320,7 @@ loop-again c =
     let place-in-image' = h .before .before .before .before .before .before .place-in-image in
     let thread-at' = h .before .before .before .before .before .before .before .thread-at in
     let args' = h .before .before .before .before .before .before .before .before .before .before .before .before .before .before .before .args in
-    let p = own' .given .0 .0 in
-    let low : p < 65536 = search needs in (
+    let p = own' .given .0 .0 in (
       loop' .inv .0,
       carry-own' .kept .1 .1 .1 .1 .0 ∙ loop' .inv .1,
       carry-own' .kept .1 .1 .1 .1 .1 .0 ∙ loop' .inv .2,
