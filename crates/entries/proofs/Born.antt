@@ -19,7 +19,8 @@ use Rattle.rules.specs.State.{Job, State}
 use Rattle.rules.specs.Update.{accepted, refused, setThread, setTops, setFreeStacklets, setWords, charge}
 use Rattle.rules.specs.Turn.{Turn}
 use Rattle.rules.specs.Fork.{placeOf, goesAbove, Asked, born, forkOn, forkWith, forkOf, childGoes, isConnected}
-use Rattle.entries.specs.Given.{HeadBelow, placeBy, bothRecords, leftBy, handsOutNumber}
+use Rattle.entries.specs.Given.{placeBy, bothRecords, leftBy, handsOutNumber}
+use Rattle.dispatch.specs.Orderly.{HeadBelow}
 use native.Mathlib.Omega.{arith}
 use native.Mathlib.Nat.{mod-eq-of-lt}
 use lib.ListN.{length}
@@ -28,7 +29,7 @@ use Rattle.window.specs.declared.Cut.{Cut}
 use Rattle.window.specs.declared.Cut.the-variants.{Parts, OutOfRange}
 use Rattle.window.proofs.Laws.{cut-means, cut-made}
 use Rattle.tables.specs.Change.{Reads, Becomes, Pushes, pushes}
-use Rattle.entries.proofs.Chains.{head-below}
+use Rattle.dispatch.proofs.Queues.{head-below}
 use Rattle.tables.specs.Meaning.{size, meaning}
 
 -- other words

@@ -24,9 +24,10 @@ use Rattle.thread.proofs.Widths.{Widened}
 use Rattle.stacklets.specs.Frames.{slotOf}
 use Rattle.image.specs.Layout.{argumentsOf}
 use Rattle.rules.specs.Turn.{Turn, offsetOf, byteOf, done}
-use Rattle.entries.specs.Given.{Seated, Leaving, Carrying, recordIn, turnWith, turnIn, after}
+use Rattle.entries.specs.Given.{Seated, Leaving, Carrying, recordIn, turnWith, turnIn}
+use Rattle.dispatch.specs.Orderly.{after}
 use Rattle.entries.proofs.Meeting.{place-low, next-low, known-byte, tested, wide, few, based, carrying}
-use Rattle.entries.proofs.Able.{linked-below, free-first, stacklet-first}
+use Rattle.dispatch.proofs.Able.{linked-below, free-first, stacklet-first}
 use Rattle.entries.specs.declared.own.Own.the-variants.{Moved}
 use Rattle.entries.specs.Own.{IsOther, OwnAs, withBoth}
 use Rattle.entries.proofs.Owning.{joins}

@@ -1,4 +1,3 @@
-pub mod Able
 pub mod Chains
 pub mod Born
 pub mod Ended

@@ -26,8 +26,9 @@ use Rattle.rules.specs.Sound.{Sound, Used}
 use Rattle.met.proofs.CommandMet.{cut-inside, place-small, next-small, byte-few, operands-few, tested-here, width-here}
 use Rattle.tables.specs.Meaning.{meaning}
 use Rattle.entries.specs.Own.{Stored, IsOther}
-use Rattle.entries.specs.Given.{HeadBelow, Seated, Carrying, recordIn, turnWith}
-use Rattle.entries.proofs.Able.{children-few}
+use Rattle.entries.specs.Given.{Seated, Carrying, recordIn, turnWith}
+use Rattle.dispatch.specs.Orderly.{HeadBelow}
+use Rattle.dispatch.proofs.Able.{children-few}
 
 module _ (j : Job) (s : State) (ok : Sound j s) (t : ℕ) (th : Thread) (met : th ≡ threadAt s t) (used : Used s t) where
   pub place-low : offsetOf j th < 65536

@@ -1,6 +1,6 @@
--- What an entry gives, the command that is met as the code holds it, and what carrying it out relies on. A sound state gives all of it.
+-- The command that is met as the code holds it, and what carrying it out relies on. A sound state gives all of it.
 use mathlib.Core.Bool.{Bool, true, cond}
-use mathlib.Core.List.{List, [], _∷_}
+use mathlib.Core.List.{List, []}
 use mathlib.Core.Path.{_≡_}
 use Prim.Native.Nat.{ℕ, _+_, _≤_, _<_, _^_}
 use lib.ListN.{length}
@@ -17,7 +17,7 @@ use Rattle.thread.specs.Effect.{forking}
 use Rattle.thread.specs.View.{viewOf}
 use Rattle.thread.specs.declared.Status.{Status}
 use Rattle.thread.specs.Thread.{newThread, behindFork, joinedAt, isPending}
-use Rattle.rules.specs.State.{Job, jobOf, State, After, threadAt}
+use Rattle.rules.specs.State.{jobOf, State, threadAt}
 use Rattle.rules.specs.Update.{setThread, setFreeThreads, setFreeStacklets, setReady}
 use Rattle.rules.specs.Turn.{Turn, done, goesOn}
 use Rattle.rules.specs.Leave.{leaves}
@@ -26,18 +26,7 @@ use Rattle.rules.specs.declared.ForkKind.{ForkKind}
 use Rattle.rules.specs.Fork.{Asked, Place, onStacklet, nowhere, childStatus, parentStatus, isConnected}
 use Rattle.rules.specs.Sound.{Sound}
 use Rattle.tables.specs.Meaning.{size, meaning}
-
--- what the tables mean behind an entry, with its log byte
-abbrev pub after : ℕ → List ℕ → List ℕ → List ℕ → After
-after log xs words memory = record { state = meaning xs words memory; log = log }
-
--- tables that mean a sound state, with some job and some words
-pub record Orderly (xs : List ℕ) : Type 0 where
-  pub sized : length xs ≡ size
-  pub job : Job
-  pub words : List ℕ
-  pub memory : List ℕ
-  pub sound : Sound job (meaning xs words memory)
+use Rattle.dispatch.specs.Orderly.{HeadBelow}
 
 -- thread t's record, which no word has a part in
 abbrev pub recordIn : List ℕ → ℕ → Thread
@@ -65,11 +54,6 @@ pub record Seated (xs : List ℕ) (c t weight : ℕ) : Type 0 where
   pub number : t < 32
   pub units : meaning xs [] [] .units + weight < 2 ^ 32
   pub base : recordIn xs t .base < 1024
-
--- the first number, if there is one, is below n
-abbrev pub HeadBelow : ℕ → List ℕ → Type 0
-HeadBelow n [] = Unit {0}
-HeadBelow n (x ∷ xs) = x < n
 
 -- a fork with its result slot and its cut
 pub record Forking (xs : List ℕ) (c t weight d e : ℕ) : Type 0 where

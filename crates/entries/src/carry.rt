@@ -24,7 +24,8 @@ ghost use Rattle.rules.specs.Turn.{goesOn};
 ghost use Rattle.rules.specs.Rules.{carriedOf};
 ghost use Rattle.tables.specs.Meaning.{meaning};
 ghost use Rattle.tables.specs.Change.{Becomes};
-ghost use Rattle.entries.specs.Given.{Seated, Standing, Carrying, turnIn, after, passes, leavesAs};
+ghost use Rattle.entries.specs.Given.{Seated, Standing, Carrying, turnIn, passes, leavesAs};
+ghost use Rattle.dispatch.specs.Orderly.{after};
 
 // The command of thread t is done, and its next one is at a position.
 pub fn go_on(tables: &mut [u8], t: u8, weight: u8, next: u16)

@@ -34,7 +34,8 @@ ghost use Rattle.rules.specs.State.{jobOf};
 ghost use Rattle.rules.specs.Fork.{asked, childGoes, forkOf};
 ghost use Rattle.tables.specs.Meaning.{size, meaning};
 ghost use Rattle.tables.specs.Change.{Reads, Becomes};
-ghost use Rattle.entries.specs.Given.{Cutting, Forking, turnIn, after, bothRecords, leftBy, handsOutNumber};
+ghost use Rattle.entries.specs.Given.{Cutting, Forking, turnIn, bothRecords, leftBy, handsOutNumber};
+ghost use Rattle.dispatch.specs.Orderly.{after};
 
 // The child takes its place: on the core, or in the ready queue.
 fn place_child(tables: &mut [u8], kind: ForkKind, c: u8, n: u8)

@@ -1,7 +1,6 @@
 // The machine's entries, carried out in place in lent tables, words and memory. Each is its rule (crate `rules`).
 
 mod carry;
-pub mod enable;
 mod fork;
 mod leave;
 mod own;
@@ -9,12 +8,11 @@ mod parts;
 mod returning;
 pub mod steal;
 pub mod step;
-pub mod take;
 
-use crate::enable::enable;
 use crate::steal::steal;
 use crate::step::steps;
-use crate::take::take;
+use dispatch::enable;
+use dispatch::take;
 use schedule::Entry;
 ghost use mathlib.Core.Path.{_≡_};
 ghost use Rattle.rules.specs.State.{jobOf};

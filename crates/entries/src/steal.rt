@@ -24,7 +24,8 @@ ghost use lib.ListN.{getD};
 ghost use Rattle.rules.specs.State.{jobOf};
 ghost use Rattle.rules.specs.Rules.{stolenOf, stealOf};
 ghost use Rattle.tables.specs.Meaning.{meaning};
-ghost use Rattle.entries.specs.Given.{Seed, Stealing, seedOf, turnIn, after};
+ghost use Rattle.entries.specs.Given.{Seed, Stealing, seedOf, turnIn};
+ghost use Rattle.dispatch.specs.Orderly.{after};
 
 // Is this the first byte of an 08 or 09?
 fn is_fork(byte: u8) -> bool

@@ -30,7 +30,8 @@ ghost use Rattle.thread.specs.Effect.{bytesBy};
 ghost use Rattle.rules.specs.State.{jobOf};
 ghost use Rattle.tables.specs.Meaning.{meaning};
 ghost use Rattle.tables.specs.Change.{Becomes};
-ghost use Rattle.entries.specs.Given.{Sounding, Leaving, Carrying, turnIn, after};
+ghost use Rattle.entries.specs.Given.{Sounding, Leaving, Carrying, turnIn};
+ghost use Rattle.dispatch.specs.Orderly.{after};
 ghost use Rattle.entries.specs.Repeat.{Repeats};
 ghost use Rattle.entries.specs.Burst.{Busy, standsAt, shortOf, restOf};
 

@@ -1,8 +1,8 @@
 // The machine goes through a schedule's entries.
-use entries::enable::enable;
+use dispatch::enable;
+use dispatch::take;
 use entries::steal::steal;
 use entries::step::steps;
-use entries::take::take;
 use reader::read_at;
 use reader::steps_after;
 use schedule::Entry;

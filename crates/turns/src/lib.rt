@@ -1,5 +1,5 @@
 // The rounds of the built-in scheduler: each core in turn tries an entry, and what is accepted or faults is written.
-use entries::enable::enable;
+use dispatch::enable;
 use entries::entry;
 use rounds::is_moved;
 use rounds::is_written;

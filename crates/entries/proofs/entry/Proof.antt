@@ -3,7 +3,7 @@ use Rattle.entries.proofs.Bursting.{once-repeats}
 use Rattle.tables.specs.Meaning.{meaning}
 use Rattle.rules.specs.State.{jobOf}
 use Rattle.rules.specs.Rules.{entryOf}
-use Rattle.entries.specs.Given.{after}
+use Rattle.dispatch.specs.Orderly.{after}
 use Prim.Native.Nat.{ℕ}
 use mathlib.Core.Path.{ap, _∙_}
 use borrow.Author.Needs.{needs}

@@ -1,5 +1,5 @@
 -- `entries::carry::carry_other` meets its contract. Assumes nothing.
-use Rattle.entries.proofs.Chains.{behind-last}
+use Rattle.dispatch.proofs.Queues.{behind-last}
 use Rattle.tables.specs.Meaning.{meaning}
 use Rattle.rules.specs.Rules.{carriedOf}
 use Rattle.rules.specs.Update.{accepted, setReady, enqueueReady}

@@ -1,6 +1,6 @@
 -- `entries::fork::find_place` meets its contract. Assumes nothing.
 use Rattle.entries.proofs.Born.{none-left}
-use Rattle.entries.proofs.Chains.{first-of, rest-of}
+use Rattle.dispatch.proofs.Queues.{first-of, rest-of}
 use Rattle.tables.proofs.Changes.{here}
 use Rattle.tables.specs.Meaning.{meaning}
 use Rattle.rules.specs.Update.{setFreeStacklets}

@@ -1,6 +1,7 @@
 -- `entries::fork::fork` meets its contract. Assumes nothing.
 use Rattle.entries.proofs.Born.{with-words, no-number, no-stacklet, born-by, spot-low, frame-pushed, frame-laid, base-found, room-kept}
-use Rattle.entries.proofs.Chains.{head-below, first-of, charged}
+use Rattle.entries.proofs.Chains.{charged}
+use Rattle.dispatch.proofs.Queues.{head-below, first-of}
 use Rattle.entries.specs.Given.{recordIn, turnWith}
 use Rattle.tables.proofs.Changes.{thread-seen}
 use Rattle.tables.specs.Meaning.{meaning}

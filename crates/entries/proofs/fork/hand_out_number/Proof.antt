@@ -1,5 +1,5 @@
 -- `entries::fork::hand_out_number` meets its contract. Assumes nothing.
-use Rattle.entries.proofs.Chains.{rest-of}
+use Rattle.dispatch.proofs.Queues.{rest-of}
 use Rattle.tables.proofs.Changes.{here}
 use Rattle.tables.specs.Meaning.{meaning}
 use Rattle.rules.specs.Update.{setFreeThreads}

@@ -1,5 +1,5 @@
 -- `entries::fork::place_child` meets its contract. Assumes nothing.
-use Rattle.entries.proofs.Chains.{behind-last}
+use Rattle.dispatch.proofs.Queues.{behind-last}
 use Rattle.tables.proofs.Changes.{here}
 use Rattle.tables.specs.Meaning.{meaning}
 use Rattle.rules.specs.Update.{setCore, setReady}

@@ -1,6 +1,7 @@
 -- `entries::returning::free_thread` meets its contract. Assumes nothing.
 use Rattle.entries.proofs.Ended.{freed-by}
-use Rattle.entries.proofs.Chains.{charged, popped, behind-last}
+use Rattle.entries.proofs.Chains.{charged, popped}
+use Rattle.dispatch.proofs.Queues.{behind-last}
 use Rattle.entries.specs.Given.{recordIn, turnWith}
 use Rattle.tables.proofs.Changes.{thread-seen, thread-stored}
 use Rattle.tables.specs.Meaning.{meaning}

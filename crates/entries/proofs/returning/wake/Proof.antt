@@ -1,5 +1,5 @@
 -- `entries::returning::wake` meets its contract. Assumes nothing.
-use Rattle.entries.proofs.Chains.{behind-last}
+use Rattle.dispatch.proofs.Queues.{behind-last}
 use Rattle.tables.proofs.Changes.{here}
 use Rattle.tables.specs.Meaning.{meaning}
 use Rattle.rules.specs.Return.{readyAfter}

@@ -7,7 +7,7 @@ use mathlib.Core.Path.{_≡_, refl, sym, ap, _∙_}
 use mathlib.Core.List.{List, []}
 use Rattle.entries.proofs.Meeting.{place-low, next-low, range, few, based}
 use Rattle.entries.proofs.Stealing.{either-byte, fork-wide, steal-over, steal-no-core, steal-busy, steal-no-thread, steal-not-lent, steal-no-fork, steal-dear, stolen, fork-small, seed-ready, seed-carried, lent-used}
-use Rattle.entries.proofs.Able.{free-first, stacklet-first}
+use Rattle.dispatch.proofs.Able.{free-first, stacklet-first}
 use Rattle.met.proofs.CommandMet.{cut-inside}
 use Rattle.tables.proofs.Changes.{thread-seen, core-seen}
 use Rattle.tables.specs.Meaning.{meaning}

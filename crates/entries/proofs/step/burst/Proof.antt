@@ -16,7 +16,8 @@ use Rattle.thread.specs.declared.Thread.{Thread}
 use Rattle.rules.specs.State.{jobOf}
 use Rattle.thread.specs.Effect.{bytesBy}
 use Rattle.command.specs.Weight.{weightOf, standardWeights}
-use Rattle.entries.specs.Given.{Carrying, turnIn, after}
+use Rattle.entries.specs.Given.{Carrying, turnIn}
+use Rattle.dispatch.specs.Orderly.{after}
 use Rattle.tables.specs.Change.{Becomes}
 use Rattle.entries.specs.Own.{OwnAs}
 use Rattle.entries.specs.Burst.{Busy, standsAt, shortOf, restOf}

@@ -12,7 +12,7 @@ use Rattle.thread.specs.Thread.{statusNumber, blankThread}
 use Rattle.rules.specs.State.{Job, State, threadAt}
 use Rattle.rules.specs.Lists.{Every}
 use Rattle.rules.specs.Sound.{Sound, Used, Unused, statusAt, isChild, childrenAmong}
-use Rattle.entries.specs.Given.{HeadBelow}
+use Rattle.dispatch.specs.Orderly.{HeadBelow}
 
 lt-or-le : (x c : ℕ) → (x < c) ⊎ (c ≤ x)
 lt-or-le x zero = inr (omega arith)

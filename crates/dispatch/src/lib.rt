@@ -1,4 +1,5 @@
-// An idle core takes the ready queue's head.
+// The ready queue's entries, carried out in place in lent tables: an idle core takes its head, and a suspended thread joins it. Each is its rule
+// (crate `rules`).
 use queue::Front;
 use tables::lines::put_ready;
 use tables::lines::ready;
@@ -9,13 +10,15 @@ use tables::marks::put_core;
 use tables::records::put_thread;
 use tables::records::thread_at;
 use thread::Status;
+use thread::record::same_status;
 use thread::record::with_status;
 ghost use mathlib.Core.List.{List};
 ghost use mathlib.Core.Path.{_≡_};
 ghost use Prim.Native.Nat.{ℕ};
-ghost use Rattle.rules.specs.Rules.{takeOf};
-ghost use Rattle.tables.specs.Meaning.{meaning};
-ghost use Rattle.entries.specs.Given.{Orderly, after};
+ghost use lib.ListN.{length};
+ghost use Rattle.rules.specs.Rules.{takeOf, enableOf};
+ghost use Rattle.tables.specs.Meaning.{size, meaning};
+ghost use Rattle.dispatch.specs.Orderly.{after, Orderly};
 
 // Core c takes the ready queue's head; the log byte is given.
 pub fn take(tables: &mut [u8], c: u8) -> u8
@@ -41,5 +44,26 @@ pub fn take(tables: &mut [u8], c: u8) -> u8
     let th = thread_at(tables, t);
     put_thread(tables, t, with_status(th, Status::Running));
     put_core(tables, c, t);
+    0
+}
+
+// Thread t is enabled; the log byte is given.
+pub fn enable(tables: &mut [u8], t: u8) -> u8
+    requires { ⌜ length (now tables) ≡ size ⌝ }
+    ensures { λ r. ⌜ ((words memory : List ℕ) → after r (now (tables .exit)) words memory ≡ enableOf (meaning (now (tables .entry)) words memory) t) ⌝ }
+{
+    if is_over(tables) {
+        return 19;
+    }
+    if 32 <= t {
+        return 17;
+    }
+    let th = thread_at(tables, t);
+    let status = th.status;
+    if !same_status(status, Status::Suspended) {
+        return 17;
+    }
+    put_thread(tables, t, with_status(th, Status::Ready));
+    put_ready(tables, ready(tables).enqueue(t));
     0
 }

@@ -1,6 +1,7 @@
--- `entries::take::take` meets its contract. Assumes nothing.
-use Rattle.entries.proofs.Chains.{head-below, first-of, rest-of, take-over, take-no-core, take-busy, take-none, took}
-use Rattle.entries.proofs.Able.{ready-first}
+-- `dispatch::take` meets its contract. Assumes nothing.
+use Rattle.dispatch.proofs.Queues.{head-below, first-of, rest-of}
+use Rattle.dispatch.proofs.Dispatching.{take-over, take-no-core, take-busy, take-none, took}
+use Rattle.dispatch.proofs.Able.{ready-first}
 use Rattle.tables.proofs.Changes.{thread-seen, core-seen, thread-stored, core-stored}
 use Rattle.tables.specs.Meaning.{meaning}
 use Rattle.rules.specs.Update.{setReady}
@@ -9,8 +10,8 @@ use Prim.Native.Nat.{ℕ, _<_}
 use mathlib.Core.List.{List}
 use mathlib.Core.Path.{sym, ap, _∙_}
 use borrow.Author.Needs.{needs}
-use Rattle.entries.proofs.take.take.Statement.{statement}
-use Rattle.entries.proofs.take.take.Tie as tie
+use Rattle.dispatch.proofs.take.Statement.{statement}
+use Rattle.dispatch.proofs.take.Tie as tie
 
 is-over-requires : tie.Need-is-over-requires
 is-over-requires c κs = search needs

@@ -1,5 +1,6 @@
--- `entries::enable::enable` meets its contract. Assumes nothing.
-use Rattle.entries.proofs.Chains.{behind-last, enable-over, enable-none, enable-awake, enabled}
+-- `dispatch::enable` meets its contract. Assumes nothing.
+use Rattle.dispatch.proofs.Queues.{behind-last}
+use Rattle.dispatch.proofs.Dispatching.{enable-over, enable-none, enable-awake, enabled}
 use Rattle.tables.proofs.Changes.{thread-seen, thread-stored}
 use Rattle.tables.specs.Meaning.{meaning}
 use Rattle.rules.specs.Update.{setReady}
@@ -8,8 +9,8 @@ use Prim.Native.Nat.{ℕ}
 use mathlib.Core.List.{List}
 use mathlib.Core.Path.{ap, _∙_}
 use borrow.Author.Needs.{needs}
-use Rattle.entries.proofs.enable.enable.Statement.{statement}
-use Rattle.entries.proofs.enable.enable.Tie as tie
+use Rattle.dispatch.proofs.enable.Statement.{statement}
+use Rattle.dispatch.proofs.enable.Tie as tie
 
 is-over-requires : tie.Need-is-over-requires
 is-over-requires c κs = search needs
