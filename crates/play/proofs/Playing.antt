@@ -1,5 +1,6 @@
 -- A schedule's entries one after another: what is left, from the present state on, gives what the whole gives from the first state, and
 -- every state on the way is sound. Assumes nothing.
+use mathlib.Core.Bool.{false}
 use mathlib.Core.List.{List, [], _∷_, _++_, append-nil, append-assoc}
 use mathlib.Core.Path.{_≡_, refl, sym, ap, subst, _∙_}
 use Prim.Native.Nat.{ℕ, zero, suc, _+_, _-_, _*_, _≤_, _<_}
@@ -8,7 +9,7 @@ use native.Mathlib.Nat.{zero-add, suc-add}
 use native.Mathlib.Omega.{arith}
 use lib.ListN.{length, take, drop, set, replicate, length-append, length-replicate}
 use Rattle.schedule.specs.declared.Entry.{Entry}
-use Rattle.schedule.specs.declared.Entry.the-variants.{Step}
+use Rattle.schedule.specs.declared.Entry.the-variants.{Step, Take, Steal, Enable}
 use Rattle.schedule.specs.declared.EntryRead.the-variants.{Found}
 use Rattle.schedule.specs.Format.{entryAt}
 use Rattle.reader.specs.Row.{Row}
@@ -18,6 +19,7 @@ use Rattle.rules.specs.Sound.{Sound}
 use Rattle.rules.specs.Runs.{runFrom, logsFrom, logged}
 use Rattle.rules.proofs.Laws.{run-append, logs-many}
 use Rattle.soundness.proofs.Kept.{entries-sound}
+use Rattle.entries.specs.Repeat.{isStep}
 use Rattle.play.specs.Entries.{leading, playable, Played}
 use Rattle.play.specs.Rows.{LogsOn, RowPlayed}
 use Rattle.play.proofs.Leading.{leads-found, leads-row}
@@ -116,3 +118,10 @@ module _ (j : Job) (s₀ : State) (schedule log₀ : List ℕ) where
 
     pub ends-here : leading (drop at schedule) ≡ [] → Played j s₀ schedule log₀ s log
     ends-here nothing = ends (ap (take (length log₀ - k)) nothing ∙ take-none (length log₀ - k))
+
+-- an entry of none of a step's forms is none
+pub not-step : (e : Entry) → ((c : ℕ) → e ≡ Step c → ⊥) → isStep e ≡ false
+not-step (Step c) f = absurd (f c refl)
+not-step (Take c) f = refl
+not-step (Steal c t) f = refl
+not-step (Enable t) f = refl

@@ -7,14 +7,18 @@ use reader::read_at;
 use reader::steps_after;
 use schedule::Entry;
 use schedule::EntryRead;
-ghost use mathlib.Core.List.{[], _∷_, _++_};
+ghost use mathlib.Core.Bool.{false};
+ghost use mathlib.Core.List.{List, [], _∷_, _++_};
 ghost use mathlib.Core.Path.{_≡_};
-ghost use Prim.Native.Nat.{_+_, _≤_, _<_, min};
+ghost use Prim.Native.Nat.{ℕ, _+_, _≤_, _<_, min};
 ghost use lib.ListN.{length, replicate};
 ghost use Rattle.schedule.specs.declared.Entry.the-variants.{Step};
 ghost use Rattle.rules.specs.State.{jobOf};
+ghost use Rattle.rules.specs.Rules.{entryOf};
 ghost use Rattle.tables.specs.Meaning.{meaning};
-ghost use Rattle.entries.specs.Given.{Sounding};
+ghost use Rattle.dispatch.specs.Orderly.{after};
+ghost use Rattle.entries.specs.Given.{Sounding, Stealing};
+ghost use Rattle.entries.specs.Repeat.{isStep};
 ghost use Rattle.play.specs.Entries.{Played};
 ghost use Rattle.play.specs.Rows.{LogsOn, RowPlayed};
 
@@ -40,6 +44,27 @@ fn put_logs(log: &mut [u8], at: usize, again: usize, last: u8)
         i = i + 1;
     }
     log[end] = last;
+}
+
+// An entry that is no step; its log byte is given.
+fn meet(
+    e: Entry,
+    image: &[u8],
+    starts: &[u16],
+    allowance: u32,
+    tables: &mut [u8],
+    words: &mut [u32],
+) -> u8
+    requires { ⌜ (isStep e ≡ false) × Stealing (now image) (now starts) allowance (now tables) (now words) ⌝ }
+    ensures { λ r. ⌜ ((parameters memory : List ℕ) → after r (now (tables .exit)) (now (words .exit)) memory ≡ entryOf (jobOf (now (image .entry)) (now (starts .entry)) parameters allowance) (meaning (now (tables .entry)) (now (words .entry)) memory) e) ⌝ }
+{
+    match e {
+        Entry::Take(c) => take(tables, c),
+        Entry::Steal(c, t) => steal(c, t, image, starts, allowance, tables, words),
+        Entry::Enable(t) => enable(tables, t),
+        // not met
+        Entry::Step(c) => 0,
+    }
 }
 
 // As many steps of core c, each with its log byte from a position on.
@@ -105,45 +130,28 @@ pub fn play(
         let EntryRead::Found(e, next) = found else {
             return;
         };
-        match e {
-            Entry::Step(c) => {
-                let more = steps_after(schedule, next, c);
-                let follow = least(more, log.len() - number - 1);
-                play_row(
-                    c,
-                    follow + 1,
-                    log,
-                    number,
-                    image,
-                    starts,
-                    parameters,
-                    allowance,
-                    tables,
-                    words,
-                    memory,
-                );
-                number = number + (follow + 1);
-                at = next + 2 * follow;
-                continue;
-            }
-            Entry::Take(c) => {
-                log[number] = take(tables, c);
-                number = number + 1;
-                at = next;
-                continue;
-            }
-            Entry::Steal(c, t) => {
-                log[number] = steal(c, t, image, starts, allowance, tables, words);
-                number = number + 1;
-                at = next;
-                continue;
-            }
-            Entry::Enable(t) => {
-                log[number] = enable(tables, t);
-                number = number + 1;
-                at = next;
-                continue;
-            }
-        }
+        let Entry::Step(c) = e else {
+            log[number] = meet(e, image, starts, allowance, tables, words);
+            number = number + 1;
+            at = next;
+            continue;
+        };
+        let more = steps_after(schedule, next, c);
+        let follow = least(more, log.len() - number - 1);
+        play_row(
+            c,
+            follow + 1,
+            log,
+            number,
+            image,
+            starts,
+            parameters,
+            allowance,
+            tables,
+            words,
+            memory,
+        );
+        number = number + (follow + 1);
+        at = next + 2 * follow;
     }
 }
