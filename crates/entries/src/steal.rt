@@ -13,7 +13,6 @@ use tables::records::thread_at;
 use thread::Effect;
 use thread::Status;
 use thread::Thread;
-use thread::effects;
 use thread::record::same_status;
 ghost use mathlib.Core.Bool.{_||_};
 ghost use mathlib.Core.List.{List};

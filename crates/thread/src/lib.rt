@@ -1,6 +1,5 @@
-// A thread: its record, and what a command does to its own thread.
+// A thread: its record, its pending slots, and what a command's effect on it may be. Crate `effects` computes the effect.
 
-pub mod effects;
 pub mod pending;
 pub mod record;
 

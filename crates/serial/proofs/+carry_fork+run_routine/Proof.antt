@@ -13,7 +13,7 @@ use Rattle.image.proofs.routines.arguments_of.Reads as arguments-of-reads
 use Rattle.window.proofs.Window.cut.Reads as cut-reads
 use Rattle.window.proofs.Window.rejoin.Reads as rejoin-reads
 use Rattle.thread.specs.Job.{Job, jobOf}
-use Rattle.thread.proofs.effects.effect.Reads as effect-reads
+use Rattle.effects.proofs.effect.Reads as effect-reads
 use Rattle.thread.proofs.pending.with_pending.Reads as with-pending-reads
 use Rattle.serial.specs.declared.Routine.{Routine}
 use Rattle.serial.specs.Serial.{Ended, startedOn, weightAt, runFrom}
