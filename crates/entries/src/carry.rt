@@ -71,28 +71,27 @@ pub fn carry_other(
     requires { ⌜ Carrying (now tables) c t weight done ⌝ }
     ensures { λ x. ⌜ ((starts parameters memory : List ℕ) (allowance : ℕ) → after x (now (tables .exit)) (now (words .exit)) memory ≡ carriedOf (jobOf (now (image .entry)) starts parameters allowance) (meaning (now (tables .entry)) (now (words .entry)) memory) (turnIn (now (tables .entry)) c t weight ((position + bytesBy done) % 2 ^ 16) place) done) ⌝ }
 {
+    // behind a fork's five bytes, and behind a command of one byte
+    let past = wrapping_add_u16(position, 5);
+    let next = wrapping_add_u16(position, 1);
     match done {
         Effect::Lforks(r, d, a, e) => {
             let kind = ForkKind::Called;
-            let next = wrapping_add_u16(position, 5);
-            fork(tables, words, kind, c, t, weight, next, image, r, d, a, e)
+            fork(tables, words, kind, c, t, weight, past, image, r, d, a, e)
         }
         Effect::Forks(r, d, a, e) => {
             let kind = ForkKind::Queued;
-            let next = wrapping_add_u16(position, 5);
-            fork(tables, words, kind, c, t, weight, next, image, r, d, a, e)
+            fork(tables, words, kind, c, t, weight, past, image, r, d, a, e)
         }
         Effect::Joins => {
-            pass_join(tables, t, weight, wrapping_add_u16(position, 1));
+            pass_join(tables, t, weight, next);
             0
         }
         Effect::Suspends => {
-            let next = wrapping_add_u16(position, 1);
             go_off(tables, c, t, weight, next, Status::Suspended);
             0
         }
         Effect::Yields => {
-            let next = wrapping_add_u16(position, 1);
             go_off(tables, c, t, weight, next, Status::Ready);
             put_ready(tables, ready(tables).enqueue(t));
             0
