@@ -15,7 +15,8 @@ pub struct Scheduled {
 }
 
 // A run by the scheduler's own entries. It takes any input. Two of the wrong schedulers that its contract rules out: one that tries with 2
-// bytes left, and one that goes on to a second seed where the first is refused.
+// bytes left, and one that goes on to a second seed where the first is refused. The tests and Start are those of a run by no entries, which needs
+// no log.
 pub fn run(
     image: &[u8],
     cores: u8,
@@ -27,7 +28,6 @@ pub fn run(
 ) -> Scheduled
     ensures { λ r. ⌜ Promise (record { image = now (image .entry); cores = cores; arguments = now (arguments .entry); parameters = now (parameters .entry); memory = now (memory .entry); allowance = allowance }) (now (buffer .entry)) r (now (memory .exit)) (now (buffer .exit)) ⌝ }
 {
-    // the tests and Start are those of a run by no entries, which needs no log
     let none = [0u8; 0];
     let mut tables = [0u8; 712];
     let mut words = [0u32; 1024];
@@ -42,10 +42,9 @@ pub fn run(
         &mut tables,
         &mut words,
     );
-    let number = begun.number;
-    if number != 0 {
+    if begun.number != 0 {
         return Scheduled {
-            answer: RunAnswer::Refused(number),
+            answer: RunAnswer::Refused(begun.number),
             tables,
             words,
             used: 0,
@@ -62,9 +61,8 @@ pub fn run(
         memory,
         buffer,
     );
-    let answer = answer(&tables);
     Scheduled {
-        answer,
+        answer: answer(&tables),
         tables,
         words,
         used,

@@ -83,13 +83,9 @@ pub fn play_rounds(
     let cores = count(tables);
     let room = usable_of(buffer.len());
     let mut at: usize = 0;
-    // the core that is next in this round, and whether an entry of this round was accepted
     let mut c: u8 = 0;
     let mut moved = false;
-    loop {
-        if !may_try(is_over(tables), room - at) {
-            return at;
-        }
+    while may_try(is_over(tables), room - at) {
         if c < cores {
             let e = choice(c, tables, image, starts);
             c = c + 1;
@@ -120,7 +116,7 @@ pub fn play_rounds(
         if 32 <= t {
             return at;
         }
-        let log = enable(tables, t);
-        at = keep(Entry::Enable(t), 0, log, buffer, at);
+        at = keep(Entry::Enable(t), 0, enable(tables, t), buffer, at);
     }
+    at
 }

@@ -1,7 +1,7 @@
 -- `scheduler::run` meets its contract. Assumes nothing.
-use Rattle.scheduler.proofs.Promising.{refuses, goes, schedules}
-use mathlib.Core.Path.{refl, _∙_}
 use native.Mathlib.Omega.{arith}
+use mathlib.Core.Path.{refl, _∙_}
+use Rattle.scheduler.proofs.Promising.{refuses, goes, schedules}
 use borrow.Author.Needs.{needs}
 use Rattle.scheduler.proofs.run.Statement.{statement}
 use Rattle.scheduler.proofs.run.Tie as tie
@@ -26,7 +26,7 @@ same-length c = search needs
 
 returns : tie.Need-returns
 returns c =
-    let begin' = c .before .before .before .begin in
+    let begin' = c .before .before .before .before .begin in
     refuses _ _ _ _ _ _ (begin' .ensures .0 _) (begin' .ensures .1) refl refl (c .if1 .taken) _
 
 slice-aggregate-play-rounds : tie.Need-slice-aggregate-play-rounds
@@ -40,8 +40,9 @@ slice-aggregate-play-rounds-3 c = search needs
 
 play-rounds-requires : tie.Need-play-rounds-requires
 play-rounds-requires c κs =
-    let begin' = c .before .before .before .before .before .before .before .before .before .begin in
-    goes _ _ _ _ _ _ (begin' .ensures .0 _) (begin' .ensures .1) refl refl (c .before .before .before .before .before .before .if1 .left) (λ k. omega (arith, c .before .before .before .before .before .before .before .before .before .before .before .before .before .before .before .before .before .before .before .shared-slice-known .given k)) (begin' .kept .1 .1 .1 .1 .1 .1 .1 .0)
+    let begin' = c .before .before .before .before .before .before .before .before .before .before .begin in
+    let shared-slice-known' = c .before .before .before .before .before .before .before .before .before .before .before .before .before .before .before .before .before .before .before .before .shared-slice-known in
+    goes _ _ _ _ _ _ (begin' .ensures .0 _) (begin' .ensures .1) refl refl (c .before .before .before .before .before .before .if1 .left) (λ k. omega (arith, shared-slice-known' .given k)) (begin' .kept .1 .1 .1 .1 .1 .1 .1 .0)
 
 slice-aggregate-answer : tie.Need-slice-aggregate-answer
 slice-aggregate-answer c = search needs
@@ -58,8 +59,10 @@ same-length-3 c = search needs
 returns-2 : tie.Need-returns-2
 returns-2 c =
     let play-rounds' = c .before .before .before .before .before .before .before .before .play-rounds in
-    let begin' = c .before .before .before .before .before .before .before .before .before .before .before .before .before .before .before .before .before .before .begin in
-    schedules _ _ _ _ _ _ (begin' .ensures .0 _) (begin' .ensures .1) refl refl (c .before .before .before .before .before .before .before .before .before .before .before .before .before .before .before .if1 .left) (λ k. omega (arith, c .before .before .before .before .before .before .before .before .before .before .before .before .before .before .before .before .before .before .before .before .before .before .before .before .before .before .before .before .shared-slice-known .given k)) _ _ _ _ (play-rounds' .ensures) (c .answer .ensures .means (play-rounds' .kept .1 .1 .1 .1 .0 ∙ begin' .kept .1 .1 .1 .1 .1 .1 .1 .0) _ _)
+    let if1' = c .before .before .before .before .before .before .before .before .before .before .before .before .before .before .before .if1 in
+    let begin' = c .before .before .before .before .before .before .before .before .before .before .before .before .before .before .before .before .before .before .before .begin in
+    let shared-slice-known' = c .before .before .before .before .before .before .before .before .before .before .before .before .before .before .before .before .before .before .before .before .before .before .before .before .before .before .before .before .before .shared-slice-known in
+    schedules _ _ _ _ _ _ (begin' .ensures .0 _) (begin' .ensures .1) refl refl (if1' .left) (λ k. omega (arith, shared-slice-known' .given k)) _ _ _ _ (play-rounds' .ensures) (c .answer .ensures .means (play-rounds' .kept .1 .1 .1 .1 .0 ∙ begin' .kept .1 .1 .1 .1 .1 .1 .1 .0) _ _)
 
 pub run-spec : {M : Type 1} → statement M
 run-spec =

@@ -1,17 +1,14 @@
 -- `turns::play_rounds` meets its contract. The invariant: what is lent keeps its lengths, and the cores left in this round and the rounds
--- behind it lead to where all rounds do. The measure counts the bytes left, whether the round has accepted an entry, and the cores left in
--- it. Assumes nothing.
-use mathlib.Core.Bool.{Bool}
-use mathlib.Core.Path.{subst, _≡_, refl, sym, _∙_, ap}
-use Rattle.rules.specs.Rules.{entryOf}
-use borrow.Author.Needs.{needs}
-use borrow.Author.Tests.{not-true, not-false}
-use Prim.Native.Nat.{_+_, _-_, _*_}
-use native.Mathlib.Omega.{arith}
-use lib.ListN.{length}
-use Rattle.rules.specs.State.{jobOf}
-use Rattle.tables.specs.Meaning.{size, meaning}
 use Rattle.turns.proofs.Staging.{bonus, Stage, test-met, begun, within, stops, stops-idle, passes, room-for, carries, less, moves, enable-fits, wakes, woke}
+use Rattle.tables.specs.Meaning.{size, meaning}
+use Rattle.rules.specs.State.{jobOf}
+use lib.ListN.{length}
+use native.Mathlib.Omega.{arith}
+use Prim.Native.Nat.{_+_, _-_, _*_}
+use borrow.Author.Needs.{needs}
+use Rattle.rules.specs.Rules.{entryOf}
+use mathlib.Core.Path.{subst, _≡_, refl, sym, _∙_, ap}
+use mathlib.Core.Bool.{Bool}
 use Rattle.turns.proofs.play_rounds.Statement.{statement}
 use Rattle.turns.proofs.play_rounds.Tie as tie
 
@@ -32,8 +29,8 @@ usable-of-requires c κs = search needs
 
 loop-holds : tie.Need-loop-holds Inv-loop μ-loop
 loop-holds c =
-    let pre' = c .before .before .before .before .before .before .before .before .before .before .pre in
     let args' = c .before .before .before .before .before .before .before .before .before .before .args in
+    let pre' = c .before .before .before .before .before .before .before .before .before .before .pre in
     let job = jobOf (args' .image .now) (args' .starts .now) (args' .parameters .now) (args' .allowance) in (
       refl,
       refl,
@@ -46,34 +43,11 @@ is-over-requires : tie.Need-is-over-requires Inv-loop μ-loop
 is-over-requires c κs = search needs
 
 sub-may-try : tie.Need-sub-may-try Inv-loop μ-loop
-sub-may-try c =
-    let loop' = c .before .before .loop in
-    let stage = loop' .inv .4 in
+sub-may-try c = let stage = (c .before .before .loop) .inv .4 in
     omega (arith, within _ _ _ _ _ _ _ _ _ _ stage)
 
 may-try-requires : tie.Need-may-try-requires Inv-loop μ-loop
 may-try-requires c κs = search needs
-
-same-length : tie.Need-same-length Inv-loop μ-loop
-same-length c = search needs
-
-same-length-2 : tie.Need-same-length-2 Inv-loop μ-loop
-same-length-2 c = search needs
-
-same-length-3 : tie.Need-same-length-3 Inv-loop μ-loop
-same-length-3 c = search needs
-
-same-length-4 : tie.Need-same-length-4 Inv-loop μ-loop
-same-length-4 c = search needs
-
-returns : tie.Need-returns Inv-loop μ-loop
-returns c =
-    let loop' = c .before .before .before .before .loop in
-    let pre' = c .before .before .before .before .before .before .before .before .before .before .before .before .before .before .before .pre in
-    let stage = loop' .inv .4 in
-    let sized : length (loop' .tables) ≡ size = loop' .inv .0 ∙ pre' .sized in
-    let over = c .before .before .is-over .ensures .means sized (loop' .words) (loop' .memory) in
-    stops _ _ _ _ _ _ _ _ _ _ stage _ _ over (c .before .may-try .ensures) (not-true _ (c .if1 .taken))
 
 choice-requires : tie.Need-choice-requires Inv-loop μ-loop
 choice-requires c κs = search needs
@@ -92,8 +66,8 @@ loop-less c = omega (arith, c .before .before .before .before .if2 .taken)
 loop-again : tie.Need-loop-again Inv-loop μ-loop
 loop-again c =
     let choice' = c .before .before .choice in
-    let args' = c .before .before .before .before .before .before .before .before .before .before .before .before .before .before .before .before .before .before .before .before .args in
     let loop' = c .before .before .before .before .before .before .before .before .before .loop in
+    let args' = c .before .before .before .before .before .before .before .before .before .before .before .before .before .before .before .before .before .before .before .before .args in
     let pre' = c .before .before .before .before .before .before .before .before .before .before .before .before .before .before .before .before .before .before .before .before .pre in
     let stage = loop' .inv .4 in
     let sized : length (loop' .tables) ≡ size = loop' .inv .0 ∙ pre' .sized in
@@ -101,9 +75,7 @@ loop-again c =
     (loop' .inv .0, loop' .inv .1, loop' .inv .2, loop' .inv .3, passes _ _ _ _ _ _ _ _ _ _ stage (c .before .before .before .before .if2 .taken) (choice' .result) chosen (sym (c .before .is-nothing .ensures) ∙ c .if3 .taken))
 
 sub-steps-behind : tie.Need-sub-steps-behind Inv-loop μ-loop
-sub-steps-behind c =
-    let loop' = c .before .before .before .before .before .before .before .before .before .loop in
-    let stage = loop' .inv .4 in
+sub-steps-behind c = let stage = (c .before .before .before .before .before .before .before .before .before .loop) .inv .4 in
     omega (arith, within _ _ _ _ _ _ _ _ _ _ stage)
 
 steps-behind-requires : tie.Need-steps-behind-requires Inv-loop μ-loop
@@ -122,16 +94,20 @@ keep-requires c κs =
     let entry' = c .before .before .before .before .before .before .before .entry in
     let steps-behind' = c .before .before .before .before .before .before .before .before .before .before .before .steps-behind in
     let choice' = c .before .before .before .before .before .before .before .before .before .before .before .before .before .before .choice in
-    let args' = c .before .before .before .before .before .before .before .before .before .before .before .before .before .before .before .before .before .before .before .before .before .before .before .before .before .before .before .before .before .before .before .before .args in
+    let if2' = c .before .before .before .before .before .before .before .before .before .before .before .before .before .before .before .before .if2 in
+    let if1' = c .before .before .before .before .before .before .before .before .before .before .before .before .before .before .before .before .before .if1 in
+    let may-try' = c .before .before .before .before .before .before .before .before .before .before .before .before .before .before .before .before .before .before .may-try in
+    let is-over' = c .before .before .before .before .before .before .before .before .before .before .before .before .before .before .before .before .before .before .before .is-over in
     let loop' = c .before .before .before .before .before .before .before .before .before .before .before .before .before .before .before .before .before .before .before .before .before .loop in
+    let args' = c .before .before .before .before .before .before .before .before .before .before .before .before .before .before .before .before .before .before .before .before .before .before .before .before .before .before .before .before .before .before .before .before .args in
     let pre' = c .before .before .before .before .before .before .before .before .before .before .before .before .before .before .before .before .before .before .before .before .before .before .before .before .before .before .before .before .before .before .before .before .pre in
     let s = meaning (loop' .tables) (loop' .words) (loop' .memory) in
     let stage = loop' .inv .4 in
     let sized : length (loop' .tables) ≡ size = loop' .inv .0 ∙ pre' .sized in
-    let over = c .before .before .before .before .before .before .before .before .before .before .before .before .before .before .before .before .before .before .before .is-over .ensures .means sized (loop' .words) (loop' .memory) in
-    let met = test-met s _ _ _ over (c .before .before .before .before .before .before .before .before .before .before .before .before .before .before .before .before .before .before .may-try .ensures) (not-false _ (c .before .before .before .before .before .before .before .before .before .before .before .before .before .before .before .before .before .if1 .left)) in
+    let over = is-over' .ensures .means sized (loop' .words) (loop' .memory) in
+    let met = test-met s _ _ _ over (may-try' .ensures) (if1' .taken) in
     let chosen = choice' .ensures (args' .parameters .now) (args' .allowance) .means sized (loop' .words) (loop' .memory) in
-    room-for _ _ _ _ _ _ _ _ _ _ stage (met .0) (met .1) (c .before .before .before .before .before .before .before .before .before .before .before .before .before .before .before .before .if2 .taken) (choice' .result) chosen (steps-behind' .result) (steps-behind' .ensures) (entry' .result) (meaning (entry' .last .1 .1 .1 .1 .1 .1 .0) (entry' .last .1 .1 .1 .1 .1 .1 .1 .0) (entry' .last .1 .1 .1 .1 .1 .1 .1 .1 .0)) (entry' .ensures)
+    room-for _ _ _ _ _ _ _ _ _ _ stage (met .0) (met .1) (if2' .taken) (choice' .result) chosen (steps-behind' .result) (steps-behind' .ensures) (entry' .result) (meaning (entry' .last .1 .1 .1 .1 .1 .1 .0) (entry' .last .1 .1 .1 .1 .1 .1 .1 .0) (entry' .last .1 .1 .1 .1 .1 .1 .1 .1 .0)) (entry' .ensures)
 
 is-moved-requires : tie.Need-is-moved-requires Inv-loop μ-loop
 is-moved-requires c κs = search needs
@@ -143,14 +119,17 @@ loop-less-2 c =
     let steps-behind' = c .before .before .before .before .before .before .before .before .before .before .before .before .before .before .before .steps-behind in
     let choice' = c .before .before .before .before .before .before .before .before .before .before .before .before .before .before .before .before .before .before .choice in
     let if2' = c .before .before .before .before .before .before .before .before .before .before .before .before .before .before .before .before .before .before .before .before .if2 in
-    let args' = c .before .before .before .before .before .before .before .before .before .before .before .before .before .before .before .before .before .before .before .before .before .before .before .before .before .before .before .before .before .before .before .before .before .before .before .before .args in
+    let if1' = c .before .before .before .before .before .before .before .before .before .before .before .before .before .before .before .before .before .before .before .before .before .if1 in
+    let may-try' = c .before .before .before .before .before .before .before .before .before .before .before .before .before .before .before .before .before .before .before .before .before .before .may-try in
+    let is-over' = c .before .before .before .before .before .before .before .before .before .before .before .before .before .before .before .before .before .before .before .before .before .before .before .is-over in
     let loop' = c .before .before .before .before .before .before .before .before .before .before .before .before .before .before .before .before .before .before .before .before .before .before .before .before .before .loop in
+    let args' = c .before .before .before .before .before .before .before .before .before .before .before .before .before .before .before .before .before .before .before .before .before .before .before .before .before .before .before .before .before .before .before .before .before .before .before .before .args in
     let pre' = c .before .before .before .before .before .before .before .before .before .before .before .before .before .before .before .before .before .before .before .before .before .before .before .before .before .before .before .before .before .before .before .before .before .before .before .before .pre in
     let s = meaning (loop' .tables) (loop' .words) (loop' .memory) in
     let stage = loop' .inv .4 in
     let sized : length (loop' .tables) ≡ size = loop' .inv .0 ∙ pre' .sized in
-    let over = c .before .before .before .before .before .before .before .before .before .before .before .before .before .before .before .before .before .before .before .before .before .before .before .is-over .ensures .means sized (loop' .words) (loop' .memory) in
-    let met = test-met s _ _ _ over (c .before .before .before .before .before .before .before .before .before .before .before .before .before .before .before .before .before .before .before .before .before .before .may-try .ensures) (not-false _ (c .before .before .before .before .before .before .before .before .before .before .before .before .before .before .before .before .before .before .before .before .before .if1 .left)) in
+    let over = is-over' .ensures .means sized (loop' .words) (loop' .memory) in
+    let met = test-met s _ _ _ over (may-try' .ensures) (if1' .taken) in
     let chosen = choice' .ensures (args' .parameters .now) (args' .allowance) .means sized (loop' .words) (loop' .memory) in
     omega (arith, less _ _ _ _ _ _ _ _ _ _ stage (met .0) (met .1) (if2' .taken) (choice' .result) chosen (steps-behind' .result) (steps-behind' .ensures) (entry' .result) (meaning (entry' .last .1 .1 .1 .1 .1 .1 .0) (entry' .last .1 .1 .1 .1 .1 .1 .1 .0) (entry' .last .1 .1 .1 .1 .1 .1 .1 .1 .0)) (entry' .ensures) (keep' .result) (keep' .last .1 .1 .1 .0) (keep' .ensures), ap bonus (c .is-moved .ensures), if2' .taken)
 
@@ -160,22 +139,26 @@ loop-again-2 c =
     let entry' = c .before .before .before .before .before .before .before .before .before .before .before .entry in
     let steps-behind' = c .before .before .before .before .before .before .before .before .before .before .before .before .before .before .before .steps-behind in
     let choice' = c .before .before .before .before .before .before .before .before .before .before .before .before .before .before .before .before .before .before .choice in
-    let args' = c .before .before .before .before .before .before .before .before .before .before .before .before .before .before .before .before .before .before .before .before .before .before .before .before .before .before .before .before .before .before .before .before .before .before .before .before .args in
+    let if2' = c .before .before .before .before .before .before .before .before .before .before .before .before .before .before .before .before .before .before .before .before .if2 in
+    let if1' = c .before .before .before .before .before .before .before .before .before .before .before .before .before .before .before .before .before .before .before .before .before .if1 in
+    let may-try' = c .before .before .before .before .before .before .before .before .before .before .before .before .before .before .before .before .before .before .before .before .before .before .may-try in
+    let is-over' = c .before .before .before .before .before .before .before .before .before .before .before .before .before .before .before .before .before .before .before .before .before .before .before .is-over in
     let loop' = c .before .before .before .before .before .before .before .before .before .before .before .before .before .before .before .before .before .before .before .before .before .before .before .before .before .loop in
+    let usable-of' = c .before .before .before .before .before .before .before .before .before .before .before .before .before .before .before .before .before .before .before .before .before .before .before .before .before .before .usable-of in
+    let count' = c .before .before .before .before .before .before .before .before .before .before .before .before .before .before .before .before .before .before .before .before .before .before .before .before .before .before .before .count in
+    let args' = c .before .before .before .before .before .before .before .before .before .before .before .before .before .before .before .before .before .before .before .before .before .before .before .before .before .before .before .before .before .before .before .before .before .before .before .before .args in
     let pre' = c .before .before .before .before .before .before .before .before .before .before .before .before .before .before .before .before .before .before .before .before .before .before .before .before .before .before .before .before .before .before .before .before .before .before .before .before .pre in
     let job = jobOf (args' .image .now) (args' .starts .now) (args' .parameters .now) (args' .allowance) in
     let s = meaning (loop' .tables) (loop' .words) (loop' .memory) in
     let stage = loop' .inv .4 in
     let sized : length (loop' .tables) ≡ size = loop' .inv .0 ∙ pre' .sized in
-    let over = c .before .before .before .before .before .before .before .before .before .before .before .before .before .before .before .before .before .before .before .before .before .before .before .is-over .ensures .means sized (loop' .words) (loop' .memory) in
-    let met = test-met s _ _ _ over (c .before .before .before .before .before .before .before .before .before .before .before .before .before .before .before .before .before .before .before .before .before .before .may-try .ensures) (not-false _ (c .before .before .before .before .before .before .before .before .before .before .before .before .before .before .before .before .before .before .before .before .before .if1 .left)) in
+    let over = is-over' .ensures .means sized (loop' .words) (loop' .memory) in
+    let met = test-met s _ _ _ over (may-try' .ensures) (if1' .taken) in
     let chosen = choice' .ensures (args' .parameters .now) (args' .allowance) .means sized (loop' .words) (loop' .memory) in
-    (entry' .kept .1 .1 .1 .1 .1 .1 .0 ∙ loop' .inv .0, entry' .kept .1 .1 .1 .1 .1 .1 .1 .0 ∙ loop' .inv .1, entry' .kept .1 .1 .1 .1 .1 .1 .1 .1 .0 ∙ loop' .inv .2, keep' .kept .1 .1 .1 .0 ∙ loop' .inv .3, subst (λ (b : Bool). Stage job (c .before .before .before .before .before .before .before .before .before .before .before .before .before .before .before .before .before .before .before .before .before .before .before .before .before .before .before .count .result) (c .before .before .before .before .before .before .before .before .before .before .before .before .before .before .before .before .before .before .before .before .before .before .before .before .before .before .usable-of .result) (meaning (args' .tables .now) (args' .words .now) (args' .memory .now)) (args' .buffer .now) (meaning (entry' .last .1 .1 .1 .1 .1 .1 .0) (entry' .last .1 .1 .1 .1 .1 .1 .1 .0) (entry' .last .1 .1 .1 .1 .1 .1 .1 .1 .0)) (keep' .result) (keep' .last .1 .1 .1 .0) b (loop' .c + 1)) (sym (c .is-moved .ensures)) (carries _ _ _ _ _ _ _ _ _ _ stage (met .0) (met .1) (c .before .before .before .before .before .before .before .before .before .before .before .before .before .before .before .before .before .before .before .before .if2 .taken) (choice' .result) chosen (steps-behind' .result) (steps-behind' .ensures) (entry' .result) (meaning (entry' .last .1 .1 .1 .1 .1 .1 .0) (entry' .last .1 .1 .1 .1 .1 .1 .1 .0) (entry' .last .1 .1 .1 .1 .1 .1 .1 .1 .0)) (entry' .ensures) (keep' .result) (keep' .last .1 .1 .1 .0) (keep' .ensures)))
+    (entry' .kept .1 .1 .1 .1 .1 .1 .0 ∙ loop' .inv .0, entry' .kept .1 .1 .1 .1 .1 .1 .1 .0 ∙ loop' .inv .1, entry' .kept .1 .1 .1 .1 .1 .1 .1 .1 .0 ∙ loop' .inv .2, keep' .kept .1 .1 .1 .0 ∙ loop' .inv .3, subst (λ (b : Bool). Stage job (count' .result) (usable-of' .result) (meaning (args' .tables .now) (args' .words .now) (args' .memory .now)) (args' .buffer .now) (meaning (entry' .last .1 .1 .1 .1 .1 .1 .0) (entry' .last .1 .1 .1 .1 .1 .1 .1 .0) (entry' .last .1 .1 .1 .1 .1 .1 .1 .1 .0)) (keep' .result) (keep' .last .1 .1 .1 .0) b (loop' .c + 1)) (sym (c .is-moved .ensures)) (carries _ _ _ _ _ _ _ _ _ _ stage (met .0) (met .1) (if2' .taken) (choice' .result) chosen (steps-behind' .result) (steps-behind' .ensures) (entry' .result) (meaning (entry' .last .1 .1 .1 .1 .1 .1 .0) (entry' .last .1 .1 .1 .1 .1 .1 .1 .0) (entry' .last .1 .1 .1 .1 .1 .1 .1 .1 .0)) (entry' .ensures) (keep' .result) (keep' .last .1 .1 .1 .0) (keep' .ensures)))
 
 loop-less-3 : tie.Need-loop-less-3 Inv-loop μ-loop
-loop-less-3 c =
-    let loop' = c .before .before .before .before .before .before .loop in
-    let stage = loop' .inv .4 in
+loop-less-3 c = let stage = (c .before .before .before .before .before .before .loop) .inv .4 in
     omega (arith, ap bonus (c .if4 .taken), stage .rounding .sound .sized .most, stage .rounding .cores)
 
 loop-again-3 : tie.Need-loop-again-3 Inv-loop μ-loop
@@ -186,11 +169,102 @@ loop-again-3 c =
     let stage = loop' .inv .4 in
     let sized : length (loop' .tables) ≡ size = loop' .inv .0 ∙ pre' .sized in
     let over = c .before .before .before .before .is-over .ensures .means sized (loop' .words) (loop' .memory) in
-    let met = test-met s _ _ _ over (c .before .before .before .may-try .ensures) (not-false _ (c .before .before .if1 .left)) in
+    let met = test-met s _ _ _ over (c .before .before .before .may-try .ensures) (c .before .before .if1 .taken) in
     (loop' .inv .0, loop' .inv .1, loop' .inv .2, loop' .inv .3, moves _ _ _ _ _ _ _ _ _ _ stage (met .0) (met .1) (c .before .if2 .left) (c .if4 .taken))
 
 lowest-suspended-requires : tie.Need-lowest-suspended-requires Inv-loop μ-loop
 lowest-suspended-requires c κs = search needs
+
+same-length : tie.Need-same-length Inv-loop μ-loop
+same-length c = search needs
+
+same-length-2 : tie.Need-same-length-2 Inv-loop μ-loop
+same-length-2 c = search needs
+
+same-length-3 : tie.Need-same-length-3 Inv-loop μ-loop
+same-length-3 c = search needs
+
+same-length-4 : tie.Need-same-length-4 Inv-loop μ-loop
+same-length-4 c = search needs
+
+returns : tie.Need-returns Inv-loop μ-loop
+returns c =
+    let loop' = c .before .before .before .before .before .before .before .before .before .loop in
+    let pre' = c .before .before .before .before .before .before .before .before .before .before .before .before .before .before .before .before .before .before .before .before .pre in
+    let stage = loop' .inv .4 in
+    let sized : length (loop' .tables) ≡ size = loop' .inv .0 ∙ pre' .sized in
+    let low = c .before .lowest-suspended .ensures .means sized (loop' .words) (loop' .memory) in
+    stops-idle _ _ _ _ _ _ _ _ _ _ stage (c .before .before .before .before .if2 .left) (c .before .before .before .if4 .left) (rw low at (c .if5 .taken))
+
+enable-requires : tie.Need-enable-requires Inv-loop μ-loop
+enable-requires c κs =
+    let loop' = c .before .before .before .before .before .before .before .before .before .before .loop in
+    let pre' = c .before .before .before .before .before .before .before .before .before .before .before .before .before .before .before .before .before .before .before .before .before .pre in
+    loop' .inv .0 ∙ pre' .sized
+
+keep-requires-2 : tie.Need-keep-requires-2 Inv-loop μ-loop
+unfolding entryOf
+keep-requires-2 c κs =
+    let enable' = c .before .before .before .enable in
+    let lowest-suspended' = c .before .before .before .before .before .before .lowest-suspended in
+    let if1' = c .before .before .before .before .before .before .before .before .before .before .if1 in
+    let may-try' = c .before .before .before .before .before .before .before .before .before .before .before .may-try in
+    let is-over' = c .before .before .before .before .before .before .before .before .before .before .before .before .is-over in
+    let loop' = c .before .before .before .before .before .before .before .before .before .before .before .before .before .before .loop in
+    let pre' = c .before .before .before .before .before .before .before .before .before .before .before .before .before .before .before .before .before .before .before .before .before .before .before .before .before .pre in
+    let s = meaning (loop' .tables) (loop' .words) (loop' .memory) in
+    let stage = loop' .inv .4 in
+    let sized : length (loop' .tables) ≡ size = loop' .inv .0 ∙ pre' .sized in
+    let over = is-over' .ensures .means sized (loop' .words) (loop' .memory) in
+    let met = test-met s _ _ _ over (may-try' .ensures) (if1' .taken) in
+    let low = lowest-suspended' .ensures .means sized (loop' .words) (loop' .memory) in
+    enable-fits _ _ _ _ _ _ _ _ _ _ stage (met .0) (met .1) (c .before .before .before .before .before .before .before .before .before .if2 .left) (c .before .before .before .before .before .before .before .before .if4 .left) (lowest-suspended' .result) low (c .before .before .before .before .before .if5 .left) (enable' .result) (meaning (enable' .last .0) (loop' .words) (loop' .memory)) (enable' .ensures (loop' .words) (loop' .memory))
+
+loop-less-4 : tie.Need-loop-less-4 Inv-loop μ-loop
+unfolding entryOf
+loop-less-4 c =
+    let keep2' = c .before .before .keep2 in
+    let enable' = c .before .before .before .before .before .before .enable in
+    let lowest-suspended' = c .before .before .before .before .before .before .before .before .before .lowest-suspended in
+    let if4' = c .before .before .before .before .before .before .before .before .before .before .before .if4 in
+    let if2' = c .before .before .before .before .before .before .before .before .before .before .before .before .if2 in
+    let if1' = c .before .before .before .before .before .before .before .before .before .before .before .before .before .if1 in
+    let may-try' = c .before .before .before .before .before .before .before .before .before .before .before .before .before .before .may-try in
+    let is-over' = c .before .before .before .before .before .before .before .before .before .before .before .before .before .before .before .is-over in
+    let loop' = c .before .before .before .before .before .before .before .before .before .before .before .before .before .before .before .before .before .loop in
+    let pre' = c .before .before .before .before .before .before .before .before .before .before .before .before .before .before .before .before .before .before .before .before .before .before .before .before .before .before .before .before .pre in
+    let s = meaning (loop' .tables) (loop' .words) (loop' .memory) in
+    let stage = loop' .inv .4 in
+    let sized : length (loop' .tables) ≡ size = loop' .inv .0 ∙ pre' .sized in
+    let over = is-over' .ensures .means sized (loop' .words) (loop' .memory) in
+    let met = test-met s _ _ _ over (may-try' .ensures) (if1' .taken) in
+    let low = lowest-suspended' .ensures .means sized (loop' .words) (loop' .memory) in
+    omega (arith, woke _ _ _ _ _ _ _ _ _ _ stage (met .0) (met .1) (if2' .left) (if4' .left) (lowest-suspended' .result) low (c .before .before .before .before .before .before .before .before .if5 .left) (enable' .result) (meaning (enable' .last .0) (loop' .words) (loop' .memory)) (enable' .ensures (loop' .words) (loop' .memory)) (keep2' .result) (keep2' .last .1 .1 .1 .0) (keep2' .ensures), stage .rounding .sound .sized .most, stage .rounding .cores)
+
+loop-again-4 : tie.Need-loop-again-4 Inv-loop μ-loop
+unfolding entryOf
+loop-again-4 c =
+    let keep2' = c .before .before .keep2 in
+    let enable' = c .before .before .before .before .before .before .enable in
+    let lowest-suspended' = c .before .before .before .before .before .before .before .before .before .lowest-suspended in
+    let if4' = c .before .before .before .before .before .before .before .before .before .before .before .if4 in
+    let if2' = c .before .before .before .before .before .before .before .before .before .before .before .before .if2 in
+    let if1' = c .before .before .before .before .before .before .before .before .before .before .before .before .before .if1 in
+    let may-try' = c .before .before .before .before .before .before .before .before .before .before .before .before .before .before .may-try in
+    let is-over' = c .before .before .before .before .before .before .before .before .before .before .before .before .before .before .before .is-over in
+    let loop' = c .before .before .before .before .before .before .before .before .before .before .before .before .before .before .before .before .before .loop in
+    let usable-of' = c .before .before .before .before .before .before .before .before .before .before .before .before .before .before .before .before .before .before .usable-of in
+    let count' = c .before .before .before .before .before .before .before .before .before .before .before .before .before .before .before .before .before .before .before .count in
+    let args' = c .before .before .before .before .before .before .before .before .before .before .before .before .before .before .before .before .before .before .before .before .before .before .before .before .before .before .before .before .args in
+    let pre' = c .before .before .before .before .before .before .before .before .before .before .before .before .before .before .before .before .before .before .before .before .before .before .before .before .before .before .before .before .pre in
+    let job = jobOf (args' .image .now) (args' .starts .now) (args' .parameters .now) (args' .allowance) in
+    let s = meaning (loop' .tables) (loop' .words) (loop' .memory) in
+    let stage = loop' .inv .4 in
+    let sized : length (loop' .tables) ≡ size = loop' .inv .0 ∙ pre' .sized in
+    let over = is-over' .ensures .means sized (loop' .words) (loop' .memory) in
+    let met = test-met s _ _ _ over (may-try' .ensures) (if1' .taken) in
+    let low = lowest-suspended' .ensures .means sized (loop' .words) (loop' .memory) in
+    (enable' .kept .0 ∙ loop' .inv .0, loop' .inv .1, loop' .inv .2, keep2' .kept .1 .1 .1 .0 ∙ loop' .inv .3, subst (λ (b : Bool). Stage job (count' .result) (usable-of' .result) (meaning (args' .tables .now) (args' .words .now) (args' .memory .now)) (args' .buffer .now) (meaning (enable' .last .0) (loop' .words) (loop' .memory)) (keep2' .result) (keep2' .last .1 .1 .1 .0) b 0) (sym (if4' .left)) (wakes _ _ _ _ _ _ _ _ _ _ stage (met .0) (met .1) (if2' .left) (if4' .left) (lowest-suspended' .result) low (c .before .before .before .before .before .before .before .before .if5 .left) (enable' .result) (meaning (enable' .last .0) (loop' .words) (loop' .memory)) (enable' .ensures (loop' .words) (loop' .memory)) (keep2' .result) (keep2' .last .1 .1 .1 .0) (keep2' .ensures)))
 
 same-length-5 : tie.Need-same-length-5 Inv-loop μ-loop
 same-length-5 c = search needs
@@ -206,65 +280,12 @@ same-length-8 c = search needs
 
 returns-2 : tie.Need-returns-2 Inv-loop μ-loop
 returns-2 c =
-    let loop' = c .before .before .before .before .before .before .before .before .before .loop in
-    let pre' = c .before .before .before .before .before .before .before .before .before .before .before .before .before .before .before .before .before .before .before .before .pre in
+    let loop' = c .before .before .before .before .loop in
+    let pre' = c .before .before .before .before .before .before .before .before .before .before .before .before .before .before .before .pre in
     let stage = loop' .inv .4 in
     let sized : length (loop' .tables) ≡ size = loop' .inv .0 ∙ pre' .sized in
-    let low = c .before .lowest-suspended .ensures .means sized (loop' .words) (loop' .memory) in
-    stops-idle _ _ _ _ _ _ _ _ _ _ stage (c .before .before .before .before .if2 .left) (c .before .before .before .if4 .left) (rw low at (c .if5 .taken))
-
-enable-requires : tie.Need-enable-requires Inv-loop μ-loop
-enable-requires c κs = c .before .before .before .before .before .before .before .before .before .before .loop .inv .0 ∙ c .before .before .before .before .before .before .before .before .before .before .before .before .before .before .before .before .before .before .before .before .before .pre .sized
-
-keep-requires-2 : tie.Need-keep-requires-2 Inv-loop μ-loop
-unfolding entryOf
-keep-requires-2 c κs =
-    let enable' = c .before .before .before .enable in
-    let lowest-suspended' = c .before .before .before .before .before .before .lowest-suspended in
-    let loop' = c .before .before .before .before .before .before .before .before .before .before .before .before .before .before .loop in
-    let pre' = c .before .before .before .before .before .before .before .before .before .before .before .before .before .before .before .before .before .before .before .before .before .before .before .before .before .pre in
-    let s = meaning (loop' .tables) (loop' .words) (loop' .memory) in
-    let stage = loop' .inv .4 in
-    let sized : length (loop' .tables) ≡ size = loop' .inv .0 ∙ pre' .sized in
-    let over = c .before .before .before .before .before .before .before .before .before .before .before .before .is-over .ensures .means sized (loop' .words) (loop' .memory) in
-    let met = test-met s _ _ _ over (c .before .before .before .before .before .before .before .before .before .before .before .may-try .ensures) (not-false _ (c .before .before .before .before .before .before .before .before .before .before .if1 .left)) in
-    let low = lowest-suspended' .ensures .means sized (loop' .words) (loop' .memory) in
-    enable-fits _ _ _ _ _ _ _ _ _ _ stage (met .0) (met .1) (c .before .before .before .before .before .before .before .before .before .if2 .left) (c .before .before .before .before .before .before .before .before .if4 .left) (lowest-suspended' .result) low (c .before .before .before .before .before .if5 .left) (enable' .result) (meaning (enable' .last .0) (loop' .words) (loop' .memory)) (enable' .ensures (loop' .words) (loop' .memory))
-
-loop-less-4 : tie.Need-loop-less-4 Inv-loop μ-loop
-unfolding entryOf
-loop-less-4 c =
-    let keep2' = c .before .before .keep2 in
-    let enable' = c .before .before .before .before .before .before .enable in
-    let lowest-suspended' = c .before .before .before .before .before .before .before .before .before .lowest-suspended in
-    let loop' = c .before .before .before .before .before .before .before .before .before .before .before .before .before .before .before .before .before .loop in
-    let pre' = c .before .before .before .before .before .before .before .before .before .before .before .before .before .before .before .before .before .before .before .before .before .before .before .before .before .before .before .before .pre in
-    let s = meaning (loop' .tables) (loop' .words) (loop' .memory) in
-    let stage = loop' .inv .4 in
-    let sized : length (loop' .tables) ≡ size = loop' .inv .0 ∙ pre' .sized in
-    let over = c .before .before .before .before .before .before .before .before .before .before .before .before .before .before .before .is-over .ensures .means sized (loop' .words) (loop' .memory) in
-    let met = test-met s _ _ _ over (c .before .before .before .before .before .before .before .before .before .before .before .before .before .before .may-try .ensures) (not-false _ (c .before .before .before .before .before .before .before .before .before .before .before .before .before .if1 .left)) in
-    let low = lowest-suspended' .ensures .means sized (loop' .words) (loop' .memory) in
-    omega (arith, woke _ _ _ _ _ _ _ _ _ _ stage (met .0) (met .1) (c .before .before .before .before .before .before .before .before .before .before .before .before .if2 .left) (c .before .before .before .before .before .before .before .before .before .before .before .if4 .left) (lowest-suspended' .result) low (c .before .before .before .before .before .before .before .before .if5 .left) (enable' .result) (meaning (enable' .last .0) (loop' .words) (loop' .memory)) (enable' .ensures (loop' .words) (loop' .memory)) (keep2' .result) (keep2' .last .1 .1 .1 .0) (keep2' .ensures), stage .rounding .sound .sized .most, stage .rounding .cores)
-
-loop-again-4 : tie.Need-loop-again-4 Inv-loop μ-loop
-unfolding entryOf
-loop-again-4 c =
-    let keep2' = c .before .before .keep2 in
-    let enable' = c .before .before .before .before .before .before .enable in
-    let lowest-suspended' = c .before .before .before .before .before .before .before .before .before .lowest-suspended in
-    let if4' = c .before .before .before .before .before .before .before .before .before .before .before .if4 in
-    let args' = c .before .before .before .before .before .before .before .before .before .before .before .before .before .before .before .before .before .before .before .before .before .before .before .before .before .before .before .before .args in
-    let loop' = c .before .before .before .before .before .before .before .before .before .before .before .before .before .before .before .before .before .loop in
-    let pre' = c .before .before .before .before .before .before .before .before .before .before .before .before .before .before .before .before .before .before .before .before .before .before .before .before .before .before .before .before .pre in
-    let job = jobOf (args' .image .now) (args' .starts .now) (args' .parameters .now) (args' .allowance) in
-    let s = meaning (loop' .tables) (loop' .words) (loop' .memory) in
-    let stage = loop' .inv .4 in
-    let sized : length (loop' .tables) ≡ size = loop' .inv .0 ∙ pre' .sized in
-    let over = c .before .before .before .before .before .before .before .before .before .before .before .before .before .before .before .is-over .ensures .means sized (loop' .words) (loop' .memory) in
-    let met = test-met s _ _ _ over (c .before .before .before .before .before .before .before .before .before .before .before .before .before .before .may-try .ensures) (not-false _ (c .before .before .before .before .before .before .before .before .before .before .before .before .before .if1 .left)) in
-    let low = lowest-suspended' .ensures .means sized (loop' .words) (loop' .memory) in
-    (enable' .kept .0 ∙ loop' .inv .0, loop' .inv .1, loop' .inv .2, keep2' .kept .1 .1 .1 .0 ∙ loop' .inv .3, subst (λ (b : Bool). Stage job (c .before .before .before .before .before .before .before .before .before .before .before .before .before .before .before .before .before .before .before .count .result) (c .before .before .before .before .before .before .before .before .before .before .before .before .before .before .before .before .before .before .usable-of .result) (meaning (args' .tables .now) (args' .words .now) (args' .memory .now)) (args' .buffer .now) (meaning (enable' .last .0) (loop' .words) (loop' .memory)) (keep2' .result) (keep2' .last .1 .1 .1 .0) b 0) (sym (if4' .left)) (wakes _ _ _ _ _ _ _ _ _ _ stage (met .0) (met .1) (c .before .before .before .before .before .before .before .before .before .before .before .before .if2 .left) (if4' .left) (lowest-suspended' .result) low (c .before .before .before .before .before .before .before .before .if5 .left) (enable' .result) (meaning (enable' .last .0) (loop' .words) (loop' .memory)) (enable' .ensures (loop' .words) (loop' .memory)) (keep2' .result) (keep2' .last .1 .1 .1 .0) (keep2' .ensures)))
+    let over = c .before .before .is-over .ensures .means sized (loop' .words) (loop' .memory) in
+    stops _ _ _ _ _ _ _ _ _ _ stage _ _ over (c .before .may-try .ensures) (c .if1 .left)
 
 pub play-rounds-spec : {M : Type 1} → statement M
 play-rounds-spec =
@@ -278,11 +299,6 @@ play-rounds-spec =
     is-over-requires
     sub-may-try
     may-try-requires
-    same-length
-    same-length-2
-    same-length-3
-    same-length-4
-    returns
     choice-requires
     add-c
     is-nothing-requires
@@ -298,12 +314,17 @@ play-rounds-spec =
     loop-less-3
     loop-again-3
     lowest-suspended-requires
+    same-length
+    same-length-2
+    same-length-3
+    same-length-4
+    returns
+    enable-requires
+    keep-requires-2
+    loop-less-4
+    loop-again-4
     same-length-5
     same-length-6
     same-length-7
     same-length-8
-    returns-2
-    enable-requires
-    keep-requires-2
-    loop-less-4
-    loop-again-4)
+    returns-2)
