@@ -20,9 +20,9 @@ use Rattle.rules.specs.Rules.{carriedOf, turnOf, stepOf, takeInto, takeOf, isSe
 use Rattle.rules.specs.Start.{startState}
 use Rattle.rules.specs.Runs.{runFrom, logsFrom}
 use Rattle.demands.specs.Input.{refusalOf}
-use Rattle.transcript.specs.Text.{digitsOf, decimalOf}
-use Rattle.transcript.specs.Reading.{wordsFrom}
-use Rattle.transcript.specs.Transcript.{entryLines, playedText, numberOfRun, runText, textOf}
+use Rattle.reading.specs.Reading.{wordsFrom}
+use Rattle.text.specs.Text.{digitsOf, decimalOf, entryLines}
+use Rattle.transcript.specs.Transcript.{playedText, numberOfRun, runText, textOf}
 use Rattle.transcript.specs.Cases.{Case, printed}
 
 abbrev Holds : List Case → Type 0

@@ -13,7 +13,8 @@ use Rattle.image.specs.declared.Refusal.the-variants.{BadLength, BadCount, BadR
 use Rattle.image.specs.Image.{imageVerdict, numberIn}
 use Rattle.schedule.specs.Meaning.{scheduleOf, numberOf}
 use Rattle.demands.specs.Input.{Input, badCores, badArguments, badWords, entryCount, refusalOf}
-use Rattle.transcript.specs.Reading.{inputOf, scheduleIn}
+use Rattle.reading.specs.Reading.{scheduleIn}
+use Rattle.transcript.specs.Job.{inputOf}
 use Rattle.transcript.specs.Transcript.{numberOfRun}
 
 first-eight : (v : Verdict) → numberIn v ≤ 8

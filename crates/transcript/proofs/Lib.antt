@@ -1,8 +1,5 @@
 -- The laws that the proofs of `transcript` cite.
-pub mod Writing
-pub mod Digits
-pub mod LineLaws
-pub mod Words
+pub mod LastLineLaws
 pub mod Running
 pub mod Printing
 pub mod Longer

@@ -10,7 +10,8 @@ use lib.ListN.{length, getD, take, drop, replicate, length-drop}
 use lib.Seq.{getD-take, take-all, take-nil, take-take, length-take-le}
 use Rattle.schedule.specs.Meaning.{malformed, scheduleOf}
 use Rattle.demands.specs.Input.{Input, entryCount, refusalOf}
-use Rattle.transcript.specs.Reading.{pairAt, wordAt, wordsFrom, argumentCount, allowanceAt, lengthAt, imageAt, scheduleAt, inputOf, scheduleIn}
+use Rattle.reading.specs.Reading.{pairAt, wordAt, wordsFrom, argumentCount, allowanceAt, lengthAt, imageAt, scheduleAt, scheduleIn}
+use Rattle.transcript.specs.Job.{inputOf}
 use Rattle.transcript.specs.Transcript.{numberOfRun, runText, textOf}
 
 -- a schedule of more than 32,768 bytes is malformed, and all such have one text

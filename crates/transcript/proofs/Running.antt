@@ -2,12 +2,13 @@
 use mathlib.Core.Bool.{Bool, true, false}
 use mathlib.Core.List.{List, [], _∷_, _++_}
 use mathlib.Core.Path.{_≡_, refl, ap, sym, _∙_}
-use Prim.Native.Nat.{ℕ, _+_, _*_, _≤_}
+use Prim.Native.Nat.{ℕ, _+_, _*_, _-_, _≤_}
+use native.Mathlib.Nat.{sub-zero}
 use native.Mathlib.Omega.{arith}
 use borrow.Author.Tests.{le-ltb, ne-eqb, eqb-true, eqb-false}
 use lib.Dec.{eqb}
-use lib.ListN.{length, take, drop, replicate, length-append, length-replicate}
-use lib.Seq.{take-at}
+use lib.ListN.{length, take, drop, replicate, length-append, length-replicate, length-take}
+use lib.Seq.{take-all, take-at}
 use Rattle.schedule.proofs.Standing.{two-bytes}
 use Rattle.schedule.specs.Meaning.{Schedule, entries, malformed, scheduleOf, countOf, Counts}
 use Rattle.schedule.specs.declared.Entry.{Entry}
@@ -22,10 +23,12 @@ use Rattle.demands.specs.declared.RunAnswer.the-variants.{Refused, Finished, Fa
 use Rattle.demands.specs.Input.{Input, jobIn, startIn, entryCount, refusalOf, answerOf}
 use Rattle.run.specs.declared.Ran.{Ran}
 use Rattle.run.specs.Run.{RunsAs, IsPlayed}
-use Rattle.transcript.proofs.Writing.{followed, same-text}
-use Rattle.transcript.specs.Text.{lastLine}
-use Rattle.transcript.specs.Transcript.{entryLines, playedText, numberOfRun, runText}
-use Rattle.transcript.specs.Parts.{Put, Fills, linesOf}
+use Rattle.text.specs.Text.{entryLines}
+use Rattle.text.specs.Buffer.{Put, Fills}
+use Rattle.text.proofs.Writing.{followed, same-text}
+use Rattle.transcript.specs.LastLine.{lastLine}
+use Rattle.transcript.specs.Transcript.{playedText, numberOfRun, runText}
+use Rattle.transcript.specs.Parts.{linesOf}
 
 twice-as-many : (es : List Entry) → 2 * length es ≤ length (allBytes es)
 unfolding allBytes
@@ -49,15 +52,13 @@ most-of (Finished v u) x h = h
 most-of (Faulted n t o) x h = h
 most-of (Open u) x h = h
 
-pub most-lines : (answer : RunAnswer) (s : List ℕ) (n : ℕ) → n ≡ linesOf answer (scheduleOf s) → n ≤ 16384
+most-lines : (answer : RunAnswer) (s : List ℕ) (n : ℕ) → n ≡ linesOf answer (scheduleOf s) → n ≤ 16384
 most-lines answer s n h = omega (arith, most-of answer (scheduleOf s) (most-entries s))
 
 -- a log of 16,384 bytes has one for each line, also after a run, which keeps its length
 pub enough-log : (answer : RunAnswer) (s : List ℕ) (n : ℕ) → n ≡ linesOf answer (scheduleOf s) → (before after : List ℕ) → length before ≡ 16384 → length after ≡ length before
-    → (n ≤ 16384) × (n ≤ length after)
-enough-log answer s n h before after l k =
-    let m : n ≤ 16384 = most-lines answer s n h in
-    (m, omega arith)
+    → n ≤ length after
+enough-log answer s n h before after l k = omega (arith, most-lines answer s n h)
 
 -- what the count of a schedule's entries says
 count-is : (x : Schedule) (n : ℕ) → Entries n ≡ countOf x → n ≡ entryCount x
@@ -131,8 +132,13 @@ module _ (i : Input) (s log : List ℕ) (roomy : length log ≡ 16384) (r : Ran)
       ∙ ap (λ (n : ℕ). lastLine (Refused n)) (same-number i s log roomy)
       ∙ sym (text-refused i s (λ e. z (same-number i s log roomy ∙ e)))
 
-  pub written : {b m e : List ℕ} {at end : ℕ} → Fills (entryLines 0 (take count logAfter)) b (10 * count) at m → Put (lastLine (r .answer)) m at end e × (end ≤ at + 31) → Fills (runText i s) b 163871 end e
+  -- the bytes that get lines are all that the run has written
+  all-shown : take 16384 (take (count - 0) logAfter) ≡ take count logAfter
+  all-shown =
+      rw (sub-zero count) (take-all 16384 (take count logAfter) (omega (arith, length-take count logAfter, most-lines (r .answer) s count counts)))
+
+  pub written : {b m e : List ℕ} {at end : ℕ} → Fills (entryLines 0 (take 16384 (take (count - 0) logAfter))) b 163840 at m → Put (lastLine (r .answer)) m at end e × (end ≤ at + 31) → Fills (runText i s) b 163871 end e
   written p q = record {
-    put = same-text (written-by (eqb (refusalOf i s log) 0) refl) (followed (p .put) (q .0));
-    few = omega (arith, p .few, q .1, most-lines (r .answer) s count counts);
+    put = same-text (written-by (eqb (refusalOf i s log) 0) refl) (followed (same-text (ap (entryLines 0) all-shown) (p .put)) (q .0));
+    few = omega (arith, p .few, q .1);
   }

@@ -3,7 +3,7 @@ use mathlib.Core.List.{List, [], _∷_, _++_}
 use Prim.Native.Nat.{ℕ}
 use Rattle.image.specs.Cases.{oneRoutine, whole}
 use Rattle.demands.specs.Cases.{wholeSchedule}
-use Rattle.transcript.specs.Text.{ascii}
+use Rattle.text.specs.Text.{ascii}
 
 -- a row of the table
 pub record Case : Type 0 where

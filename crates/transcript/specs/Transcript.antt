@@ -1,7 +1,7 @@
 -- All that the print program prints of an input.
 use mathlib.Core.Bool.{cond}
-use mathlib.Core.List.{List, [], _∷_, _++_}
-use Prim.Native.Nat.{ℕ, _+_}
+use mathlib.Core.List.{List, [], _++_}
+use Prim.Native.Nat.{ℕ}
 use lib.Dec.{eqb}
 use lib.ListN.{replicate}
 use Rattle.schedule.specs.declared.Entry.{Entry}
@@ -9,13 +9,10 @@ use Rattle.schedule.specs.Meaning.{Schedule, entries, malformed, scheduleOf}
 use Rattle.rules.specs.Runs.{runFrom, logsFrom}
 use Rattle.demands.specs.declared.RunAnswer.the-variants.{Refused}
 use Rattle.demands.specs.Input.{Input, jobIn, startIn, entryCount, refusalOf, answerOf}
-use Rattle.transcript.specs.Text.{entryLine, lastLine}
-use Rattle.transcript.specs.Reading.{endsEarly, inputOf, scheduleIn}
-
--- a line for each log byte, from an entry's number on
-unfoldable pub entryLines : ℕ → List ℕ → List ℕ
-entryLines number [] = []
-entryLines number (log ∷ logs) = entryLine number log ++ entryLines (number + 1) logs
+use Rattle.reading.specs.Reading.{endsEarly, scheduleIn}
+use Rattle.text.specs.Text.{entryLines}
+use Rattle.transcript.specs.LastLine.{lastLine}
+use Rattle.transcript.specs.Job.{inputOf}
 
 -- a run by entries: "Per entry it prints its number from 0 and its log byte", and then the last line
 unfoldable pub playedText : Input → List Entry → List ℕ

@@ -1,25 +1,26 @@
 // What the print program prints of its input: a job is read from bytes and run, and its log and last line are written as text.
 
-mod reading;
-mod text;
+mod answer;
 
-use crate::reading::pair_at;
-use crate::reading::read_words;
-use crate::reading::wide;
-use crate::reading::word_at;
-use crate::text::put_answer;
-use crate::text::put_entries;
-use command::byte_at;
+use crate::answer::put_answer;
+use reading::allowance;
+use reading::argument_count;
+use reading::core_count;
+use reading::image_at;
+use reading::read_arguments;
+use reading::schedule_at;
 use run::RunAnswer;
 use schedule::Counted;
+use text::put_log;
 ghost use mathlib.Core.Path.{_≡_};
 ghost use lib.ListN.{length};
 ghost use Rattle.schedule.specs.Meaning.{scheduleOf};
 ghost use Rattle.demands.specs.Input.{entryCount};
-ghost use Rattle.transcript.specs.Reading.{startingWith};
+ghost use Rattle.text.specs.Buffer.{Fills};
+ghost use Rattle.transcript.specs.Job.{startingWith};
 ghost use Rattle.transcript.specs.Transcript.{runText};
 ghost use Rattle.transcript.specs.Writing.{Prints};
-ghost use Rattle.transcript.specs.Parts.{Fills, linesOf};
+ghost use Rattle.transcript.specs.Parts.{linesOf};
 
 // How many entries a schedule has; none where it is malformed.
 fn entry_count(schedule: &[u8]) -> usize
@@ -77,30 +78,30 @@ fn transcribe(
         log,
     );
     let answer = ran.answer;
-    let at = put_entries(output, log, lines(answer, schedule));
-    put_answer(output, at, answer)
+    let count = lines(answer, schedule);
+    let at = put_log(output, &log[0..count]);
+    put_answer(output, at as u32, answer)
 }
 
 // Writes an input's text over the front of the output, as far as there is room, and gives the text's length. It takes any input.
 pub fn print(input: &[u8], output: &mut [u8]) -> usize
     ensures { λ r. ⌜ Prints (now (input .entry)) (now (output .entry)) (now (output .exit)) r ⌝ }
 {
-    let count = wide(byte_at(input, 1));
-    let allowance_at = 2 + 4 * count;
-    let image_at = allowance_at + 6;
-    let schedule_at = image_at + pair_at(input, allowance_at + 4);
-    if input.len() < schedule_at {
+    let start = image_at(input);
+    let end = schedule_at(input);
+    if input.len() < end {
         return put_answer(output, 0, RunAnswer::Refused(25));
     }
     let mut arguments = [0u32; 255];
-    read_words(input, 2, count, &mut arguments);
+    read_arguments(input, &mut arguments);
+    let count = argument_count(input);
     let mut log = [0u8; 16384];
     transcribe(
-        &input[image_at..schedule_at],
-        byte_at(input, 0),
+        &input[start..end],
+        core_count(input),
         &arguments[0..count],
-        word_at(input, allowance_at),
-        &input[schedule_at..],
+        allowance(input),
+        &input[end..],
         &mut log,
         output,
     )

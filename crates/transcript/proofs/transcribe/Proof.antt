@@ -1,6 +1,5 @@
 -- `transcript::transcribe` meets its contract. Assumes nothing.
-use native.Mathlib.Omega.{arith}
-use Rattle.transcript.proofs.Running.{most-lines, enough-log, written}
+use Rattle.transcript.proofs.Running.{enough-log, written}
 use borrow.Author.Needs.{needs}
 use Rattle.transcript.proofs.transcribe.Statement.{statement}
 use Rattle.transcript.proofs.transcribe.Tie as tie
@@ -17,11 +16,23 @@ run-requires c κs = search needs
 lines-requires : tie.Need-lines-requires
 lines-requires c κs = search needs
 
-put-entries-requires : tie.Need-put-entries-requires
-put-entries-requires c κs = enough-log _ _ _ (c .lines .ensures) (c .before .before .before .before .before .before .before .before .before .before .before .before .before .before .before .args .log .now) (c .before .before .before .before .before .before .run .last .1 .1 .1 .1 .1 .1 .1 .0) (c .before .before .before .before .before .before .before .before .before .before .before .before .before .before .before .pre) (c .before .before .before .before .before .before .run .kept .1 .1 .1 .1 .1 .1 .1 .0)
+sub-put-log : tie.Need-sub-put-log
+sub-put-log c = search needs
+
+part-put-log-start : tie.Need-part-put-log-start
+part-put-log-start c = search needs
+
+part-put-log-end : tie.Need-part-put-log-end
+part-put-log-end c = enough-log _ _ _ (c .before .before .lines .ensures) (c .before .before .before .before .before .before .before .before .before .before .before .before .before .before .before .args .log .now) (c .before .before .before .before .before .before .run .last .1 .1 .1 .1 .1 .1 .1 .0) (c .before .before .before .before .before .before .before .before .before .before .before .before .before .before .before .pre) (c .before .before .before .before .before .before .run .kept .1 .1 .1 .1 .1 .1 .1 .0)
+
+put-log-requires : tie.Need-put-log-requires
+put-log-requires c κs = search needs
+
+cast-put-answer : tie.Need-cast-put-answer
+cast-put-answer c = search needs
 
 put-answer-requires : tie.Need-put-answer-requires
-put-answer-requires c κs = omega (arith, c .before .before .before .put-entries .ensures .few, most-lines _ _ _ (c .before .before .before .before .lines .ensures))
+put-answer-requires c κs = search needs
 
 same-length : tie.Need-same-length
 same-length c = search needs
@@ -30,7 +41,7 @@ same-length-2 : tie.Need-same-length-2
 same-length-2 c = search needs
 
 returns : tie.Need-returns
-returns c = written _ _ _ (c .before .before .before .before .before .before .before .before .before .before .before .before .before .before .before .before .before .before .before .before .before .before .pre) _ _ _ (c .before .before .before .before .before .before .before .before .before .before .before .before .before .run .ensures .runs) _ (c .before .before .before .before .before .before .before .lines .ensures) (c .before .before .before .before .before .before .put-entries .ensures) (c .before .before .put-answer .ensures)
+returns c = written _ _ _ (c .before .before .before .before .before .before .before .before .before .before .before .before .before .before .before .before .before .before .before .before .before .before .before .pre) _ _ _ (c .before .before .before .before .before .before .before .before .before .before .before .before .before .before .run .ensures .runs) _ (c .before .before .before .before .before .before .before .before .before .before .lines .ensures) (c .before .before .before .before .before .before .put-log .ensures) (c .before .before .put-answer .ensures)
 
 pub transcribe-spec : {M : Type 1} → statement M
 transcribe-spec =
@@ -40,7 +51,11 @@ transcribe-spec =
     slice-aggregate-run-2
     run-requires
     lines-requires
-    put-entries-requires
+    sub-put-log
+    part-put-log-start
+    part-put-log-end
+    put-log-requires
+    cast-put-answer
     put-answer-requires
     same-length
     same-length-2

@@ -1,0 +1,51 @@
+-- What the print program's input says: "core count, argument count (one byte each), arguments, allowance (four bytes each), image length
+-- (two bytes), image, schedule". Bytes past the input's end read as 0.
+use mathlib.Core.Bool.{Bool}
+use mathlib.Core.List.{List, [], _∷_}
+use Prim.Native.Nat.{ℕ, zero, suc, _+_, _*_}
+use lib.Dec.{ltb}
+use lib.ListN.{length, getD, drop}
+
+-- "values of two or four bytes are little-endian"
+abbrev pub pairOf : ℕ → ℕ → ℕ
+pairOf a b = a + b * 256
+
+abbrev pub wordOf : ℕ → ℕ → ℕ → ℕ → ℕ
+wordOf a b c d = a + b * 256 + c * 65536 + d * 16777216
+
+abbrev pub pairAt : List ℕ → ℕ → ℕ
+pairAt s at = pairOf (getD s at 0) (getD s (at + 1) 0)
+
+abbrev pub wordAt : List ℕ → ℕ → ℕ
+wordAt s at = wordOf (getD s at 0) (getD s (at + 1) 0) (getD s (at + 2) 0) (getD s (at + 3) 0)
+
+-- as many words from a position on
+unfoldable pub wordsFrom : List ℕ → ℕ → ℕ → List ℕ
+wordsFrom s at zero = []
+wordsFrom s at (suc n) = wordAt s at ∷ wordsFrom s (at + 4) n
+
+abbrev pub coreCount : List ℕ → ℕ
+coreCount s = getD s 0 0
+
+abbrev pub argumentCount : List ℕ → ℕ
+argumentCount s = getD s 1 0
+
+-- the arguments stand at 2, and then one thing after the other
+abbrev pub allowanceAt : List ℕ → ℕ
+allowanceAt s = 2 + 4 * argumentCount s
+
+abbrev pub lengthAt : List ℕ → ℕ
+lengthAt s = allowanceAt s + 4
+
+abbrev pub imageAt : List ℕ → ℕ
+imageAt s = lengthAt s + 2
+
+abbrev pub scheduleAt : List ℕ → ℕ
+scheduleAt s = imageAt s + pairAt s (lengthAt s)
+
+-- "Input that ends before the schedule"; one that ends with the image has an empty schedule
+abbrev pub endsEarly : List ℕ → Bool
+endsEarly s = ltb (length s) (scheduleAt s)
+
+abbrev pub scheduleIn : List ℕ → List ℕ
+scheduleIn s = drop (scheduleAt s) s
