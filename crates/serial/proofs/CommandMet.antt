@@ -56,11 +56,7 @@ module _ (j : Job) (good : GoodJob j) (l : Routine) (g : GoodRoutine j l) where
 
   -- so its first byte is one of the table's
   pub byte-few : byteAt j (l .routine) (l .position) < length (j .weights)
-  byte-few = go (decLt (byteAt j (l .routine) (l .position)) (length (j .weights)))
-    where
-      go : Dec (byteAt j (l .routine) (l .position) < length (j .weights)) → byteAt j (l .routine) (l .position) < length (j .weights)
-      go (yes h) = h
-      go (no h) = omega (arith, weighs, List·getD-eq-default (j .weights) 0 {n = byteAt j (l .routine) (l .position)} (omega arith))
+  byte-few = command.byte-few j good (l .routine) (l .position) (g .routine) (g .position)
 
   -- past the image's end there is no command
   pub place-inside : offsetAt j (l .routine) (l .position) < length (j .image)

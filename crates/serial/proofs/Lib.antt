@@ -1,7 +1,9 @@
 pub mod Cases
 pub mod CommandMet
 pub mod FirstSlots
+pub mod Forking
 pub mod Loop
+pub mod Places
 pub mod Turns
 pub mod Unrolled
 pub mod Whole

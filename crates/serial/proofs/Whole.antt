@@ -1,7 +1,7 @@
 -- The whole-run tests of the serial run in their order, and what they give: a good job and a good first routine. Assumes nothing.
 use mathlib.Core.List.{List}
 use mathlib.Core.Path.{_≡_, sym, _∙_, ap}
-use Prim.Native.Nat.{ℕ, _≤_, _<_}
+use Prim.Native.Nat.{ℕ, _-_, _≤_, _<_}
 use native.Mathlib.Omega.{arith}
 use borrow.Author.Tests.{eq-eqb, ne-eqb}
 use lib.ListN.{getD, length}
@@ -19,7 +19,7 @@ use Rattle.window.specs.Rights.{rootWindow}
 use Rattle.window.proofs.Laws.{root-fits}
 use Rattle.thread.specs.Job.{Job, jobOf, GoodJob}
 use Rattle.serial.specs.Serial.{Ended, stopped, startedOn, runFrom, serialFrom, serialOf}
-use Rattle.serial.specs.Steps.{Ready}
+use Rattle.serial.specs.Steps.{Far}
 use Rattle.serial.proofs.CommandMet.{fresh}
 
 pub verdict-is : (s : List ℕ) (r : Checked) → r ≡ imageAnswer s → r .verdict ≡ imageVerdict s
@@ -72,28 +72,28 @@ module _ (image parameters arguments memory : List ℕ) (allowance : ℕ) where
       rw (h, eq-eqb (length arguments) (argumentsOf image 0) c, eq-eqb (length parameters) 32 q, eq-eqb (length memory) 992 w)
 
   module _ (h : imageVerdict image ≡ Accepted) where
-    few-arguments : length arguments ≡ argumentsOf image 0 → length arguments ≤ 16
+    pub few-arguments : length arguments ≡ argumentsOf image 0 → length arguments ≤ 16
     few-arguments c =
         let a = accepted image h in
         omega (arith, arguments-most image a 0 (omega (arith, a .some)), slots-most image a 0 (omega (arith, a .some)))
 
     module _ (starts : List ℕ) (starts-are : starts ≡ startsIn (programOf image)) (root : Window) (root-is : root ≡ rootWindow)
         (c : length arguments ≡ argumentsOf image 0) where
-      pub whole-ready : ((i : ℕ) → getD image i 0 < 256) → length parameters ≡ 32 → length memory ≡ 992
-          → Ready (jobOf image starts parameters allowance) (startedOn 0 arguments root) memory 0 32 × (length arguments ≤ 16)
-      whole-ready bytes q w = (
-        rw (starts-are, root-is) (record {
-          job = good-job image parameters allowance h bytes q;
-          routine = fresh j (good-job image parameters allowance h bytes q) 0 arguments rootWindow (omega (arith, accepted image h .some)) root-fits;
-          memory = w;
-          paid = omega arith;
-          some = omega arith;
-          most = omega arith;
-        }),
-        few-arguments c,
-      )
+      abbrev run : Ended
+      run = runFrom (jobOf image starts parameters allowance) 1 (startedOn 0 arguments root) memory 0
 
-      pub whole-run : (o : Ended) → length parameters ≡ 32 → length memory ≡ 992
-          → o ≡ runFrom (jobOf image starts parameters allowance) 1 (startedOn 0 arguments root) memory 0 → o ≡ serialOf j arguments memory
+      pub whole-far : ((i : ℕ) → getD image i 0 < 256) → length parameters ≡ 32 → length memory ≡ 992
+          → Far (jobOf image starts parameters allowance) 1 run (startedOn 0 arguments root) memory allowance
+      whole-far bytes q w =
+          let z : allowance - allowance ≡ 0 = omega arith in
+          rw (starts-are, root-is) (record {
+            job = good-job image parameters allowance h bytes q;
+            routine = fresh j (good-job image parameters allowance h bytes q) 0 arguments rootWindow (omega (arith, accepted image h .some)) root-fits;
+            memory = w;
+            most = omega arith;
+            is = rw z;
+          })
+
+      pub whole-run : (o : Ended) → length parameters ≡ 32 → length memory ≡ 992 → o ≡ run → o ≡ serialOf j arguments memory
       unfolding serialFrom
       whole-run o q w e = rw (starts-are, root-is) at e ∙ sym (all-right h c q w)

@@ -2,20 +2,31 @@
 use mathlib.Core.Bool.{true, cond}
 use mathlib.Core.List.{List, _++_}
 use mathlib.Core.Path.{_≡_}
-use Prim.Native.Nat.{ℕ, suc, _+_, _-_, _≤_, _<_}
-use lib.Dec.{ltb, leb}
-use lib.ListN.{getD, set, take, drop, length, replicate}
-use Rattle.image.specs.Layout.{countOf, codeOf, argumentsOf}
+use Prim.Native.Nat.{ℕ, _+_, _-_, _≤_, _<_}
+use lib.Dec.{ltb}
+use lib.ListN.{getD, set, take, length, replicate}
+use Rattle.image.specs.Layout.{countOf, codeOf}
 use Rattle.image.specs.Code.{commandsOf, isStart}
 use Rattle.window.specs.declared.Window.{Window}
-use Rattle.window.specs.Rights.{Fits}
+use Rattle.window.specs.Rights.{Fits, rejoined}
 use Rattle.thread.specs.declared.Effect.{Effect}
 use Rattle.thread.specs.declared.Effect.the-variants.{Faults, Sets, Loads, Stores, Goes, Continues, Lforks, Forks, Joins, Suspends, Yields, Returns}
-use Rattle.thread.specs.Job.{Job, GoodJob}
+use Rattle.thread.specs.Thread.{withPending}
+use Rattle.thread.specs.Job.{Job, jobOf, GoodJob}
 use Rattle.serial.specs.declared.Routine.{Routine}
+use Rattle.serial.specs.declared.place.Place.{Place}
 use Rattle.serial.specs.declared.Ask.{Ask}
 use Rattle.serial.specs.declared.Ask.the-variants.{GoOn, Join, Call, Stop, Return}
-use Rattle.serial.specs.Serial.{Ended, stopped, startedOn, runFrom}
+use Rattle.serial.specs.declared.row.Fork.{Fork}
+use Rattle.serial.specs.declared.row.Row.{Row}
+use Rattle.serial.specs.declared.row.Row.the-variants.{AtJoin, AtFork, AtStop, AtReturn}
+use Rattle.serial.specs.declared.Turn.{Turn}
+use Rattle.serial.specs.declared.Turn.the-variants.{AfterJoin, AfterFork, AfterStop, AfterReturn}
+use Rattle.serial.specs.declared.Ending.{Ending}
+use Rattle.serial.specs.declared.Ending.the-variants.{ByNumber, ByReturn}
+use Rattle.serial.specs.declared.SerialAnswer.{SerialAnswer}
+use Rattle.serial.specs.declared.SerialAnswer.the-variants.{Finished, Stopped}
+use Rattle.serial.specs.Serial.{Ended, done, stopped, endedBy, weightAt, effectAt, runFrom}
 
 -- an open routine of its parts, which the code holds one by one
 abbrev pub openAt : ℕ → ℕ → ℕ → Window → List ℕ → Routine
@@ -101,30 +112,98 @@ InReach Suspends = Unit {0}
 InReach Yields = Unit {0}
 InReach (Returns v) = Unit {0}
 
--- what a run of a routine relies on; `depth` routines may be open from here on, itself included
-pub record Ready (j : Job) (l : Routine) (m : List ℕ) (units depth : ℕ) : Type 0 where
+-- a run that has come to an open routine, so much of the allowance being left: what is left of it gives what the whole run gives
+pub record Far (j : Job) (n : ℕ) (whole : Ended) (l : Routine) (m : List ℕ) (left : ℕ) : Type 0 where
   pub job : GoodJob j
   pub routine : GoodRoutine j l
   pub memory : length m ≡ 992
-  pub paid : units ≤ j .allowance
-  pub some : 1 ≤ depth
-  pub most : depth ≤ 32
+  pub most : left ≤ j .allowance
+  pub is : runFrom j n l m (j .allowance - left) ≡ whole
 
--- a child, as a fork of routine r starts it: on its arguments, the parent's slots from a on, in its window
-abbrev pub childFrom : List ℕ → List ℕ → Window → ℕ → ℕ → Routine
-childFrom image slots w r a = startedOn r (take (argumentsOf image r) (drop a slots)) w
+-- some run has come there
+pub record Come (image starts parameters : List ℕ) (n : ℕ) (l : Routine) (m : List ℕ) (left : ℕ) : Type 0 where
+  pub allowance : ℕ
+  pub whole : Ended
+  pub far : Far (jobOf image starts parameters allowance) n whole l m left
 
--- what carrying out a fork relies on: the child is good, its arguments are there, and the fork's weight is paid for
-pub record ForkReady (j : Job) (slots : List ℕ) (w : Window) (r a : ℕ) (m : List ℕ) (units cost depth : ℕ) : Type 0 where
-  pub job : GoodJob j
-  pub routine : GoodRoutine j (childFrom (j .image) slots w r a)
-  pub sixteen : length slots ≡ 16
-  pub arguments : a + argumentsOf (j .image) r ≤ 16
-  pub memory : length m ≡ 992
-  pub paid : units + cost ≤ j .allowance
-  pub some : 1 ≤ depth
-  pub most : depth ≤ 32
+abbrev pub placeAt : ℕ → ℕ → ℕ → Window → ℕ → Place
+placeAt routine position pending window left =
+    record { routine = routine; position = position; pending = pending; window = window; left = left }
 
--- "A fork from 32 deep, the root being 1, meets 26"; else the child runs
-abbrev pub forkOf : Job → ℕ → Routine → List ℕ → ℕ → ℕ → Ended
-forkOf j n child m u w = cond (leb 32 n) (stopped 26 m u) (runFrom j (suc n) child m (u + w))
+-- the open routine of a place
+abbrev pub openIn : Place → List ℕ → Routine
+openIn at slots = openAt (at .routine) (at .position) (at .pending) (at .window) slots
+
+-- the command that is met is this fork, and its weight is paid for
+pub record IsFork (j : Job) (l : Routine) (left : ℕ) (f : Fork) : Type 0 where
+  pub weight : f .weight ≡ weightAt j l
+  pub paid : f .weight ≤ left
+  pub asked : askedOf (effectAt j l) (l .position) ≡ Call (f .cut) (f .routine) (f .result) (f .first)
+
+-- what a row relies on: some run has come to its place, in the code that starts there
+pub record RowReady (image parameters : List ℕ) (code : ℕ) (at : Place) (slots m : List ℕ) : Type 0 where
+  pub starts : List ℕ
+  pub depth : ℕ
+  pub there : code ≡ getD starts (at .routine) 0
+  pub come : Come image starts parameters depth (openIn at slots) m (at .left)
+
+-- a run that had come to a row's place, once the row has ended
+abbrev pub RowAs : Job → ℕ → Ended → Place → List ℕ → List ℕ → Row → Type 0
+RowAs j n whole at slots m (AtJoin p left) =
+    (left < at .left) × Far j n whole (openAt (at .routine) p 0 (rejoined (at .window)) slots) m left
+RowAs j n whole at slots m (AtFork f p left) =
+    (left ≤ at .left) × Far j n whole (openAt (at .routine) p (at .pending) (at .window) slots) m left
+    × IsFork j (openAt (at .routine) p (at .pending) (at .window) slots) left f
+RowAs j n whole at slots m (AtStop x left) = (left ≤ at .left) × (stopped x m (j .allowance - left) ≡ whole)
+RowAs j n whole at slots m (AtReturn v left) = (left ≤ at .left) × (done v m (j .allowance - left) ≡ whole)
+
+-- what a row gives to every run that had come to its place
+abbrev pub RowFrom : List ℕ → List ℕ → ℕ → Place → List ℕ → List ℕ → List ℕ → List ℕ → Row → Type 0
+RowFrom image parameters code at slots m slots' m' r =
+    (x : RowReady image parameters code at slots m)
+    → RowAs (jobOf image (x .starts) parameters (x .come .allowance)) (x .depth) (x .come .whole) at slots' m' r
+
+-- a run that had come to a turn's place, once the turn is over
+abbrev pub TurnAs : Job → ℕ → Ended → Place → List ℕ → List ℕ → Turn → Type 0
+TurnAs j n whole at slots m (AfterJoin p left) =
+    (left < at .left) × Far j n whole (openAt (at .routine) p 0 (rejoined (at .window)) slots) m left
+TurnAs j n whole at slots m (AfterFork p left w d) =
+    (left < at .left) × (d < 16) × Far j n whole (openAt (at .routine) p (withPending (at .pending) d) w slots) m left
+TurnAs j n whole at slots m (AfterStop x left) = (left ≤ at .left) × (stopped x m (j .allowance - left) ≡ whole)
+TurnAs j n whole at slots m (AfterReturn v left) = (left ≤ at .left) × (done v m (j .allowance - left) ≡ whole)
+
+-- what a turn gives to every run that had come to its place
+abbrev pub TurnFrom : List ℕ → List ℕ → List ℕ → ℕ → Place → List ℕ → List ℕ → List ℕ → List ℕ → Turn → Type 0
+TurnFrom image starts parameters n at slots m slots' m' o =
+    (x : Come image starts parameters n (openIn at slots) m (at .left))
+    → TurnAs (jobOf image starts parameters (x .allowance)) n (x .whole) at slots' m' o
+
+-- what carrying out a fork relies on: some run has come to it
+pub record ForkReady (image starts parameters : List ℕ) (n : ℕ) (at : Place) (slots m : List ℕ) (f : Fork) : Type 0 where
+  pub come : Come image starts parameters n (openIn at slots) m (at .left)
+  pub fork : IsFork (jobOf image starts parameters (come .allowance)) (openIn at slots) (at .left) f
+
+-- what it gives to every run that had come to the fork
+abbrev pub ForkFrom : List ℕ → List ℕ → List ℕ → ℕ → Place → List ℕ → List ℕ → Fork → List ℕ → List ℕ → Turn → Type 0
+ForkFrom image starts parameters n at slots m f slots' m' o =
+    (x : ForkReady image starts parameters n at slots m f)
+    → TurnAs (jobOf image starts parameters (x .come .allowance)) n (x .come .whole) at slots' m' o
+
+-- what is left of the allowance where a routine has ended
+abbrev pub leftOf : Ending → ℕ
+leftOf (ByNumber x left) = left
+leftOf (ByReturn v left) = left
+
+-- the answer of an allowance
+abbrev pub answerOf : ℕ → Ending → SerialAnswer
+answerOf allowance (ByNumber x left) = Stopped x (allowance - left)
+answerOf allowance (ByReturn v left) = Finished v (allowance - left)
+
+-- what a routine's run gives to every run that had come to it
+pub record EndAs (allowance : ℕ) (whole : Ended) (most : ℕ) (m : List ℕ) (o : Ending) : Type 0 where
+  pub less : leftOf o ≤ most
+  pub is : endedBy (answerOf allowance o) m ≡ whole
+
+abbrev pub RunFrom : List ℕ → List ℕ → List ℕ → ℕ → Routine → List ℕ → ℕ → List ℕ → Ending → Type 0
+RunFrom image starts parameters n l m most m' o =
+    (x : Come image starts parameters n l m most) → EndAs (x .allowance) (x .whole) most m' o

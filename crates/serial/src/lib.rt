@@ -3,31 +3,32 @@
 mod act;
 mod frame;
 mod padded;
+mod place;
+mod row;
 
-use crate::act::carry_out;
 use crate::act::code_start;
-use crate::act::cost_of;
 use crate::frame::lay;
 use crate::frame::put;
 use crate::frame::wide_byte;
-use crate::padded::five_of;
 use crate::padded::pad;
-use command::command_of;
+use crate::place::Place;
+use crate::row::Fork;
+use crate::row::Row;
+use crate::row::run_row;
 use command::weights;
-use effects::effect;
 use image::Verdict;
 use image::number::number_of;
 use image::routines::arguments_of;
-use thread::pending::with_pending;
 use window::Cut;
 use window::Window;
 ghost use mathlib.Core.Path.{_≡_};
-ghost use Prim.Native.Nat.{_+_, _-_, _≤_};
-ghost use lib.ListN.{length};
+ghost use Prim.Native.Nat.{_-_, _≤_};
+ghost use lib.ListN.{length, getD};
+ghost use Rattle.command.specs.Weight.{standardWeights};
 ghost use Rattle.image.specs.Layout.{programOf, startsIn};
 ghost use Rattle.thread.specs.Job.{jobOf};
-ghost use Rattle.serial.specs.Serial.{endedBy, startedOn, runFrom, serialOf};
-ghost use Rattle.serial.specs.Steps.{Ready, ForkReady, Padded, childFrom, forkOf};
+ghost use Rattle.serial.specs.Serial.{endedBy, startedOn, serialOf};
+ghost use Rattle.serial.specs.Steps.{Padded, Come, ForkReady, ForkFrom, TurnFrom, RunFrom, openIn, leftOf, answerOf};
 
 // An open routine, as the definition of the run has it. The code holds its parts.
 pub struct Routine {
@@ -59,45 +60,115 @@ enum Ask {
     Return(u32),
 }
 
-// Carries out a fork: the child starts on its arguments, the parent's slots from a on, in its part of the parent's window, and runs to its
-// end. `depth` routines may be open from the parent on, itself included.
+// How a routine ended, with what is left of the allowance: by a number, or with a value.
+enum Ending {
+    ByNumber(u8, u32),
+    ByReturn(u32, u32),
+}
+
+// Where a turn led, with what is left of the allowance.
+enum Turn {
+    // behind a join: the position
+    AfterJoin(u16, u32),
+    // behind a fork: the position, the rest of the window and the result slot
+    AfterFork(u16, u32, Window, u8),
+    // to the run's end by a number
+    AfterStop(u8, u32),
+    // to the routine's end with a value
+    AfterReturn(u32, u32),
+}
+
+// Carries out a fork: the child starts on its arguments, the parent's slots from the first on, in its part of the parent's window, and runs
+// to its end; its value goes into the result slot. `depth` routines may be open from the parent on, itself included.
 fn carry_fork(
     image: &[u8],
     padded: &[u8; 4104],
     starts: &[u16; 32],
     parameters: &[u32],
     memory: &mut [u32],
-    slots: &[u32],
-    child: Window,
-    r: u8,
-    a: u8,
-    allowance: u32,
-    units: u32,
-    cost: u32,
+    slots: &mut [u32; 16],
+    at: Place,
+    fork: Fork,
     depth: u8,
-) -> SerialAnswer
-    requires { ⌜ ForkReady (jobOf (now image) (now starts) (now parameters) allowance) (now slots) child r a (now memory) units cost depth × Padded (now image) (now padded) ⌝ }
-    ensures { λ o. ⌜ endedBy o (now (memory .exit)) ≡ forkOf (jobOf (now (image .entry)) (now (starts .entry)) (now (parameters .entry)) allowance) (33 - depth) (childFrom (now (image .entry)) (now (slots .entry)) child r a) (now (memory .entry)) units cost ⌝ }
+) -> Turn
+    requires { ⌜ ForkReady (now image) (now starts) (now parameters) (33 - depth) at (now slots) (now memory) fork × (depth ≤ 32) × Padded (now image) (now padded) ⌝ }
+    ensures { λ o. ⌜ ForkFrom (now (image .entry)) (now (starts .entry)) (now (parameters .entry)) (33 - depth) at (now (slots .entry)) (now (memory .entry)) fork (now (slots .exit)) (now (memory .exit)) o ⌝ }
 {
+    let Cut::Parts { child, rest } = at.window.cut(fork.cut) else {
+        // not met: the effect is a fork only where the cut is in range
+        return Turn::AfterStop(11, at.left);
+    };
     if depth <= 1 {
-        return SerialAnswer::Stopped(26, units);
+        return Turn::AfterStop(26, at.left);
     }
-    let from = a as usize;
-    let end = from + wide_byte(arguments_of(image, r));
-    let so_far = units + cost;
-    run_routine(
+    let from = fork.first as usize;
+    let end = from + wide_byte(arguments_of(image, fork.routine));
+    let all = &slots[..];
+    let ending = run_routine(
         image,
         padded,
         starts,
         parameters,
         memory,
-        r,
-        &slots[from..end],
+        fork.routine,
+        &all[from..end],
         child,
-        allowance,
-        so_far,
+        at.left - fork.weight,
         depth - 1,
-    )
+    );
+    match ending {
+        Ending::ByReturn(value, less) => {
+            put(slots, fork.result, value);
+            return Turn::AfterFork(at.position + 5, less, rest, fork.result);
+        }
+        Ending::ByNumber(number, less) => {
+            return Turn::AfterStop(number, less);
+        }
+    }
+}
+
+// Runs a row and carries out the fork that may have ended it. `depth` routines may be open from this one on, itself included.
+fn run_turn(
+    image: &[u8],
+    padded: &[u8; 4104],
+    starts: &[u16; 32],
+    parameters: &[u32],
+    memory: &mut [u32],
+    weights: &[u8; 14],
+    code: usize,
+    slots: &mut [u32; 16],
+    at: Place,
+    depth: u8,
+) -> Turn
+    requires { ⌜ Come (now image) (now starts) (now parameters) (33 - depth) (openIn at (now slots)) (now memory) (at .left) × (depth ≤ 32) × (code ≡ getD (now starts) (at .routine) 0) × (now weights ≡ standardWeights) × Padded (now image) (now padded) ⌝ }
+    ensures { λ o. ⌜ TurnFrom (now (image .entry)) (now (starts .entry)) (now (parameters .entry)) (33 - depth) at (now (slots .entry)) (now (memory .entry)) (now (slots .exit)) (now (memory .exit)) o ⌝ }
+{
+    let row = run_row(image, padded, weights, code, slots, parameters, memory, at);
+    match row {
+        Row::AtJoin(position, left) => {
+            return Turn::AfterJoin(position, left);
+        }
+        Row::AtFork(fork, position, left) => {
+            let here = at.moved(position, left);
+            return carry_fork(
+                image,
+                padded,
+                starts,
+                parameters,
+                memory,
+                slots,
+                here,
+                fork,
+                depth,
+            );
+        }
+        Row::AtStop(number, left) => {
+            return Turn::AfterStop(number, left);
+        }
+        Row::AtReturn(value, left) => {
+            return Turn::AfterReturn(value, left);
+        }
+    }
 }
 
 // Runs a routine's commands from its start until it returns or a test is met. `depth` routines may be open from it on, itself included.
@@ -110,87 +181,56 @@ fn run_routine(
     routine: u8,
     arguments: &[u32],
     start: Window,
-    allowance: u32,
-    before: u32,
+    most: u32,
     depth: u8,
-) -> SerialAnswer
-    requires { ⌜ Ready (jobOf (now image) (now starts) (now parameters) allowance) (startedOn routine (now arguments) start) (now memory) before depth × (length (now arguments) ≤ 16) × Padded (now image) (now padded) ⌝ }
-    ensures { λ o. ⌜ endedBy o (now (memory .exit)) ≡ runFrom (jobOf (now (image .entry)) (now (starts .entry)) (now (parameters .entry)) allowance) (33 - depth) (startedOn routine (now (arguments .entry)) start) (now (memory .entry)) before ⌝ }
+) -> Ending
+    requires { ⌜ Come (now image) (now starts) (now parameters) (33 - depth) (startedOn routine (now arguments) start) (now memory) most × (depth ≤ 32) × (length (now arguments) ≤ 16) × Padded (now image) (now padded) ⌝ }
+    ensures { λ o. ⌜ RunFrom (now (image .entry)) (now (starts .entry)) (now (parameters .entry)) (33 - depth) (startedOn routine (now (arguments .entry)) start) (now (memory .entry)) most (now (memory .exit)) o ⌝ }
 {
     // held by the loop: a constant table is laid out anew where it is named
     let weights = weights();
     let code = code_start(starts, routine);
-    let mut position: u16 = 0;
-    let mut pending: u16 = 0;
-    let mut window = start;
     let mut slots = [0u32; 16];
     lay(&mut slots, arguments);
-    // of the allowance
-    let mut left = allowance - before;
+    let mut at = Place::first(routine, start, most);
     loop {
-        let five = five_of(padded, code, position);
-        let cost = cost_of(&weights, five[0]);
-        if left < cost {
-            return SerialAnswer::Stopped(22, allowance - left);
-        }
-        let effect = effect(command_of(five), image, &slots, 0, pending, window);
-        let ask = carry_out(effect, &mut slots, parameters, memory, position);
-        match ask {
-            Ask::GoOn(next) => {
-                position = next;
-                left = left - cost;
+        let turn = run_turn(
+            image,
+            padded,
+            starts,
+            parameters,
+            memory,
+            &weights,
+            code,
+            &mut slots,
+            at,
+            depth,
+        );
+        match turn {
+            Turn::AfterJoin(position, left) => {
+                at = at.joined(position, left);
             }
-            Ask::Join => {
-                position = position + 1;
-                pending = 0;
-                window = window.rejoin();
-                left = left - cost;
+            Turn::AfterFork(position, left, rest, d) => {
+                at = at.forked(position, left, rest, d);
             }
-            Ask::Call(e, r, d, a) => {
-                let cut = window.cut(e);
-                match cut {
-                    Cut::Parts { child, rest } => {
-                        let answer = carry_fork(
-                            image,
-                            padded,
-                            starts,
-                            parameters,
-                            memory,
-                            &slots,
-                            child,
-                            r,
-                            a,
-                            allowance,
-                            allowance - left,
-                            cost,
-                            depth,
-                        );
-                        match answer {
-                            SerialAnswer::Finished(value, so_far) => {
-                                put(&mut slots, d, value);
-                                position = position + 5;
-                                pending = with_pending(pending, d);
-                                window = rest;
-                                left = allowance - so_far;
-                            }
-                            SerialAnswer::Stopped(number, so_far) => {
-                                return SerialAnswer::Stopped(number, so_far);
-                            }
-                        }
-                    }
-                    // not met: the effect is a fork only where the cut is in range
-                    Cut::OutOfRange => {
-                        return SerialAnswer::Stopped(11, allowance - left);
-                    }
-                }
+            Turn::AfterStop(number, left) => {
+                return Ending::ByNumber(number, left);
             }
-            Ask::Stop(number) => {
-                return SerialAnswer::Stopped(number, allowance - left);
-            }
-            Ask::Return(value) => {
-                return SerialAnswer::Finished(value, allowance - left + cost);
+            Turn::AfterReturn(value, left) => {
+                return Ending::ByReturn(value, left);
             }
         }
+    }
+}
+
+// The answer, with the units of an allowance that are not left.
+fn with_units(ending: Ending, allowance: u32) -> SerialAnswer
+    requires { ⌜ leftOf ending ≤ allowance ⌝ }
+    ensures { λ r. ⌜ r ≡ answerOf allowance ending ⌝ }
+{
+    match ending {
+        Ending::ByReturn(value, left) => SerialAnswer::Finished(value, allowance - left),
+        Ending::ByNumber(number, left) => SerialAnswer::Stopped(number, allowance - left),
     }
 }
 
@@ -224,7 +264,7 @@ pub fn serial(
     let program = checked.program;
     let starts = program.starts();
     let padded = pad(image);
-    run_routine(
+    let ending = run_routine(
         image,
         &padded,
         &starts,
@@ -234,7 +274,7 @@ pub fn serial(
         arguments,
         Window::root(),
         allowance,
-        0,
         32,
-    )
+    );
+    with_units(ending, allowance)
 }

@@ -1,13 +1,48 @@
 -- `serial::serial` meets its contract. Assumes nothing.
-use mathlib.Core.Path.{sym, _∙_, ap}
+use mathlib.Core.Path.{_≡_, sym, _∙_, ap}
 use native.Mathlib.Omega.{arith}
-use Rattle.image.specs.Layout.{startsIn}
+use lib.ListN.{length}
+use Rattle.image.specs.declared.Verdict.the-variants.{Accepted}
+use Rattle.image.specs.Layout.{argumentsOf, programOf, startsIn}
+use Rattle.image.specs.Image.{imageVerdict}
 use Rattle.image.proofs.Accepted.{accepted}
-use Rattle.serial.specs.Serial.{stopped}
-use Rattle.serial.proofs.Whole.{verdict-is, program-is, refused, wrong-count, wrong-parameters, wrong-memory, whole-ready, whole-run}
+use Rattle.image.proofs.Program.starts.Reads as starts-reads
+use Rattle.image.proofs.check.Reads as check-reads
+use Rattle.image.proofs.number.number_of.Reads as number-of-reads
+use Rattle.image.proofs.routines.arguments_of.Reads as arguments-of-reads
+use Rattle.window.proofs.Window.root.Reads as root-reads
+use Rattle.serial.specs.Serial.{stopped, startedOn, endedBy}
+use Rattle.serial.specs.Steps.{Come}
+use Rattle.serial.proofs.Whole.{verdict-is, program-is, refused, wrong-count, wrong-parameters, wrong-memory, few-arguments, whole-far, whole-run}
+use Rattle.serial.proofs.padded.pad.Reads as pad-reads
+use Rattle.serial.proofs.run_routine.Reads as run-routine-reads
+use Rattle.serial.proofs.with_units.Reads as with-units-reads
 use borrow.Author.Needs.{needs}
 use Rattle.serial.proofs.serial.Statement.{statement}
 use Rattle.serial.proofs.serial.Tie as tie
+use Rattle.serial.proofs.serial.Reads as reads
+use Rattle.serial.proofs.serial.Lts as lts
+
+-- what it asks of its callees, and learns from them
+abbrev calls : lts.Claims
+calls = (
+  check-reads.Asked,
+  check-reads.Learnt,
+  number-of-reads.Asked,
+  number-of-reads.Learnt,
+  arguments-of-reads.Asked,
+  arguments-of-reads.Learnt,
+  starts-reads.Asked,
+  starts-reads.Learnt,
+  pad-reads.Asked,
+  pad-reads.Learnt,
+  root-reads.Asked,
+  root-reads.Learnt,
+  run-routine-reads.Asked,
+  run-routine-reads.Learnt,
+  with-units-reads.Asked,
+  with-units-reads.Learnt,
+)
 
 check-requires : tie.Need-check-requires
 check-requires c κs = search needs
@@ -52,23 +87,50 @@ pad-requires c κs = accepted _ (sym (verdict-is _ _ (c .before .before .before 
 root-requires : tie.Need-root-requires
 root-requires c κs = search needs
 
+-- all tests are passed, and the run is to start
+abbrev Rooted : Type 0
+Rooted = lts.After-root calls reads.Pre reads.Post
+
+abbrev start : Rooted → lts.Start calls reads.Pre reads.Post
+start c = c .before .before .before .before .before .before .before .before .before .before .before .before .before .before .before .before .before .before
+
+checked : (c : Rooted) → imageVerdict (start c .args .image .now) ≡ Accepted
+checked c = sym (verdict-is _ _ (c .before .before .before .before .before .before .before .before .before .before .before .before .before .check .ensures)) ∙ c .before .before .before .before .before .before .before .before .before .before .before .enum-told .given .1
+
+starts-are : (c : Rooted) → c .before .before .before .before .before .starts .result ≡ startsIn (programOf (start c .args .image .now))
+starts-are c = c .before .before .before .before .before .starts .ensures ∙ ap startsIn (program-is _ _ (c .before .before .before .before .before .before .before .before .before .before .before .before .before .check .ensures) (c .before .before .before .before .before .before .before .before .before .before .before .enum-told .given .1))
+
+count-is : (c : Rooted) → length (start c .args .arguments .now) ≡ argumentsOf (start c .args .image .now) 0
+count-is c = c .before .before .before .before .before .before .before .before .before .if1 .left ∙ c .before .before .before .before .before .before .before .before .before .before .arguments-of .ensures
+
+-- the run as it starts
+abbrev come : (c : Rooted) → Come (start c .args .image .now) (c .before .before .before .before .before .starts .result) (start c .args .parameters .now) 1 (startedOn 0 (start c .args .arguments .now) (c .root .result)) (start c .args .memory .now) (start c .args .allowance)
+come c =
+    let a = start c .args in
+    record {
+      allowance = a .allowance;
+      whole = _;
+      far = whole-far (a .image .now) (a .parameters .now) (a .arguments .now) (a .memory .now) (a .allowance) (checked c) _ (starts-are c) _ (c .root .ensures) (count-is c)
+          (λ i. omega (arith, c .before .before .before .before .before .before .before .before .before .before .before .before .before .before .before .before .before .shared-slice-known .given i)) (c .before .before .before .before .before .before .before .before .if2 .left) (c .before .before .before .before .before .before .before .if3 .left);
+    }
+
 run-routine-requires : tie.Need-run-routine-requires
 run-routine-requires c κs =
-    let a = c .before .before .before .before .before .before .before .before .before .before .before .before .before .before .before .before .before .before .args in
-    let checked = c .before .before .before .before .before .before .before .before .before .before .before .before .before .check .ensures in
-    let verdict = c .before .before .before .before .before .before .before .before .before .before .before .enum-told .given .1 in
-    let ready = whole-ready (a .image .now) (a .parameters .now) (a .arguments .now) (a .memory .now) (a .allowance) (sym (verdict-is _ _ checked) ∙ verdict) _ (c .before .before .before .before .before .starts .ensures ∙ ap startsIn (program-is _ _ checked verdict)) _ (c .root .ensures) (c .before .before .before .before .before .before .before .before .before .if1 .left ∙ c .before .before .before .before .before .before .before .before .before .before .arguments-of .ensures) (λ i. omega (arith, c .before .before .before .before .before .before .before .before .before .before .before .before .before .before .before .before .before .shared-slice-known .given i)) (c .before .before .before .before .before .before .before .before .if2 .left) (c .before .before .before .before .before .before .before .if3 .left) in
-    (ready .0, ready .1, c .before .before .before .before .pad .ensures)
+    let a = start c .args in
+    (come c, omega arith, few-arguments (a .image .now) (a .parameters .now) (a .arguments .now) (a .memory .now) (a .allowance) (checked c) (count-is c), c .before .before .before .before .pad .ensures)
+
+with-units-requires : tie.Need-with-units-requires
+with-units-requires c κs = c .before .before .run-routine .ensures (come (c .before .before .before)) .less
 
 same-length : tie.Need-same-length
 same-length c = search needs
 
 returns-5 : tie.Need-returns-5
 returns-5 c =
-    let a = c .before .before .before .before .before .before .before .before .before .before .before .before .before .before .before .before .before .before .before .before .before .args in
-    let checked = c .before .before .before .before .before .before .before .before .before .before .before .before .before .before .before .before .check .ensures in
-    let verdict = c .before .before .before .before .before .before .before .before .before .before .before .before .before .before .enum-told .given .1 in
-    whole-run (a .image .now) (a .parameters .now) (a .arguments .now) (a .memory .now) (a .allowance) (sym (verdict-is _ _ checked) ∙ verdict) _ (c .before .before .before .before .before .before .before .before .starts .ensures ∙ ap startsIn (program-is _ _ checked verdict)) _ (c .before .before .before .root .ensures) (c .before .before .before .before .before .before .before .before .before .before .before .before .if1 .left ∙ c .before .before .before .before .before .before .before .before .before .before .before .before .before .arguments-of .ensures) _ (c .before .before .before .before .before .before .before .before .before .before .before .if2 .left) (c .before .before .before .before .before .before .before .before .before .before .if3 .left) (c .before .before .run-routine .ensures)
+    let y = c .before .before .before .before in
+    let a = start y .args in
+    whole-run (a .image .now) (a .parameters .now) (a .arguments .now) (a .memory .now) (a .allowance) (checked y) _ (starts-are y) _ (y .root .ensures) (count-is y) _ (y .before .before .before .before .before .before .before .before .if2 .left) (y .before .before .before .before .before .before .before .if3 .left)
+    (ap (λ r. endedBy r (c .before .before .before .run-routine .last .1 .1 .1 .1 .0)) (c .with-units .ensures) ∙ c .before .before .before .run-routine .ensures (come y) .is)
 
 pub serial-spec : {M : Type 1} → statement M
 serial-spec =
@@ -88,5 +150,6 @@ serial-spec =
     pad-requires
     root-requires
     run-routine-requires
+    with-units-requires
     same-length
     returns-5)
