@@ -1,12 +1,13 @@
 // A fork: 08 and 09 by a step, and either as a seed by a steal.
-use crate::parts::child_status;
-use crate::parts::goes_above;
-use crate::parts::is_connected;
-use crate::parts::parent_status;
 use image::routines::arguments_of;
 use image::routines::slots_of;
 use queue::Front;
 use rules::ForkKind;
+use statuses::child_status;
+use statuses::is_connected;
+use statuses::parent_status;
+use tables::frames::fits;
+use tables::frames::is_topmost;
 use tables::frames::next_base;
 use tables::frames::push_frame;
 use tables::lines::free_stacklets;
@@ -23,19 +24,34 @@ use thread::Thread;
 use thread::record::behind_fork;
 use thread::record::new_thread;
 use window::Cut;
-ghost use mathlib.Core.Bool.{cond};
+ghost use mathlib.Core.Bool.{cond, _&&_};
 ghost use mathlib.Core.List.{List};
 ghost use mathlib.Core.Path.{_≡_};
 ghost use Prim.Native.Nat.{ℕ, _/_, _<_};
 ghost use lib.ListN.{length};
 ghost use Rattle.queue.specs.declared.Front.the-variants.{Number, Nothing};
 ghost use Rattle.queue.specs.Contents.{firstOf};
+ghost use Rattle.stacklets.specs.Tops.{isTopmost, fitsOn};
 ghost use Rattle.rules.specs.State.{jobOf};
-ghost use Rattle.rules.specs.Fork.{asked, childGoes, forkOf};
+ghost use Rattle.rules.specs.Fork.{asked, isConnected, childGoes, forkOf};
 ghost use Rattle.tables.specs.Meaning.{size, meaning};
 ghost use Rattle.tables.specs.Change.{Reads, Becomes};
 ghost use Rattle.entries.specs.Given.{Cutting, Forking, turnIn, bothRecords, leftBy, handsOutNumber};
 ghost use Rattle.dispatch.specs.Orderly.{after};
+
+// Does a new frame of `wide` words go above the parent's, of `slots` words at a base?
+fn goes_above(tables: &[u8], kind: ForkKind, base: u16, slots: u8, wide: u8) -> bool
+    requires { ⌜ (length (now tables) ≡ size) × (base < 1024) ⌝ }
+    ensures { λ r. ⌜ ((words memory : List ℕ) → r ≡ (isConnected kind && (isTopmost (meaning (now (tables .entry)) words memory .tops) base slots && fitsOn (meaning (now (tables .entry)) words memory .tops) (base / 64) wide))) ⌝ }
+{
+    if !is_connected(kind) {
+        return false;
+    }
+    if !is_topmost(tables, base, slots) {
+        return false;
+    }
+    fits(tables, (base / 64) as u8, wide)
+}
 
 // The child takes its place: on the core, or in the ready queue.
 fn place_child(tables: &mut [u8], kind: ForkKind, c: u8, n: u8)

@@ -4,7 +4,6 @@ mod carry;
 mod fork;
 mod leave;
 mod own;
-mod parts;
 mod returning;
 pub mod steal;
 pub mod step;

@@ -1,8 +1,8 @@
 // A thread returns a value and ends.
-use crate::parts::core_after;
-use crate::parts::does_wake;
-use crate::parts::status_after;
 use stacklets::set_slot;
+use statuses::core_after;
+use statuses::does_wake;
+use statuses::status_after;
 use tables::frames::pop_frame;
 use tables::lines::free_stacklets;
 use tables::lines::free_threads;

@@ -4,6 +4,7 @@ use command::five_at;
 use command::weight;
 use image::routines::place_in_image;
 use rules::ForkKind;
+use statuses::is_fork;
 use tables::marks::core_at;
 use tables::marks::count;
 use tables::marks::fail;
@@ -14,27 +15,15 @@ use thread::Effect;
 use thread::Status;
 use thread::Thread;
 use thread::record::same_status;
-ghost use mathlib.Core.Bool.{_||_};
 ghost use mathlib.Core.List.{List};
 ghost use mathlib.Core.Path.{_≡_};
 ghost use Prim.Native.Nat.{ℕ};
-ghost use lib.Dec.{eqb};
 ghost use lib.ListN.{getD};
 ghost use Rattle.rules.specs.State.{jobOf};
 ghost use Rattle.rules.specs.Rules.{stolenOf, stealOf};
 ghost use Rattle.tables.specs.Meaning.{meaning};
 ghost use Rattle.entries.specs.Given.{Seed, Stealing, seedOf, turnIn};
 ghost use Rattle.dispatch.specs.Orderly.{after};
-
-// Is this the first byte of an 08 or 09?
-fn is_fork(byte: u8) -> bool
-    ensures { λ r. ⌜ r ≡ (eqb byte 8 || eqb byte 9) ⌝ }
-{
-    if byte == 8 {
-        return true;
-    }
-    byte == 9
-}
 
 // The effect of a fork's five bytes on a thread.
 fn seed_of(th: Thread, five: [u8; 5], image: &[u8], words: &[u32]) -> Effect

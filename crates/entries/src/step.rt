@@ -11,6 +11,7 @@ use command::five_at;
 use command::weights;
 use effects::effect;
 use image::routines::place_in_image;
+use statuses::must_wait;
 use tables::marks::core_at;
 use tables::marks::count;
 use tables::marks::is_over;
@@ -20,11 +21,9 @@ use tables::records::put_position;
 use tables::records::thread_at;
 use thread::Effect;
 use thread::Status;
-ghost use mathlib.Core.Bool.{_&&_};
 ghost use mathlib.Core.List.{List};
 ghost use mathlib.Core.Path.{_≡_};
 ghost use Prim.Native.Nat.{ℕ, _+_, _%_, _^_};
-ghost use lib.Dec.{eqb, ltb};
 ghost use Rattle.schedule.specs.declared.Entry.the-variants.{Step};
 ghost use Rattle.thread.specs.Effect.{bytesBy};
 ghost use Rattle.rules.specs.State.{jobOf};
@@ -34,16 +33,6 @@ ghost use Rattle.entries.specs.Given.{Sounding, Leaving, Carrying, turnI
 ghost use Rattle.dispatch.specs.Orderly.{after};
 ghost use Rattle.entries.specs.Repeat.{Repeats};
 ghost use Rattle.entries.specs.Burst.{Busy, standsAt, shortOf, restOf};
-
-// Is this a join of a thread whose children have not all ended?
-fn must_wait(byte: u8, children: u8) -> bool
-    ensures { λ r. ⌜ r ≡ (eqb byte 10 && ltb 0 children) ⌝ }
-{
-    if byte != 10 {
-        return false;
-    }
-    0 < children
-}
 
 // Position and units, which were held apart, go back to the tables.
 fn put_back(tables: &mut [u8], t: u8, position: u16, used: u32)

@@ -1,7 +1,7 @@
--- `entries::steal::is_fork` meets its contract. Assumes nothing.
+-- `statuses::is_fork` meets its contract. Assumes nothing.
 use borrow.Author.Tests.{eq-eqb, ne-eqb}
-use Rattle.entries.proofs.steal.is_fork.Statement.{statement}
-use Rattle.entries.proofs.steal.is_fork.Tie as tie
+use Rattle.statuses.proofs.is_fork.Statement.{statement}
+use Rattle.statuses.proofs.is_fork.Tie as tie
 
 returns : tie.Need-returns
 returns c =

@@ -1,9 +1,9 @@
--- `entries::parts::status_after` meets its contract. Assumes nothing.
+-- `statuses::status_after` meets its contract. Assumes nothing.
 use Rattle.rules.specs.Return.{statusAfter}
 use mathlib.Core.Path.{sym, _∙_}
 use borrow.Author.Needs.{needs}
-use Rattle.entries.proofs.parts.status_after.Statement.{statement}
-use Rattle.entries.proofs.parts.status_after.Tie as tie
+use Rattle.statuses.proofs.status_after.Statement.{statement}
+use Rattle.statuses.proofs.status_after.Tie as tie
 
 returns : tie.Need-returns
 unfolding statusAfter

@@ -1,24 +1,19 @@
-// Parts of a fork and of a return.
+// What a fork, a return and a join make of the threads that they concern, by the rules: small tests, with no table at hand.
 use rules::ForkKind;
-use tables::frames::fits;
-use tables::frames::is_topmost;
 use thread::Status;
 use thread::Thread;
 use thread::record::same_status;
-ghost use mathlib.Core.Bool.{cond, _&&_};
-ghost use mathlib.Core.List.{List};
+ghost use mathlib.Core.Bool.{cond, _&&_, _||_};
 ghost use mathlib.Core.Path.{_≡_};
-ghost use Prim.Native.Nat.{ℕ, _/_, _<_};
-ghost use lib.ListN.{length};
-ghost use Rattle.stacklets.specs.Tops.{isTopmost, fitsOn};
+ghost use lib.Dec.{eqb, ltb};
 ghost use Rattle.thread.specs.Thread.{none};
 ghost use Rattle.rules.specs.Fork.{childStatus, parentStatus, isConnected};
 ghost use Rattle.rules.specs.Return.{wakes, statusAfter};
-ghost use Rattle.tables.specs.Meaning.{size, meaning};
 
 // What an idle core has in place of a thread.
 const NONE: u8 = 32;
 
+// A fork's child runs, or is ready.
 pub fn child_status(kind: ForkKind) -> Status
     ensures { λ r. ⌜ r ≡ childStatus kind ⌝ }
 {
@@ -29,6 +24,7 @@ pub fn child_status(kind: ForkKind) -> Status
     }
 }
 
+// Its parent lends its core to a called child, stays lent where its seed is stolen, and runs on beside a queued child.
 pub fn parent_status(kind: ForkKind) -> Status
     ensures { λ r. ⌜ r ≡ parentStatus kind ⌝ }
 {
@@ -39,6 +35,7 @@ pub fn parent_status(kind: ForkKind) -> Status
     }
 }
 
+// Only a called child gives its core back to its parent.
 pub fn is_connected(kind: ForkKind) -> bool
     ensures { λ r. ⌜ r ≡ isConnected kind ⌝ }
 {
@@ -47,20 +44,6 @@ pub fn is_connected(kind: ForkKind) -> bool
         ForkKind::Queued => false,
         ForkKind::Stolen => false,
     }
-}
-
-// Does a new frame of `wide` words go above the parent's, of `slots` words at a base?
-pub fn goes_above(tables: &[u8], kind: ForkKind, base: u16, slots: u8, wide: u8) -> bool
-    requires { ⌜ (length (now tables) ≡ size) × (base < 1024) ⌝ }
-    ensures { λ r. ⌜ ((words memory : List ℕ) → r ≡ (isConnected kind && (isTopmost (meaning (now (tables .entry)) words memory .tops) base slots && fitsOn (meaning (now (tables .entry)) words memory .tops) (base / 64) wide))) ⌝ }
-{
-    if !is_connected(kind) {
-        return false;
-    }
-    if !is_topmost(tables, base, slots) {
-        return false;
-    }
-    fits(tables, (base / 64) as u8, wide)
 }
 
 // Does a parent, whose record is q, become ready when a child of its ends?
@@ -77,6 +60,7 @@ pub fn does_wake(connected: bool, q: Thread) -> bool
     q.children == 1
 }
 
+// A parent's status, whose record was q, once a child of its has ended.
 pub fn status_after(connected: bool, q: Thread) -> Status
     ensures { λ r. ⌜ r ≡ statusAfter connected q ⌝ }
 {
@@ -97,4 +81,24 @@ pub fn core_after(connected: bool, p: u8) -> u8
         return p;
     }
     NONE
+}
+
+// Is this a join of a thread whose children have not all ended?
+pub fn must_wait(byte: u8, children: u8) -> bool
+    ensures { λ r. ⌜ r ≡ (eqb byte 10 && ltb 0 children) ⌝ }
+{
+    if byte != 10 {
+        return false;
+    }
+    0 < children
+}
+
+// Is this the first byte of an 08 or 09?
+pub fn is_fork(byte: u8) -> bool
+    ensures { λ r. ⌜ r ≡ (eqb byte 8 || eqb byte 9) ⌝ }
+{
+    if byte == 8 {
+        return true;
+    }
+    byte == 9
 }

@@ -1,10 +1,10 @@
--- `entries::parts::does_wake` meets its contract. Assumes nothing.
+-- `statuses::does_wake` meets its contract. Assumes nothing.
 use Rattle.rules.specs.Return.{wakes}
 use mathlib.Core.Path.{sym, _∙_}
 use borrow.Author.Tests.{not-true, not-false}
 use borrow.Author.Needs.{needs}
-use Rattle.entries.proofs.parts.does_wake.Statement.{statement}
-use Rattle.entries.proofs.parts.does_wake.Tie as tie
+use Rattle.statuses.proofs.does_wake.Statement.{statement}
+use Rattle.statuses.proofs.does_wake.Tie as tie
 
 returns : tie.Need-returns
 unfolding wakes

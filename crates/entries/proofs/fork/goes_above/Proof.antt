@@ -1,4 +1,4 @@
--- `entries::parts::goes_above` meets its contract. Assumes nothing.
+-- `entries::fork::goes_above` meets its contract. Assumes nothing.
 use Rattle.tables.specs.Meaning.{meaning}
 use Rattle.stacklets.specs.Tops.{isTopmost, fitsOn}
 use borrow.Author.Tests.{not-true, not-false}
@@ -7,8 +7,8 @@ use native.Mathlib.Nat.{mod-eq-of-lt}
 use Prim.Native.Nat.{ℕ}
 use mathlib.Core.Path.{sym, ap, _∙_}
 use borrow.Author.Needs.{needs}
-use Rattle.entries.proofs.parts.goes_above.Statement.{statement}
-use Rattle.entries.proofs.parts.goes_above.Tie as tie
+use Rattle.entries.proofs.fork.goes_above.Statement.{statement}
+use Rattle.entries.proofs.fork.goes_above.Tie as tie
 
 is-connected-requires : tie.Need-is-connected-requires
 is-connected-requires c κs = search needs

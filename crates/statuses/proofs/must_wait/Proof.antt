@@ -1,7 +1,7 @@
--- `entries::step::must_wait` meets its contract. Assumes nothing.
+-- `statuses::must_wait` meets its contract. Assumes nothing.
 use borrow.Author.Tests.{eq-eqb, ne-eqb}
-use Rattle.entries.proofs.step.must_wait.Statement.{statement}
-use Rattle.entries.proofs.step.must_wait.Tie as tie
+use Rattle.statuses.proofs.must_wait.Statement.{statement}
+use Rattle.statuses.proofs.must_wait.Tie as tie
 
 returns : tie.Need-returns
 returns c =
