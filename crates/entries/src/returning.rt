@@ -2,6 +2,7 @@
 use stacklets::set_slot;
 use statuses::core_after;
 use statuses::does_wake;
+use statuses::is_lowest;
 use statuses::status_after;
 use tables::frames::pop_frame;
 use tables::lines::free_stacklets;
@@ -28,12 +29,12 @@ ghost use Rattle.tables.specs.Meaning.{size, meaning};
 ghost use Rattle.tables.specs.Change.{Becomes};
 ghost use Rattle.entries.specs.Given.{Seated, turnIn, givesBack, wakesUp};
 
-// A stacklet is free once the frame at its first word has gone.
+// A stacklet whose lowest frame has gone is given back.
 fn give_back(tables: &mut [u8], base: u16)
     requires { ⌜ (length (now tables) ≡ size) × (base < 1024) ⌝ }
     ensures { λ _. ⌜ Becomes (now (tables .entry)) (now (tables .exit)) (givesBack base) ⌝ }
 {
-    if base % 64 != 0 {
+    if !is_lowest(base) {
         return;
     }
     put_free_stacklets(tables, free_stacklets(tables).enqueue((base / 64) as u8));

@@ -4,11 +4,7 @@ use mathlib.Core.Path.{_≡_, refl, sym, _∙_, ap, ap₂}
 use Prim.Native.Nat.{ℕ, _≤_, _<_}
 use lib.ListN.{length, getD, take}
 use lib.Seq.{take-all}
-use Rattle.image.specs.declared.Checked.{Checked}
-use Rattle.image.specs.declared.Verdict.{Verdict}
-use Rattle.image.specs.declared.Verdict.the-variants.{Accepted}
 use Rattle.image.specs.Layout.{programOf, startsIn}
-use Rattle.image.specs.Image.{imageVerdict, imageAnswer, numberIn, programFor}
 use Rattle.thread.specs.Job.{jobOf}
 use Rattle.rules.specs.State.{State, going}
 use Rattle.rules.specs.Sound.{Sound}
@@ -28,18 +24,9 @@ use Rattle.demands.specs.declared.RunAnswer.the-variants.{Refused, Open}
 use Rattle.demands.specs.Input.{Input, jobIn, startIn, refusalOf, answerOf}
 use Rattle.play.specs.Entries.{playable, Played}
 use Rattle.run.specs.declared.Ran.{Ran}
-use Rattle.run.specs.declared.begin.Begun.{Begun}
-use Rattle.run.specs.Run.{RunsAs, Begins}
-
--- the image's number and its codes' starts, as the reader gives them
-pub number-of : (image : List ℕ) (checked : Checked) (n : ℕ) → checked ≡ imageAnswer image → n ≡ numberIn (checked .verdict) → n ≡ numberIn (imageVerdict image)
-unfolding imageAnswer
-number-of image checked n e h = h ∙ ap (λ (x : Checked). numberIn (x .verdict)) e
-
-starts-of : (image : List ℕ) (checked : Checked) (starts : List ℕ) → checked ≡ imageAnswer image → starts ≡ startsIn (checked .program)
-    → imageVerdict image ≡ Accepted → starts ≡ startsIn (programOf image)
-unfolding imageAnswer
-starts-of image checked starts e h a = h ∙ ap (λ (x : Checked). startsIn (x .program)) e ∙ ap (λ (v : Verdict). startsIn (programFor v image)) a
+use Rattle.begin.specs.declared.Begun.{Begun}
+use Rattle.begin.specs.Begins.{Begins}
+use Rattle.run.specs.Run.{RunsAs}
 
 -- how the machine stands as an answer
 pub told : (xs : List ℕ) (st : Standing) (u : ℕ) → Reads xs (outcomeBy st) (λ s. s .outcome) going → Reads xs u (λ s. s .units) 0
@@ -54,13 +41,6 @@ module _ (i : Input) (schedule log : List ℕ) where
   sound passes bytes =
       let t = takes i schedule log passes bytes in
       start-sound (jobIn i) (i .cores) (i .arguments) (i .memory) (good i t) (t .some) (t .most) (t .memory)
-
-  pub begins : ((k : ℕ) → getD (i .image) k 0 < 256) → (b : Begun) (checked : Checked) → checked ≡ imageAnswer (i .image)
-      → b .number ≡ refusalOf i schedule log → b .starts ≡ startsIn (checked .program) → Begins i schedule log b
-  begins bytes b checked answered number given = record {
-    number = number;
-    starts = λ passes. starts-of (i .image) checked (b .starts) answered given (takes i schedule log passes bytes .image);
-  }
 
   module _ (b : Begun) (xs ys ws vs : List ℕ) (begun : Begins i schedule log b) (start : Starts (i .image) (i .arguments) (i .cores) xs ys ws vs)
       (sized : length xs ≡ size) (wide : length ws ≡ 1024) where

@@ -2,7 +2,6 @@
 use mathlib.Core.List.{List}
 use mathlib.Core.Path.{_≡_}
 use Prim.Native.Nat.{ℕ}
-use Rattle.image.specs.Layout.{programOf, startsIn}
 use Rattle.schedule.specs.declared.Entry.{Entry}
 use Rattle.schedule.specs.Meaning.{entries, scheduleOf}
 use Rattle.rules.specs.Runs.{runFrom, logsFrom, logged}
@@ -10,7 +9,6 @@ use Rattle.tables.specs.Meaning.{meaning}
 use Rattle.demands.specs.declared.RunAnswer.the-variants.{Refused}
 use Rattle.demands.specs.Input.{Input, jobIn, startIn, refusalOf, answerOf, numberOfAnswer}
 use Rattle.run.specs.declared.Ran.{Ran}
-use Rattle.run.specs.declared.begin.Begun.{Begun}
 
 -- a run that is refused: its number alone, and "nothing written"; the tables beside it are as at Start
 pub record IsRefused (i : Input) (n : ℕ) (logBefore : List ℕ) (r : Ran) (memoryAfter logAfter : List ℕ) : Type 0 where
@@ -31,8 +29,3 @@ pub record IsPlayed (i : Input) (es : List Entry) (logBefore : List ℕ) (r : Ra
 pub record RunsAs (i : Input) (schedule log : List ℕ) (r : Ran) (memoryAfter logAfter : List ℕ) : Type 0 where
   pub refused : (refusalOf i schedule log ≡ 0 → ⊥) → IsRefused i (refusalOf i schedule log) log r memoryAfter logAfter
   pub played : refusalOf i schedule log ≡ 0 → (es : List Entry) × (scheduleOf schedule ≡ entries es) × IsPlayed i es log r memoryAfter logAfter
-
--- what stands before the first entry: the number of the first whole-run test that is met, and, where none is met, where the codes start
-pub record Begins (i : Input) (schedule log : List ℕ) (r : Begun) : Type 0 where
-  pub number : r .number ≡ refusalOf i schedule log
-  pub starts : refusalOf i schedule log ≡ 0 → r .starts ≡ startsIn (programOf (i .image))

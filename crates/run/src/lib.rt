@@ -1,11 +1,9 @@
 // A run by a schedule: the whole-run tests, and then the machine from Start through the schedule's entries, one log byte for each.
 
-pub mod begin;
-mod refusal;
 pub mod tell;
 
-use crate::begin::begin;
 use crate::tell::answer;
+use begin::begin;
 pub use demands::RunAnswer;
 use play::play;
 ghost use Rattle.run.specs.Promise.{Promise};

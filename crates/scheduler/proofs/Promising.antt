@@ -10,8 +10,8 @@ use Rattle.entries.specs.Given.{Sounding}
 use Rattle.start.specs.Start.{Starts}
 use Rattle.demands.specs.declared.RunAnswer.the-variants.{Refused}
 use Rattle.demands.specs.Input.{Input, jobIn, startIn, answerOf}
-use Rattle.run.specs.declared.begin.Begun.{Begun}
-use Rattle.run.specs.Run.{Begins}
+use Rattle.begin.specs.declared.Begun.{Begun}
+use Rattle.begin.specs.Begins.{Begins}
 use Rattle.run.proofs.Running.{first, ready}
 use Rattle.scheduler.proofs.Equalling.{equals}
 use Rattle.scheduler.specs.declared.Scheduled.{Scheduled}

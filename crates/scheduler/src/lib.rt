@@ -1,6 +1,6 @@
 // The built-in scheduler, document 01's "house run": it makes its own schedule, round by round, and writes the entries it used.
+use begin::begin;
 use run::RunAnswer;
-use run::begin::begin;
 use run::tell::answer;
 use turns::play_rounds;
 ghost use Rattle.scheduler.specs.Promise.{Promise};

@@ -5,6 +5,7 @@ use thread::Thread;
 use thread::record::same_status;
 ghost use mathlib.Core.Bool.{cond, _&&_, _||_};
 ghost use mathlib.Core.Path.{_≡_};
+ghost use Prim.Native.Nat.{_%_};
 ghost use lib.Dec.{eqb, ltb};
 ghost use Rattle.thread.specs.Thread.{none};
 ghost use Rattle.rules.specs.Fork.{childStatus, parentStatus, isConnected};
@@ -81,6 +82,13 @@ pub fn core_after(connected: bool, p: u8) -> u8
         return p;
     }
     NONE
+}
+
+// A stacklet is free once the frame at its first word has gone.
+pub fn is_lowest(base: u16) -> bool
+    ensures { λ r. ⌜ r ≡ eqb (base % 64) 0 ⌝ }
+{
+    base % 64 == 0
 }
 
 // Is this a join of a thread whose children have not all ended?

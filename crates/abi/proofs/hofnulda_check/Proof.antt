@@ -1,6 +1,6 @@
 -- `abi::hofnulda_check` meets its contract. Assumes nothing.
 use borrow.Author.Needs.{needs}
-use Rattle.run.proofs.Running.{number-of}
+use Rattle.begin.proofs.Beginning.{number-of}
 use Rattle.abi.proofs.hofnulda_check.Statement.{statement}
 use Rattle.abi.proofs.hofnulda_check.Tie as tie
 

@@ -1,12 +1,12 @@
--- `run::refusal::refusal` meets its contract: each return is one test of `refusalOf`. Assumes nothing.
+-- `begin::refusal::refusal` meets its contract: each return is one test of `refusalOf`. Assumes nothing.
 use borrow.Author.Tests.{eq-eqb, ne-eqb, lt-ltb, le-ltb}
 use mathlib.Core.Path.{sym, _∙_, ap}
 use borrow.Author.Needs.{needs}
 use Rattle.schedule.specs.Meaning.{numberOfCount}
 use Rattle.schedule.proofs.Counting.{counted}
 use Rattle.demands.specs.Input.{refusalOf}
-use Rattle.run.proofs.refusal.refusal.Statement.{statement}
-use Rattle.run.proofs.refusal.refusal.Tie as tie
+use Rattle.begin.proofs.refusal.refusal.Statement.{statement}
+use Rattle.begin.proofs.refusal.refusal.Tie as tie
 
 returns : tie.Need-returns
 unfolding refusalOf

@@ -1,10 +1,13 @@
 // What stands before a run's first entry: the whole-run tests, the machine at Start, and where the routines' codes start.
+
+mod refusal;
+
 use crate::refusal::refusal;
 use image::number::image_number;
 use start::start;
 ghost use Prim.Native.Nat.{ℕ};
 ghost use Rattle.start.specs.Start.{Starts};
-ghost use Rattle.run.specs.Run.{Begins};
+ghost use Rattle.begin.specs.Begins.{Begins};
 
 // A run at its beginning.
 pub struct Begun {

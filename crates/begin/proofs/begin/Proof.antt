@@ -1,9 +1,9 @@
--- `run::begin::begin` meets its contract. Assumes nothing.
-use Rattle.run.proofs.Running.{number-of, begins}
+-- `begin::begin` meets its contract. Assumes nothing.
+use Rattle.begin.proofs.Beginning.{number-of, begins}
 use native.Mathlib.Omega.{arith}
 use borrow.Author.Needs.{needs}
-use Rattle.run.proofs.begin.begin.Statement.{statement}
-use Rattle.run.proofs.begin.begin.Tie as tie
+use Rattle.begin.proofs.begin.Statement.{statement}
+use Rattle.begin.proofs.begin.Tie as tie
 
 start-requires : tie.Need-start-requires
 start-requires c κs = search needs
