@@ -11,19 +11,21 @@ use Rattle.command.proofs.RoundTrip.{reads-back, writes-again}
 use Rattle.schedule.specs.declared.Entry.{Entry}
 use Rattle.forkjoin.proofs.Arrays.{words-from, words-eq}
 use Rattle.forkjoin.proofs.SerialRun.{done as t-done}
+use Rattle.stacklets.specs.Tops.{topAt}
 use Rattle.thread.specs.declared.Status.the-variants.{Free}
 use Rattle.census.proofs.Totals.{all-in}
 use Rattle.rules.specs.State.{Job, State, finished, faulted, isOver}
 use Rattle.rules.specs.Rules.{entryOf, stepOf, takeOf}
 use Rattle.rules.specs.Start.{startState}
-use Rattle.rules.specs.Sound.{Sound, statusAt}
+use Rattle.rules.specs.Sound.{Sound, statusAt, Unused}
 use Rattle.rules.proofs.Laws.{run-next, log-at}
 use Rattle.rules.specs.Runs.{runFrom, logsFrom}
 use Rattle.serial.specs.Serial.{Ended, done, stopped, serialOf, serialFrom}
+use Rattle.soundness.proofs.Queues.{every-map, every-member}
 use Rattle.soundness.proofs.Kept.{run-sound, entry-sound}
 use Rattle.soundness.proofs.KeepSized.{keep-count}
 use Rattle.soundness.proofs.StartSound.{start-sound}
-use Rattle.soundness.proofs.Finished.{finished-free, finished-numbers}
+use Rattle.soundness.proofs.Finished.{finished-free, finished-numbers, finished-all}
 use Rattle.soundness.proofs.KeepStacklets.{finished-stacklets}
 use Rattle.soundness.proofs.Jam.{jam}
 use Rattle.soundness.proofs.Numbers.{numbers}
@@ -79,6 +81,18 @@ module _ (i : Input) (k : Takes i) where
       counted = all-in Free (end .threads) (λ t h. finished-free (jobIn i) end sound v over t) ∙ sound .sized .threads;
       threads = finished-numbers (jobIn i) end sound v over;
       stacklets = finished-stacklets (jobIn i) end sound v over .1;
+      threadsOnce = record {
+        many = finished-all (jobIn i) end sound v over;
+        once = sound .freeThreads .once;
+        below = every-map (λ n h. h .0) (end .freeThreads) (sound .freeThreads .free);
+      };
+      stackletsOnce = record {
+        many = finished-stacklets (jobIn i) end sound v over .0;
+        once = finished-stacklets (jobIn i) end sound v over .2;
+        below = every-map (λ x h. h .0) (end .freeStacklets) (sound .freeStacklets .free);
+      };
+      tops = λ x h. every-member (λ y. (y < 16) × (topAt (end .tops) y ≡ 0) × Unused end y) (end .freeStacklets) (sound .freeStacklets .free) x
+          (finished-stacklets (jobIn i) end sound v over .1 x h) .1;
     }
 
     unfinished : (n u : ℕ) (m : List ℕ) → serialIn i ≡ stopped n m u → (v : ℕ) → end .outcome ≡ finished v → ⊥

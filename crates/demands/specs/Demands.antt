@@ -13,9 +13,10 @@ use Rattle.image.specs.declared.Verdict.the-variants.{Accepted}
 use Rattle.image.specs.Layout.{argumentsOf}
 use Rattle.image.specs.Image.{imageVerdict}
 use Rattle.schedule.specs.declared.Entry.{Entry}
+use Rattle.stacklets.specs.Tops.{topAt}
 use Rattle.thread.specs.declared.Status.the-variants.{Free}
 use Rattle.census.specs.Counted.{countOf}
-use Rattle.rules.specs.Lists.{Member}
+use Rattle.rules.specs.Lists.{Every, Member, Distinct}
 use Rattle.rules.specs.State.{State, finished, faulted, isOver}
 use Rattle.rules.specs.Rules.{stepOf, takeOf, entryOf}
 use Rattle.rules.specs.Sound.{statusAt}
@@ -75,12 +76,23 @@ pub record Demand2 (i : Input) (es : List Entry) (logs : List ℕ) : Type 0 wher
 abbrev pub serialIn : Input → Ended
 serialIn i = serialOf (jobIn i) (i .arguments) (i .memory)
 
+-- a queue of n numbers, each below n and none twice: so each stands in it exactly once
+pub record EachOnce (n : ℕ) (queue : List ℕ) : Type 0 where
+  pub many : length queue ≡ n
+  pub once : Distinct queue
+  pub below : Every (λ x. x < n) queue
+
 -- "all 32 threads and 16 stacklets are free": each record is free, so 32 are counted, and each number stands in its queue
 pub record AllFree (s : State) : Type 0 where
   pub records : (t : ℕ) → t < 32 → statusAt s t ≡ 0
   pub counted : countOf Free (s .threads) ≡ 32
   pub threads : (t : ℕ) → t < 32 → Member t (s .freeThreads)
   pub stacklets : (x : ℕ) → x < 16 → Member x (s .freeStacklets)
+  -- once, and nothing else does
+  pub threadsOnce : EachOnce 32 (s .freeThreads)
+  pub stackletsOnce : EachOnce 16 (s .freeStacklets)
+  -- no word of a stacklet is in use
+  pub tops : (x : ℕ) → x < 16 → topAt (s .tops) x ≡ 0
 
 -- "some such step would be refused by 20, 21 or 22"
 abbrev pub IsTight : ℕ → Type 0

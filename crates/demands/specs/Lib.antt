@@ -1,4 +1,6 @@
--- In reading order: what a run is given, its tests and its answer; and the three demands. Document 01's starred cases are their witness.
+-- In reading order: what a run is given, its tests and its answer; the three demands; and the whole run's numbers, each exactly under its
+-- condition. Document 01's starred cases are their witness.
 pub mod Input
 pub mod Demands
+pub mod WholeRun
 pub mod Cases

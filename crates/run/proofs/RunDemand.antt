@@ -3,19 +3,23 @@ use mathlib.Core.List.{List}
 use mathlib.Core.Path.{_≡_, sym, _∙_, subst, ap}
 use Prim.Native.Nat.{ℕ, _<_, _+_, _≤_}
 use lib.ListN.{length, getD, drop, length-append, length-drop}
+use native.Mathlib.Decide.{ℕ-discrete}
 use native.Mathlib.Omega.{arith}
 use Rattle.schedule.specs.declared.Entry.{Entry}
 use Rattle.schedule.specs.Meaning.{entries, scheduleOf}
 use Rattle.rules.proofs.Laws.{run-next, logs-many}
 use Rattle.rules.specs.Runs.{logsFrom, runFrom, logged}
-use Rattle.rules.specs.State.{Outcome, going, finished, faulted}
+use Rattle.rules.specs.State.{State, Outcome, going, finished, faulted}
+use Rattle.serial.specs.Serial.{done}
 use Rattle.tables.specs.Meaning.{meaning}
 use Rattle.soundness.proofs.Unchanged.{unchanged}
 use Rattle.demands.proofs.Demands.{demand-2-logged, demand-3, sound-after}
 use Rattle.demands.proofs.Passing.{takes, has-room}
+use Rattle.demands.proofs.SerialNumbers.{serial-numbers}
+use Rattle.demands.proofs.WholeRun.{run-numbers}
 use Rattle.demands.specs.Input.{Input, jobIn, startIn, refusalOf, answerOf, entryCount}
-use Rattle.demands.specs.Demands.{Demand2, Demand3, Demand1}
-use Rattle.demands.specs.declared.RunAnswer.the-variants.{Refused}
+use Rattle.demands.specs.Demands.{Demand2, Demand3, Demand1, serialIn}
+use Rattle.demands.specs.declared.RunAnswer.the-variants.{Refused, Finished}
 use Rattle.run.specs.declared.Ran.{Ran}
 use Rattle.run.specs.Run.{RunsAs}
 use Rattle.run.specs.Promise.{Promise}
@@ -29,6 +33,12 @@ no-refusal : (o : Outcome) (u n : ℕ) → ¬ (answerOf o u ≡ Refused n)
 no-refusal going u n e = let z : _≡_ {A = ℕ} 0 1 = cc in omega arith
 no-refusal (finished v) u n e = let z : _≡_ {A = ℕ} 0 1 = cc in omega arith
 no-refusal (faulted m t o) u n e = let z : _≡_ {A = ℕ} 0 1 = cc in omega arith
+
+-- an answer that tells a result is a finished machine's
+finished-by : (o : Outcome) (w v u : ℕ) → answerOf o w ≡ Finished v u → (o ≡ finished v) × (w ≡ u)
+finished-by going w v u e = let z : _≡_ {A = ℕ} 0 1 = cc in absurd (omega arith)
+finished-by (finished x) w v u e = (cc, cc)
+finished-by (faulted m t o) w v u e = let z : _≡_ {A = ℕ} 0 1 = cc in absurd (omega arith)
 
 module _ (i : Input) (schedule log : List ℕ) (bytes : (k : ℕ) → getD (i .image) k 0 < 256) (r : Ran) (memoryAfter logAfter : List ℕ)
     (runs : RunsAs i schedule log r memoryAfter logAfter) where
@@ -70,10 +80,29 @@ module _ (i : Input) (schedule log : List ℕ) (bytes : (k : ℕ) → getD (i .i
       let here = demand-2-logged i (takes i schedule log passes bytes) xs (drop (length (logsFrom (jobIn i) (startIn i) xs)) log) in
       subst (λ l. Demand2 i l logAfter) same (subst (Demand2 i xs) (sym (p .log)) here)
 
+  -- a finished run, by the demand at its end
+  plain-played : refusalOf i schedule log ≡ 0 → (v u : ℕ) → r .answer ≡ Finished v u → serialIn i ≡ done v memoryAfter u
+  plain-played passes v u e =
+      let (es, q, p) = runs .played passes in
+      let end : State = runFrom (jobIn i) (startIn i) es in
+      let (over, units) = finished-by (end .outcome) (end .units) v u (sym (p .answer) ∙ e) in
+      demand-3 i (takes i schedule log passes bytes) es .agrees v over ∙ (λ ι. done v (sym (p .memory) ι) (units ι))
+
+  plain-run : (v u : ℕ) → r .answer ≡ Finished v u → serialIn i ≡ done v memoryAfter u
+  plain-run v u e = go (ℕ-discrete (refusalOf i schedule log) 0)
+    where
+      go : Dec (refusalOf i schedule log ≡ 0) → serialIn i ≡ done v memoryAfter u
+      go (yes passes) = plain-played passes v u e
+      go (no some) = let q = runs .refused some .answer in let z : _≡_ {A = ℕ} 0 1 = cc in absurd (omega arith)
+
   pub promised : Promise i schedule log r memoryAfter logAfter
   promised = record {
     runs = runs;
     demand1 = demand-1;
+    numbers = run-numbers i schedule log;
     demand2 = at-each;
     demand3 = at-end;
+    anywhere = λ passes es. demand-3 i (takes i schedule log passes bytes) es;
+    plain = plain-run;
+    plainNumbers = serial-numbers i;
   }

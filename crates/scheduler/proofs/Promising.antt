@@ -10,6 +10,7 @@ use Rattle.entries.specs.Given.{Sounding}
 use Rattle.start.specs.Start.{Starts}
 use Rattle.demands.specs.declared.RunAnswer.the-variants.{Refused}
 use Rattle.demands.specs.Input.{Input, jobIn, startIn, answerOf}
+use Rattle.demands.proofs.WholeRun.{scheduler-numbers}
 use Rattle.begin.specs.declared.Begun.{Begun}
 use Rattle.begin.specs.Begins.{Begins}
 use Rattle.run.proofs.Running.{first, ready}
@@ -37,6 +38,7 @@ module _ (i : Input) (b : Begun) (xs ys ws vs : List ℕ) (begun : Begins i [] [
     };
     scheduled = λ z. absurd (some (begun .number ∙ z));
     equals = λ z. absurd (some (begun .number ∙ z));
+    numbers = scheduler-numbers i;
   }
 
   module _ (none : b .number ≡ 0) (bytes : (k : ℕ) → getD (i .image) k 0 < 256) where
@@ -63,4 +65,5 @@ module _ (i : Input) (b : Begun) (xs ys ws vs : List ℕ) (begun : Begins i [] [
             used = p .used;
           };
           equals = λ z. equals i (length before) z bytes;
+          numbers = scheduler-numbers i;
         }

@@ -11,6 +11,7 @@ use Rattle.tables.specs.Meaning.{meaning}
 use Rattle.demands.specs.declared.RunAnswer.the-variants.{Refused}
 use Rattle.demands.specs.Input.{Input, jobIn, startIn, refusalOf, answerOf, numberOfAnswer}
 use Rattle.demands.specs.Demands.{Demand3}
+use Rattle.demands.specs.WholeRun.{SchedulerNumbers}
 use Rattle.rounds.specs.Rounds.{Progress, isWritten, scheduledFrom, bytesOfAll, filled}
 use Rattle.scheduler.specs.declared.Scheduled.{Scheduled}
 
@@ -50,3 +51,5 @@ pub record Promise (i : Input) (before : List ℕ) (r : Scheduled) (memoryAfter 
   pub refused : (refusalIn i ≡ 0 → ⊥) → IsRefused i (refusalIn i) before r memoryAfter after
   pub scheduled : refusalIn i ≡ 0 → IsScheduled (scheduledOf i (length before)) before r memoryAfter after
   pub equals : refusalIn i ≡ 0 → EqualsRun i (scheduledOf i (length before))
+  -- each number of `refusalIn` exactly under its condition, so that good input is run
+  pub numbers : SchedulerNumbers i
