@@ -18,8 +18,8 @@ use Rattle.thread.specs.declared.Status.the-variants.{Free}
 use Rattle.census.specs.Counted.{countOf}
 use Rattle.rules.specs.Lists.{Every, Member, Distinct}
 use Rattle.rules.specs.State.{State, finished, faulted, isOver}
+use Rattle.rules.specs.Statuses.{IsFree, IsSuspended}
 use Rattle.rules.specs.Rules.{stepOf, takeOf, entryOf}
-use Rattle.rules.specs.Sound.{statusAt}
 use Rattle.rules.specs.Runs.{runFrom}
 use Rattle.serial.specs.Serial.{Ended, done, stopped, serialOf}
 use Rattle.soundness.specs.Numbers.{Numbers}
@@ -84,7 +84,7 @@ pub record EachOnce (n : ℕ) (queue : List ℕ) : Type 0 where
 
 -- "all 32 threads and 16 stacklets are free": each record is free, so 32 are counted, and each number stands in its queue
 pub record AllFree (s : State) : Type 0 where
-  pub records : (t : ℕ) → t < 32 → statusAt s t ≡ 0
+  pub records : (t : ℕ) → t < 32 → IsFree s t
   pub counted : countOf Free (s .threads) ≡ 32
   pub threads : (t : ℕ) → t < 32 → Member t (s .freeThreads)
   pub stacklets : (x : ℕ) → x < 16 → Member x (s .freeStacklets)
@@ -112,4 +112,4 @@ pub record Demand3 (i : Input) (end : State) : Type 0 where
   -- some such step would be refused by 20, 21 or 22"
   pub jam : ((c : ℕ) → c < i .cores → IsRefusal (stepOf (jobIn i) end c .log) × IsRefusal (takeOf end c .log))
       → (isOver (end .outcome) ≡ true)
-      ⊎ (((t : ℕ) × (t < 32) × (statusAt end t ≡ 3)) ⊎ ((c : ℕ) × (c < i .cores) × IsTight (stepOf (jobIn i) end c .log)))
+      ⊎ (((t : ℕ) × (t < 32) × IsSuspended end t) ⊎ ((c : ℕ) × (c < i .cores) × IsTight (stepOf (jobIn i) end c .log)))

@@ -1,6 +1,7 @@
--- In reading order. What a reader must believe of the machine: what a state is and the one at Start; its small changes; what a command needs;
--- the rules of leaving a core, of forks, of returns and of each entry; and a run, which is their fold.
+-- In reading order. What a reader must believe of the machine: what a state is, its threads' statuses and the one at Start; its small changes;
+-- what a command needs; the rules of leaving a core, of forks, of returns and of each entry; and a run, which is their fold.
 pub mod State
+pub mod Statuses
 pub mod Start
 pub mod Update
 pub mod Turn
@@ -9,9 +10,9 @@ pub mod Fork
 pub mod Return
 pub mod Rules
 pub mod Runs
--- Belief ends here, but for three words that the promises take from what follows: `Every` and `Member` of a list, and a thread's status as a
--- number (`statusAt`). A sound state is what the code may rely on; that Start's is one and that every entry keeps it is proved (crate
--- `soundness`), so a mistake in it would be found, and is not believed.
+-- Belief ends here, but for two words that the promises take from what follows: `Every` and `Member` of a list. A sound state is what the
+-- code may rely on; that Start's is one and that every entry keeps it is proved (crate `soundness`), so a mistake in it would be found, and is
+-- not believed.
 pub mod Lists
 pub mod Sound
 -- Small runs, worked out by hand: a second witness of the rules.

@@ -12,16 +12,15 @@ use Rattle.window.specs.Rights.{Fits}
 use Rattle.stacklets.specs.Layout.{Apart, Under}
 use Rattle.stacklets.specs.Tops.{topAt}
 pub use Rattle.thread.specs.Job.{GoodJob}
-use Rattle.thread.specs.Thread.{statusNumber, isPending, none}
+use Rattle.thread.specs.declared.Status.the-variants.{Free}
+use Rattle.thread.specs.Thread.{isPending, none, _is_}
 use Rattle.rules.specs.State.{Job, State, finished, threadAt, onCore}
+pub use Rattle.rules.specs.Statuses.{statusAt}
+use Rattle.rules.specs.Statuses.{IsFree, IsRunning, IsReady, IsWaiting, IsLent}
 use Rattle.rules.specs.Turn.{byteOf}
 use Rattle.rules.specs.Lists.{Every, Member, Distinct}
 
--- thread t's status as a number: 0 free, 1 running, 2 ready, 3 suspended, 4 waiting, 5 lent
-abbrev pub statusAt : State → ℕ → ℕ
-statusAt s t = statusNumber (threadAt s t .status)
-
--- thread t is in use
+-- thread t is in use: any status but free, whose number is 0
 abbrev pub Used : State → ℕ → Type 0
 Used s t = 0 < statusAt s t
 
@@ -46,30 +45,30 @@ pub record Placed (j : Job) (s : State) : Type 0 where
   pub position : (t : ℕ) → Used s t → isStart (commandsOf (codeOf (j .image) (threadAt s t .routine))) (threadAt s t .position) ≡ true
   pub pending : (t : ℕ) → Used s t → threadAt s t .pending < 65536
   pub result : (t : ℕ) → Used s t → threadAt s t .result < 16
-  pub join : (t : ℕ) → statusAt s t ≡ 4 → byteOf j (threadAt s t) ≡ 10
+  pub join : (t : ℕ) → IsWaiting s t → byteOf j (threadAt s t) ≡ 10
 
 -- "running threads and cores match"
 pub record Seats (s : State) : Type 0 where
-  pub runs : (c : ℕ) → c < s .count → onCore s c < none → statusAt s (onCore s c) ≡ 1
-  pub seated : (t : ℕ) → statusAt s t ≡ 1 → (c : ℕ) × (c < s .count) × (onCore s c ≡ t)
+  pub runs : (c : ℕ) → c < s .count → onCore s c < none → IsRunning s (onCore s c)
+  pub seated : (t : ℕ) → IsRunning s t → (c : ℕ) × (c < s .count) × (onCore s c ≡ t)
   pub one : (c d : ℕ) → c < s .count → d < s .count → onCore s c < none → onCore s c ≡ onCore s d → c ≡ d
 
 -- "lent threads and connected children, these running or lent, match"
 pub record Links (s : State) : Type 0 where
-  pub lent : (p : ℕ) → statusAt s p ≡ 5 → (u : ℕ) × (threadAt s u .connected ≡ true) × (threadAt s u .parent ≡ p)
+  pub lent : (p : ℕ) → IsLent s p → (u : ℕ) × (threadAt s u .connected ≡ true) × (threadAt s u .parent ≡ p)
   pub linked : (u : ℕ) → threadAt s u .connected ≡ true
-      → ((statusAt s u ≡ 1) ⊎ (statusAt s u ≡ 5)) × (statusAt s (threadAt s u .parent) ≡ 5)
+      → (IsRunning s u ⊎ IsLent s u) × IsLent s (threadAt s u .parent)
   pub only : (u v : ℕ) → threadAt s u .connected ≡ true → threadAt s v .connected ≡ true → threadAt s u .parent ≡ threadAt s v .parent → u ≡ v
 
 -- "a ready thread stands once in the line .. and nothing else does"
 pub record Turns (s : State) : Type 0 where
-  pub ready : Every (λ t. statusAt s t ≡ 2) (s .ready)
+  pub ready : Every (IsReady s) (s .ready)
   pub once : Distinct (s .ready)
-  pub stands : (t : ℕ) → statusAt s t ≡ 2 → Member t (s .ready)
+  pub stands : (t : ℕ) → IsReady s t → Member t (s .ready)
 
 -- the used children of thread t among the first n threads
 abbrev pub isChild : State → ℕ → ℕ → ℕ
-isChild s t u = cond (eqb (statusAt s u) 0) 0 (cond (eqb (threadAt s u .parent) t) 1 0)
+isChild s t u = cond (threadAt s u .status is Free) 0 (cond (eqb (threadAt s u .parent) t) 1 0)
 
 unfoldable pub childrenAmong : State → ℕ → ℕ → ℕ
 childrenAmong s t zero = 0
@@ -78,7 +77,7 @@ childrenAmong s t (suc n) = isChild s t n + childrenAmong s t n
 -- "child counts agree with the fork tree, whose root is thread 0 .. (once finished, and only then, no thread is in use)";
 -- "a waiting thread has a child that has not ended". Ranks rise from parent to child, so there is no cycle
 pub record Tree (s : State) : Type 0 where
-  pub waits : (t : ℕ) → statusAt s t ≡ 4 → 0 < threadAt s t .children
+  pub waits : (t : ℕ) → IsWaiting s t → 0 < threadAt s t .children
   pub counted : (t : ℕ) → Used s t → threadAt s t .children ≡ childrenAmong s t 32
   pub rank : ℕ → ℕ
   pub deep : ℕ
@@ -86,7 +85,7 @@ pub record Tree (s : State) : Type 0 where
   pub tree : (t : ℕ) → Used s t
       → ((t ≡ 0) × (threadAt s t .parent ≡ none)) ⊎ ((t ≡ 0 → ⊥) × Used s (threadAt s t .parent) × (rank (threadAt s t .parent) < rank t))
   pub root : ((v : ℕ) → s .outcome ≡ finished v → ⊥) → Used s 0
-  pub over : (v : ℕ) → s .outcome ≡ finished v → (t : ℕ) → statusAt s t ≡ 0
+  pub over : (v : ℕ) → s .outcome ≡ finished v → (t : ℕ) → IsFree s t
 
 -- "unended children's result slots are pending and distinct"
 pub record Results (s : State) : Type 0 where
@@ -104,9 +103,9 @@ pub record Windows (s : State) : Type 0 where
 
 -- "each thread number .. is either in use or once in its free line"
 pub record FreeThreads (s : State) : Type 0 where
-  pub free : Every (λ n. (n < 32) × (statusAt s n ≡ 0)) (s .freeThreads)
+  pub free : Every (λ n. (n < 32) × IsFree s n) (s .freeThreads)
   pub once : Distinct (s .freeThreads)
-  pub stands : (t : ℕ) → t < 32 → statusAt s t ≡ 0 → Member t (s .freeThreads)
+  pub stands : (t : ℕ) → t < 32 → IsFree s t → Member t (s .freeThreads)
 
 -- "frames on a stacklet do not overlap and each above the lowest belongs to a child of the thread below it"
 pub record Frames (j : Job) (s : State) : Type 0 where

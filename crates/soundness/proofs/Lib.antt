@@ -37,6 +37,7 @@ pub mod Jam
 pub mod Finished
 pub mod Exactly
 pub mod Faults
+pub mod NeededStacklets
 pub mod Refusals
 pub mod QueueRefusals
 pub mod StealRefusals

@@ -20,7 +20,9 @@ use Rattle.soundness.specs.Numbers.{FewThreads, FewStacklets}
 use Rattle.soundness.proofs.Entries.{Stepped}
 use Rattle.soundness.proofs.Exactly.{Exactly, exactly-and}
 use Rattle.soundness.proofs.Faults.{Condition9, Condition10, Condition11, Condition12, Next, next-9, next-10, next-11, next-12}
+use Rattle.soundness.proofs.NeededStacklets.{needs-stacklet}
 use Rattle.soundness.proofs.Tested.{fault-tested}
+use Rattle.soundness.proofs.ThreadsMet.{runner}
 use Rattle.soundness.proofs.Logs.{Dear, StepForks, isLfork, isFork, StepLog, stepOver, stepNoCore, stepIdle, stepDear, stepFaults, stepFewThreads, stepFewStacklets, stepAccepted, step-log}
 
 -- FORKS of any kind, as they are computed
@@ -114,7 +116,7 @@ module _ (j : Job) (s : State) (sound : Sound j s) (c : ℕ) where
     number22 = λ e. absurd (omega arith);
     fault = λ l m. absurd (omega arith);
     number20 = λ e. absurd (omega arith);
-    number21 = λ e. (k, kind, r, f, t, a, u);
+    number21 = λ e. (k, kind, r, f, t, needs-stacklet j s sound (onCore s c) (runner j s sound c (onCore s c) k) kind r .0 a, u);
   }
   step-means (stepAccepted x) = record {
     number19 = λ e. absurd (omega arith);
@@ -222,7 +224,8 @@ module _ (j : Job) (s : State) (sound : Sound j s) (c : ℕ) where
     means .number21,
     λ (k, kind, r, f, t, a, u).
         ap (λ x. x .log) (step-carried k) ∙ fork-at kind r f 21 (λ g e. few-stacklets j s kind (turnAt j s c (onCore s c)) g t
-        (ap (λ x. goesAbove j s kind (threadAt s (onCore s c)) x) e ∙ a) u),
+        (ap (λ x. goesAbove j s kind (threadAt s (onCore s c)) x) e
+        ∙ needs-stacklet j s sound (onCore s c) (runner j s sound c (onCore s c) k) kind r .1 a) u),
   )
 
   -- no other number is logged

@@ -5,16 +5,17 @@ use mathlib.Core.Bool.{true, false}
 use mathlib.Core.List.{[]}
 use mathlib.Core.Logic.{_⊎_}
 use mathlib.Core.Path.{_≡_}
-use Prim.Native.Nat.{ℕ, _+_, _-_, _<_, _≤_}
+use Prim.Native.Nat.{ℕ, _+_, _-_, _/_, _%_, _<_, _≤_}
+use Rattle.image.specs.Layout.{slotsOf}
+use Rattle.stacklets.specs.Tops.{topAt}
 use Rattle.thread.specs.declared.Effect.the-variants.{Lforks, Forks}
 use Rattle.thread.specs.Thread.{none}
 use Rattle.rules.specs.declared.ForkKind.{ForkKind}
-use Rattle.rules.specs.declared.ForkKind.the-variants.{Called, Queued}
+use Rattle.rules.specs.declared.ForkKind.the-variants.{Called, Queued, Stolen}
 use Rattle.rules.specs.State.{Job, State, going, isOver, threadAt, onCore}
+use Rattle.rules.specs.Statuses.{IsSuspended, IsLent}
 use Rattle.rules.specs.Turn.{turnAt, byteOf, effectAt, waits}
-use Rattle.rules.specs.Fork.{goesAbove}
 use Rattle.rules.specs.Rules.{stepOf, takeOf, stealOf, enableOf}
-use Rattle.rules.specs.Sound.{statusAt}
 use Rattle.soundness.specs.Faults.{Condition9, Condition10, Condition11, Condition12, Next}
 
 -- each where the other
@@ -48,11 +49,28 @@ pub data StepForks (j : Job) (s : State) (t : ℕ) (kind : ForkKind) (r : ℕ) :
 abbrev pub FewThreads : Job → State → ℕ → Type 0
 FewThreads j s c = Stepped j s c (onCore s c) × (kind : ForkKind) × (r : ℕ) × StepForks j s (onCore s c) kind r × (s .freeThreads ≡ [])
 
--- core c's thread forks, its child's frame does not go above its own, and no stacklet is free
+-- thread t's frame "is topmost there": it ends, within its stacklet of 64 words, where that stacklet's frames end
+abbrev pub IsTopmost : Job → State → ℕ → Type 0
+IsTopmost j s t = threadAt s t .base % 64 + slotsOf (j .image) (threadAt s t .routine) ≡ topAt (s .tops) (threadAt s t .base / 64)
+
+-- "and it fits": a frame of routine r, "as many words as the routine has slots", above those on thread t's stacklet; "16 stacklets of 64 words"
+abbrev pub FitsAbove : Job → State → ℕ → ℕ → Type 0
+FitsAbove j s t r = topAt (s .tops) (threadAt s t .base / 64) + slotsOf (j .image) r ≤ 64
+
+-- "a stacklet is needed" for a child of thread t, of routine r, by the kind of its fork; the rule's own test is not cited
+abbrev pub NeedsStacklet : Job → State → ℕ → ForkKind → ℕ → Type 0
+-- an lfork's, unless "the parent's frame is topmost there and it fits"
+NeedsStacklet j s t Called r = (¬ (IsTopmost j s t)) ⊎ (¬ (FitsAbove j s t r))
+-- a fork's always: above its parent's frame only "when an lfork makes it .. otherwise on a free stacklet"
+NeedsStacklet j s t Queued r = Unit {0}
+-- a steal's always: "its child independent and running on idle core c, on a free stacklet"
+NeedsStacklet j s t Stolen r = Unit {0}
+
+-- core c's thread forks, its child's frame needs a stacklet, and none is free
 abbrev pub FewStacklets : Job → State → ℕ → Type 0
 FewStacklets j s c =
     Stepped j s c (onCore s c) × (kind : ForkKind) × (r : ℕ) × StepForks j s (onCore s c) kind r × (¬ (s .freeThreads ≡ []))
-    × (goesAbove j s kind (threadAt s (onCore s c)) r ≡ false) × (s .freeStacklets ≡ [])
+    × NeedsStacklet j s (onCore s c) kind r × (s .freeStacklets ≡ [])
 
 -- a step of core c
 pub record StepNumbers (j : Job) (s : State) (c : ℕ) : Type 0 where
@@ -92,7 +110,7 @@ pub record TakeNumbers (s : State) (c : ℕ) : Type 0 where
 
 -- thread t's next command is a seed: it is lent, and the command is an 08 or 09
 abbrev pub Seed : Job → State → ℕ → Type 0
-Seed j s t = (t < 32) × (statusAt s t ≡ 5) × ((byteOf j (threadAt s t) ≡ 8) ⊎ (byteOf j (threadAt s t) ≡ 9))
+Seed j s t = (t < 32) × IsLent s t × ((byteOf j (threadAt s t) ≡ 8) ⊎ (byteOf j (threadAt s t) ≡ 9))
 
 -- the next command of lent thread t, an 08 or 09, is carried out as a seed for idle core c
 pub record Seeded (j : Job) (s : State) (c t : ℕ) : Type 0 where
@@ -100,7 +118,7 @@ pub record Seeded (j : Job) (s : State) (c t : ℕ) : Type 0 where
   pub core : c < s .count
   pub idle : none ≤ onCore s c
   pub low : t < 32
-  pub lent : statusAt s t ≡ 5
+  pub lent : IsLent s t
   pub byte : (byteOf j (threadAt s t) ≡ 8) ⊎ (byteOf j (threadAt s t) ≡ 9)
   pub paid : turnAt j s c t .weight ≤ j .allowance - s .units
 
@@ -139,7 +157,7 @@ pub record StealNumbers (j : Job) (s : State) (c t : ℕ) : Type 0 where
 pub record EnableNumbers (s : State) (t : ℕ) : Type 0 where
   pub number19 : Exactly (enableOf s t .log ≡ 19) (isOver (s .outcome) ≡ true)
   -- "17 thread not suspended or above 31"
-  pub number17 : Exactly (enableOf s t .log ≡ 17) ((s .outcome ≡ going) × (¬ ((t < 32) × (statusAt s t ≡ 3))))
+  pub number17 : Exactly (enableOf s t .log ≡ 17) ((s .outcome ≡ going) × (¬ ((t < 32) × IsSuspended s t)))
   pub others : (enableOf s t .log ≡ 0) ⊎ ((enableOf s t .log ≡ 17) ⊎ (enableOf s t .log ≡ 19))
 
 -- every entry that can meet this state
