@@ -1,5 +1,5 @@
 // Runs by schedule. The expected lines were worked out by a second implementation, written from document 01 alone; document 01's own cases are
-// among them, with the lines that it gives.
+// among them, with the lines that it gives. Those of the worked rows (crates/rules/specs/Rows.antt) are the rows' own, worked out by hand.
 //
 // The cases are the lines of standard input, in the form that the crate `cases` tells:
 //

@@ -16,16 +16,14 @@ use Rattle.rules.specs.Fork.{goesAbove, placeOf, born, forkOn, forkWith,
 use Rattle.rules.specs.Return.{stackletsWithout, wakes, statusAfter, readyAfter, returnToParent, returnOf}
 use Rattle.rules.specs.Rules.{carriedOf, turnOf, stepOf, takeInto, takeOf, isSeed, stolenOf, stealOf, enableOf, entryOf}
 use Rattle.rules.specs.Runs.{runFrom, logsFrom}
-use Rattle.rules.specs.Rows.{Row, jobIn, startIn, rows}
+use Rattle.rules.specs.Row.{Row, Told, toldByRules, toldByHand}
+use Rattle.rules.specs.Rows.{rows}
 
-abbrev pub Holds : List Row → Type 0
-Holds [] = Unit {0}
-Holds (r ∷ rs) =
-    (logsFrom (jobIn r) (startIn r) (r .entries) ≡ r .log)
-    × (runFrom (jobIn r) (startIn r) (r .entries) .outcome ≡ r .outcome)
-    × (runFrom (jobIn r) (startIn r) (r .entries) .units ≡ r .units)
-    × Holds rs
+-- of each row
+abbrev pub each : (Row → Told) → List Row → List Told
+each told [] = []
+each told (r ∷ rs) = told r ∷ each told rs
 
-pub rows-hold : Holds rows
+pub rows-hold : each toldByRules rows ≡ each toldByHand rows
 unfolding decoded startOf rowsOf startsUpTo appended fitsOn pushedTops argumentsAt framed pushedWords run anyPending unlessPending provided forking effectOf isPending withPending mayStore mayLoad cutAt startState effectAt leaves goesAbove placeOf born forkOn forkWith forkOf stackletsWithout wakes statusAfter readyAfter returnToParent returnOf carriedOf turnOf stepOf takeInto takeOf isSeed stolenOf stealOf enableOf entryOf runFrom logsFrom
-rows-hold = (refl, refl, refl, (refl, refl, refl, (refl, refl, refl, (refl, refl, refl, (refl, refl, refl, tt)))))
+rows-hold = refl

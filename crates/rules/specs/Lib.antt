@@ -16,4 +16,11 @@ pub mod Runs
 pub mod Lists
 pub mod Sound
 -- Small runs, worked out by hand: a second witness of the rules.
+pub mod Row
+pub mod RowsForks
+pub mod RowsJoins
+pub mod RowsTables
+pub mod RowsSteals
+pub mod RowsEntries
+pub mod RowsCommands
 pub mod Rows
