@@ -11,6 +11,7 @@ use command::five_at;
 use command::weights;
 use effects::effect;
 use image::routines::place_in_image;
+use statuses::falls_short;
 use statuses::must_wait;
 use tables::marks::core_at;
 use tables::marks::count;
@@ -114,7 +115,7 @@ fn burst(
         let five = five_at(image, place);
         let cost = weights[five[0] as usize];
         let waits = must_wait(five[0], th.children);
-        if left < wide(cost) {
+        if falls_short(left, cost) {
             put_back(tables, t, position, allowance - left);
             return told(more - rest, fall_short(tables, c, t, waits));
         }

@@ -110,3 +110,10 @@ pub fn is_fork(byte: u8) -> bool
     }
     byte == 9
 }
+
+// Is a weight more than what is left of the allowance?
+pub fn falls_short(left: u32, weight: u8) -> bool
+    ensures { λ r. ⌜ r ≡ ltb left weight ⌝ }
+{
+    left < (weight as u32)
+}

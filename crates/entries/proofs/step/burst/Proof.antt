@@ -1,28 +1,29 @@
 -- `entries::step::burst` meets its contract. The invariant: so many steps were made as are no longer left, with position and units held apart.
-use lib.Dec.{eqb, ltb}
-use mathlib.Core.Bool.{Bool, _&&_}
-use Rattle.schedule.specs.declared.Entry.the-variants.{Step}
-use Rattle.entries.specs.Repeat.{Repeats}
-use borrow.Author.Needs.{needs}
-use native.Mathlib.Omega.{arith}
-use Prim.Native.Nat.{ℕ, suc, _+_, _-_, _%_, _≤_, _<_, _^_}
-use mathlib.Core.Path.{_≡_, refl, sym, ap, subst, _∙_}
-use mathlib.Core.List.{List}
-use lib.ListN.{length, getD}
-use Rattle.tables.specs.Meaning.{meaning}
-use Rattle.tables.proofs.Changes.{thread-seen}
-use Rattle.entries.specs.declared.own.Own.the-variants.{Moved}
-use Rattle.thread.specs.declared.Thread.{Thread}
-use Rattle.rules.specs.State.{jobOf}
-use Rattle.thread.specs.Effect.{bytesBy}
-use Rattle.command.specs.Weight.{weightOf, standardWeights}
-use Rattle.entries.specs.Given.{Carrying, turnIn}
-use Rattle.dispatch.specs.Orderly.{after}
-use Rattle.tables.specs.Change.{Becomes}
-use Rattle.entries.specs.Own.{OwnAs}
-use Rattle.entries.specs.Burst.{Busy, standsAt, shortOf, restOf}
-use Rattle.entries.proofs.Meeting.{stored}
+use borrow.Author.Tests.{ltb-true, ltb-false}
 use Rattle.entries.proofs.Bursting.{Made, Stands, Does, begins, stands, does, byte-low, place-fits, guarded, goes-own, ends-full, leaving, ends-short, resting, ends-rest}
+use Rattle.entries.proofs.Meeting.{stored}
+use Rattle.entries.specs.Burst.{Busy, standsAt, shortOf, restOf}
+use Rattle.entries.specs.Own.{OwnAs}
+use Rattle.tables.specs.Change.{Becomes}
+use Rattle.dispatch.specs.Orderly.{after}
+use Rattle.entries.specs.Given.{Carrying, turnIn}
+use Rattle.command.specs.Weight.{weightOf, standardWeights}
+use Rattle.thread.specs.Effect.{bytesBy}
+use Rattle.rules.specs.State.{jobOf}
+use Rattle.thread.specs.declared.Thread.{Thread}
+use Rattle.entries.specs.declared.own.Own.the-variants.{Moved}
+use Rattle.tables.proofs.Changes.{thread-seen}
+use Rattle.tables.specs.Meaning.{meaning}
+use lib.ListN.{length, getD}
+use mathlib.Core.List.{List}
+use mathlib.Core.Path.{_≡_, refl, sym, ap, subst, _∙_}
+use Prim.Native.Nat.{ℕ, suc, _+_, _-_, _%_, _≤_, _<_, _^_}
+use native.Mathlib.Omega.{arith}
+use borrow.Author.Needs.{needs}
+use Rattle.entries.specs.Repeat.{Repeats}
+use Rattle.schedule.specs.declared.Entry.the-variants.{Step}
+use mathlib.Core.Bool.{Bool, _&&_}
+use lib.Dec.{eqb, ltb}
 use Rattle.entries.proofs.step.burst.Statement.{statement}
 use Rattle.entries.proofs.step.burst.Tie as tie
 
@@ -101,8 +102,8 @@ array-read-must-wait c = search needs
 must-wait-requires : tie.Need-must-wait-requires Inv-loop μ-loop
 must-wait-requires c κs = search needs
 
-wide-requires : tie.Need-wide-requires Inv-loop μ-loop
-wide-requires c κs = search needs
+falls-short-requires : tie.Need-falls-short-requires Inv-loop μ-loop
+falls-short-requires c κs = search needs
 
 sub-put-back : tie.Need-sub-put-back Inv-loop μ-loop
 sub-put-back c =
@@ -118,13 +119,13 @@ sub-told c = omega (arith, c .before .before .before .before .before .before .be
 fall-short-requires : tie.Need-fall-short-requires Inv-loop μ-loop
 fall-short-requires c κs =
     let put-back' = c .before .before .before .put-back in
-    let h = c .before .before .before .before .before .before .before .before in
-    let five-at' = h .five-at in
-    let loop' = h .before .loop in
-    let place-in-image' = h .before .before .before .before .before .before .place-in-image in
-    let thread-at' = h .before .before .before .before .before .before .before .thread-at in
-    let args' = h .before .before .before .before .before .before .before .before .before .before .before .before .before .before .before .args in
-    let pre' = h .before .before .before .before .before .before .before .before .before .before .before .before .before .before .before .pre in
+    let g = c .before .before .before .before .before .before .before .before in
+    let five-at' = g .five-at in
+    let loop' = g .before .loop in
+    let place-in-image' = g .before .before .before .before .before .before .place-in-image in
+    let thread-at' = g .before .before .before .before .before .before .before .thread-at in
+    let args' = g .before .before .before .before .before .before .before .before .before .before .before .before .before .before .before .args in
+    let pre' = g .before .before .before .before .before .before .before .before .before .before .before .before .before .before .before .pre in
     let busy = pre' in
     let a = args' in
     let th = thread-at' .result in
@@ -159,16 +160,16 @@ returns : tie.Need-returns Inv-loop μ-loop
 returns c =
     let fall-short' = c .before .before .before .fall-short in
     let put-back' = c .before .before .before .before .before .before .before .put-back in
-    let wide' = c .before .before .before .before .before .before .before .before .before .before .wide in
+    let falls-short' = c .before .before .before .before .before .before .before .before .before .before .falls-short in
     let must-wait' = c .before .before .before .before .before .before .before .before .before .before .before .must-wait in
-    let h = c .before .before .before .before .before .before .before .before .before .before .before .before in
-    let five-at' = h .five-at in
-    let loop' = h .before .loop in
-    let weights' = h .before .before .before .before .weights in
-    let place-in-image' = h .before .before .before .before .before .before .place-in-image in
-    let thread-at' = h .before .before .before .before .before .before .before .thread-at in
-    let args' = h .before .before .before .before .before .before .before .before .before .before .before .before .before .before .before .args in
-    let pre' = h .before .before .before .before .before .before .before .before .before .before .before .before .before .before .before .pre in
+    let g = c .before .before .before .before .before .before .before .before .before .before .before .before in
+    let five-at' = g .five-at in
+    let loop' = g .before .loop in
+    let weights' = g .before .before .before .before .weights in
+    let place-in-image' = g .before .before .before .before .before .before .place-in-image in
+    let thread-at' = g .before .before .before .before .before .before .before .thread-at in
+    let args' = g .before .before .before .before .before .before .before .before .before .before .before .before .before .before .before .args in
+    let pre' = g .before .before .before .before .before .before .before .before .before .before .before .before .before .before .before .pre in
     let busy = pre' in
     let a = args' in
     let th = thread-at' .result in
@@ -181,8 +182,7 @@ returns c =
     let back : Becomes (a .tables .now) ys (standsAt (a .t % 32) (loop' .position) used) = subst (λ (l : List ℕ). Becomes l ys (standsAt (a .t % 32) (loop' .position) used)) (loop' .inv .0) (put-back' .ensures) in
     let paid = ap (λ (l : List ℕ). getD l byte 0) (weights' .ensures) in
     let weight = weightOf standardWeights byte in
-    let cost : wide' .result ≡ weight = wide' .ensures ∙ paid in
-    let dear : loop' .left < weight = omega (arith, cost, c .before .before .before .before .before .before .before .before .before .if1 .taken) in
+    let dear : loop' .left < weight = omega (arith, paid, ltb-true (loop' .left) (getD (weights' .result) byte 0) (sym (falls-short' .ensures) ∙ c .before .before .before .before .before .before .before .before .before .if1 .taken)) in
     let zs = fall-short' .last .0 in
     let waits = must-wait' .ensures ∙ ap (λ (h : Thread). eqb byte 10 && ltb 0 (h .children)) seen in
     ends-short busy made at back dear (a .more) (c .told .result) zs (omega arith) (c .told .ensures .0)
@@ -199,13 +199,13 @@ carry-own-requires : tie.Need-carry-own-requires Inv-loop μ-loop
 carry-own-requires c κs =
     let effect' = c .before .before .effect in
     let command-of' = c .before .before .before .before .command-of in
-    let h = c .before .before .before .before .before .before .before .before in
-    let five-at' = h .five-at in
-    let loop' = h .before .loop in
-    let place-in-image' = h .before .before .before .before .before .before .place-in-image in
-    let thread-at' = h .before .before .before .before .before .before .before .thread-at in
-    let args' = h .before .before .before .before .before .before .before .before .before .before .before .before .before .before .before .args in
-    let pre' = h .before .before .before .before .before .before .before .before .before .before .before .before .before .before .before .pre in
+    let g = c .before .before .before .before .before .before .before .before in
+    let five-at' = g .five-at in
+    let loop' = g .before .loop in
+    let place-in-image' = g .before .before .before .before .before .before .place-in-image in
+    let thread-at' = g .before .before .before .before .before .before .before .thread-at in
+    let args' = g .before .before .before .before .before .before .before .before .before .before .before .before .before .before .before .args in
+    let pre' = g .before .before .before .before .before .before .before .before .before .before .before .before .before .before .before .pre in
     let busy = pre' in
     let a = args' in
     let th = thread-at' .result in
@@ -220,14 +220,18 @@ carry-own-requires c κs =
 enum-known-own : tie.Need-enum-known-own Inv-loop μ-loop
 enum-known-own c = search needs
 
-wide-requires-2 : tie.Need-wide-requires-2 Inv-loop μ-loop
-wide-requires-2 c κs = search needs
+wide-requires : tie.Need-wide-requires Inv-loop μ-loop
+wide-requires c κs = search needs
 
 sub-left-2 : tie.Need-sub-left-2 Inv-loop μ-loop
 sub-left-2 c =
     let if1' = c .before .before .before .before .before .before .before .before .before .before .before .before .before .before .if1 in
-    let wide' = c .before .before .before .before .before .before .before .before .before .before .before .before .before .before .before .wide in
-    omega (arith, wide' .ensures, c .wide2 .ensures, if1' .left)
+    let falls-short' = c .before .before .before .before .before .before .before .before .before .before .before .before .before .before .before .falls-short in
+    let g = c .before .before .before .before .before .before .before .before .before .before .before .before .before .before .before .before .before in
+    let five-at' = g .five-at in
+    let loop' = g .before .loop in
+    let weights' = g .before .before .before .before .weights in
+    omega (arith, c .wide .ensures, ltb-false (loop' .left) (getD (weights' .result) (getD (five-at' .result) 0 0) 0) (sym (falls-short' .ensures) ∙ if1' .left))
 
 sub-put-back-2 : tie.Need-sub-put-back-2 Inv-loop μ-loop
 sub-put-back-2 c =
@@ -261,21 +265,21 @@ same-length-6 c =
 returns-2 : tie.Need-returns-2 Inv-loop μ-loop
 returns-2 c =
     let put-back2' = c .before .before .before .put-back2 in
-    let wide2' = c .before .before .before .before .before .before .wide2 in
+    let wide' = c .before .before .before .before .before .before .wide in
     let own' = c .before .before .before .before .before .before .before .before .own in
     let carry-own' = c .before .before .before .before .before .before .before .before .before .before .before .before .before .before .carry-own in
     let effect' = c .before .before .before .before .before .before .before .before .before .before .before .before .before .before .before .before .before .effect in
     let command-of' = c .before .before .before .before .before .before .before .before .before .before .before .before .before .before .before .before .before .before .before .command-of in
     let if1' = c .before .before .before .before .before .before .before .before .before .before .before .before .before .before .before .before .before .before .before .before .if1 in
-    let wide' = c .before .before .before .before .before .before .before .before .before .before .before .before .before .before .before .before .before .before .before .before .before .wide in
-    let h = c .before .before .before .before .before .before .before .before .before .before .before .before .before .before .before .before .before .before .before .before .before .before .before in
-    let five-at' = h .five-at in
-    let loop' = h .before .loop in
-    let weights' = h .before .before .before .before .weights in
-    let place-in-image' = h .before .before .before .before .before .before .place-in-image in
-    let thread-at' = h .before .before .before .before .before .before .before .thread-at in
-    let args' = h .before .before .before .before .before .before .before .before .before .before .before .before .before .before .before .args in
-    let pre' = h .before .before .before .before .before .before .before .before .before .before .before .before .before .before .before .pre in
+    let falls-short' = c .before .before .before .before .before .before .before .before .before .before .before .before .before .before .before .before .before .before .before .before .before .falls-short in
+    let g = c .before .before .before .before .before .before .before .before .before .before .before .before .before .before .before .before .before .before .before .before .before .before .before in
+    let five-at' = g .five-at in
+    let loop' = g .before .loop in
+    let weights' = g .before .before .before .before .weights in
+    let place-in-image' = g .before .before .before .before .before .before .place-in-image in
+    let thread-at' = g .before .before .before .before .before .before .before .thread-at in
+    let args' = g .before .before .before .before .before .before .before .before .before .before .before .before .before .before .before .args in
+    let pre' = g .before .before .before .before .before .before .before .before .before .before .before .before .before .before .before .pre in
     let busy = pre' in
     let a = args' in
     let th = thread-at' .result in
@@ -286,13 +290,13 @@ returns-2 c =
     let e = effect' .result in
     let is : Does busy (loop' .words) (place-in-image' .result + loop' .position) e = does busy th (place-in-image' .result + loop' .position) (loop' .words) (five-at' .result) (command-of' .result) e seen (five-at' .ensures) (command-of' .ensures) (effect' .ensures) in
     let paid = ap (λ (l : List ℕ). getD l byte 0) (weights' .ensures) in
-    let enough : weightOf standardWeights byte ≤ loop' .left = omega (arith, wide' .ensures, paid, if1' .left) in
+    let enough : weightOf standardWeights byte ≤ loop' .left = omega (arith, paid, ltb-false (loop' .left) (getD (weights' .result) byte 0) (sym (falls-short' .ensures) ∙ if1' .left)) in
     let ws = carry-own' .last .1 .1 .1 .1 .0 in
     let ms = carry-own' .last .1 .1 .1 .1 .1 .0 in
     let p = own' .given .0 .0 in
-    let less = loop' .left - wide2' .result in
+    let less = loop' .left - wide' .result in
     let told = subst (λ (h : Thread). OwnAs e (loop' .position) (h .base) (a .parameters .now) (loop' .words) (loop' .memory) ws ms (Moved p)) seen (rw (own' .given .1) at (carry-own' .ensures)) in
-    let made' : Made busy (suc (a .more - loop' .rest)) p less ws ms = subst (λ (n : ℕ). Made busy (suc (a .more - loop' .rest)) p n ws ms) (omega (arith, wide2' .ensures, paid)) (goes-own busy made at e is enough p ws ms told) in
+    let made' : Made busy (suc (a .more - loop' .rest)) p less ws ms = subst (λ (n : ℕ). Made busy (suc (a .more - loop' .rest)) p n ws ms) (omega (arith, wide' .ensures, paid)) (goes-own busy made at e is enough p ws ms told) in
     let full : suc (a .more - loop' .rest) ≡ suc (a .more) = omega (arith, c .before .before .before .before .before .if2 .taken) in
     let ys = put-back2' .last .0 in
     let used = a .allowance - less in
@@ -313,14 +317,14 @@ loop-again c =
     let effect' = c .before .before .before .before .before .before .before .before .before .before .before .before .effect in
     let command-of' = c .before .before .before .before .before .before .before .before .before .before .before .before .before .before .command-of in
     let if1' = c .before .before .before .before .before .before .before .before .before .before .before .before .before .before .before .if1 in
-    let wide' = c .before .before .before .before .before .before .before .before .before .before .before .before .before .before .before .before .wide in
-    let h = c .before .before .before .before .before .before .before .before .before .before .before .before .before .before .before .before .before .before in
-    let five-at' = h .five-at in
-    let loop' = h .before .loop in
-    let weights' = h .before .before .before .before .weights in
-    let place-in-image' = h .before .before .before .before .before .before .place-in-image in
-    let thread-at' = h .before .before .before .before .before .before .before .thread-at in
-    let args' = h .before .before .before .before .before .before .before .before .before .before .before .before .before .before .before .args in
+    let falls-short' = c .before .before .before .before .before .before .before .before .before .before .before .before .before .before .before .before .falls-short in
+    let g = c .before .before .before .before .before .before .before .before .before .before .before .before .before .before .before .before .before .before in
+    let five-at' = g .five-at in
+    let loop' = g .before .loop in
+    let weights' = g .before .before .before .before .weights in
+    let place-in-image' = g .before .before .before .before .before .before .place-in-image in
+    let thread-at' = g .before .before .before .before .before .before .before .thread-at in
+    let args' = g .before .before .before .before .before .before .before .before .before .before .before .before .before .before .before .args in
     let p = own' .given .0 .0 in (
       loop' .inv .0,
       carry-own' .kept .1 .1 .1 .1 .0 ∙ loop' .inv .1,
@@ -337,13 +341,13 @@ loop-again c =
           let e = effect' .result in
           let is : Does busy (loop' .words) (place-in-image' .result + loop' .position) e = does busy th (place-in-image' .result + loop' .position) (loop' .words) (five-at' .result) (command-of' .result) e seen (five-at' .ensures) (command-of' .ensures) (effect' .ensures) in
           let paid = ap (λ (l : List ℕ). getD l byte 0) (weights' .ensures) in
-          let enough : weightOf standardWeights byte ≤ loop' .left = omega (arith, wide' .ensures, paid, if1' .left) in
+          let enough : weightOf standardWeights byte ≤ loop' .left = omega (arith, paid, ltb-false (loop' .left) (getD (weights' .result) byte 0) (sym (falls-short' .ensures) ∙ if1' .left)) in
           let ws = carry-own' .last .1 .1 .1 .1 .0 in
           let ms = carry-own' .last .1 .1 .1 .1 .1 .0 in
           let p = own' .given .0 .0 in
-          let less = loop' .left - c .before .wide2 .result in
+          let less = loop' .left - c .before .wide .result in
           let told = subst (λ (h : Thread). OwnAs e (loop' .position) (h .base) (a .parameters .now) (loop' .words) (loop' .memory) ws ms (Moved p)) seen (rw (own' .given .1) at (carry-own' .ensures)) in
-          let made' : Made busy (suc (a .more - loop' .rest)) p less ws ms = subst (λ (n : ℕ). Made busy (suc (a .more - loop' .rest)) p n ws ms) (omega (arith, c .before .wide2 .ensures, paid)) (goes-own busy made at e is enough p ws ms told) in
+          let made' : Made busy (suc (a .more - loop' .rest)) p less ws ms = subst (λ (n : ℕ). Made busy (suc (a .more - loop' .rest)) p n ws ms) (omega (arith, c .before .wide .ensures, paid)) (goes-own busy made at e is enough p ws ms told) in
           subst (λ (k : ℕ). Made busy k p less ws ms) (omega (arith, loop' .inv .3, c .if2 .left)) made',
     )
 
@@ -361,13 +365,13 @@ put-back-requires-3 c κs = search needs
 
 cast-at : tie.Need-cast-at Inv-loop μ-loop
 cast-at c =
-    let h = c .before .before .before .before .before .before .before .before .before .before .before .before .before .before .before .before .before .before .before in
-    let five-at' = h .five-at in
-    let loop' = h .before .loop in
-    let place-in-image' = h .before .before .before .before .before .before .place-in-image in
-    let thread-at' = h .before .before .before .before .before .before .before .thread-at in
-    let args' = h .before .before .before .before .before .before .before .before .before .before .before .before .before .before .before .args in
-    let pre' = h .before .before .before .before .before .before .before .before .before .before .before .before .before .before .before .pre in
+    let g = c .before .before .before .before .before .before .before .before .before .before .before .before .before .before .before .before .before .before .before in
+    let five-at' = g .five-at in
+    let loop' = g .before .loop in
+    let place-in-image' = g .before .before .before .before .before .before .place-in-image in
+    let thread-at' = g .before .before .before .before .before .before .before .thread-at in
+    let args' = g .before .before .before .before .before .before .before .before .before .before .before .before .before .before .before .args in
+    let pre' = g .before .before .before .before .before .before .before .before .before .before .before .before .before .before .before .pre in
     let busy = pre' in
     let a = args' in
     let th = thread-at' .result in
@@ -384,16 +388,16 @@ carry-rest-requires c κs =
     let effect' = c .before .before .before .before .before .before .before .before .before .before .before .before .before .before .before .effect in
     let command-of' = c .before .before .before .before .before .before .before .before .before .before .before .before .before .before .before .before .before .command-of in
     let if1' = c .before .before .before .before .before .before .before .before .before .before .before .before .before .before .before .before .before .before .if1 in
-    let wide' = c .before .before .before .before .before .before .before .before .before .before .before .before .before .before .before .before .before .before .before .wide in
-    let h = c .before .before .before .before .before .before .before .before .before .before .before .before .before .before .before .before .before .before .before .before .before in
-    let five-at' = h .five-at in
-    let loop' = h .before .loop in
-    let weights' = h .before .before .before .before .weights in
-    let place-in-image' = h .before .before .before .before .before .before .place-in-image in
-    let thread-at' = h .before .before .before .before .before .before .before .thread-at in
-    let args' = h .before .before .before .before .before .before .before .before .before .before .before .before .before .before .before .args in
-    let fits' = h .before .before .before .before .before .before .before .before .before .before .before .before .before .before .before .fits in
-    let pre' = h .before .before .before .before .before .before .before .before .before .before .before .before .before .before .before .pre in
+    let falls-short' = c .before .before .before .before .before .before .before .before .before .before .before .before .before .before .before .before .before .before .before .falls-short in
+    let g = c .before .before .before .before .before .before .before .before .before .before .before .before .before .before .before .before .before .before .before .before .before in
+    let five-at' = g .five-at in
+    let loop' = g .before .loop in
+    let weights' = g .before .before .before .before .weights in
+    let place-in-image' = g .before .before .before .before .before .before .place-in-image in
+    let thread-at' = g .before .before .before .before .before .before .before .thread-at in
+    let args' = g .before .before .before .before .before .before .before .before .before .before .before .before .before .before .before .args in
+    let fits' = g .before .before .before .before .before .before .before .before .before .before .before .before .before .before .before .fits in
+    let pre' = g .before .before .before .before .before .before .before .before .before .before .before .before .before .before .before .pre in
     let busy = pre' in
     let a = args' in
     let th = thread-at' .result in
@@ -404,7 +408,7 @@ carry-rest-requires c κs =
     let e = effect' .result in
     let is : Does busy (loop' .words) (place-in-image' .result + loop' .position) e = does busy th (place-in-image' .result + loop' .position) (loop' .words) (five-at' .result) (command-of' .result) e seen (five-at' .ensures) (command-of' .ensures) (effect' .ensures) in
     let paid = ap (λ (l : List ℕ). getD l byte 0) (weights' .ensures) in
-    let enough : weightOf standardWeights byte ≤ loop' .left = omega (arith, wide' .ensures, paid, if1' .left) in
+    let enough : weightOf standardWeights byte ≤ loop' .left = omega (arith, paid, ltb-false (loop' .left) (getD (weights' .result) byte 0) (sym (falls-short' .ensures) ∙ if1' .left)) in
     let ys = put-back3' .last .0 in
     let used = a .allowance - loop' .left in
     let back : Becomes (a .tables .now) ys (standsAt (a .t % 32) (loop' .position) used) = subst (λ (l : List ℕ). Becomes l ys (standsAt (a .t % 32) (loop' .position) used)) (loop' .inv .0) (put-back3' .ensures) in
@@ -446,16 +450,16 @@ returns-3 c =
     let effect' = c .before .before .before .before .before .before .before .before .before .before .before .before .before .before .before .before .before .before .before .before .before .effect in
     let command-of' = c .before .before .before .before .before .before .before .before .before .before .before .before .before .before .before .before .before .before .before .before .before .before .before .command-of in
     let if1' = c .before .before .before .before .before .before .before .before .before .before .before .before .before .before .before .before .before .before .before .before .before .before .before .before .if1 in
-    let wide' = c .before .before .before .before .before .before .before .before .before .before .before .before .before .before .before .before .before .before .before .before .before .before .before .before .before .wide in
+    let falls-short' = c .before .before .before .before .before .before .before .before .before .before .before .before .before .before .before .before .before .before .before .before .before .before .before .before .before .falls-short in
     let must-wait' = c .before .before .before .before .before .before .before .before .before .before .before .before .before .before .before .before .before .before .before .before .before .before .before .before .before .before .must-wait in
-    let h = c .before .before .before .before .before .before .before .before .before .before .before .before .before .before .before .before .before .before .before .before .before .before .before .before .before .before .before in
-    let five-at' = h .five-at in
-    let loop' = h .before .loop in
-    let weights' = h .before .before .before .before .weights in
-    let place-in-image' = h .before .before .before .before .before .before .place-in-image in
-    let thread-at' = h .before .before .before .before .before .before .before .thread-at in
-    let args' = h .before .before .before .before .before .before .before .before .before .before .before .before .before .before .before .args in
-    let pre' = h .before .before .before .before .before .before .before .before .before .before .before .before .before .before .before .pre in
+    let g = c .before .before .before .before .before .before .before .before .before .before .before .before .before .before .before .before .before .before .before .before .before .before .before .before .before .before .before in
+    let five-at' = g .five-at in
+    let loop' = g .before .loop in
+    let weights' = g .before .before .before .before .weights in
+    let place-in-image' = g .before .before .before .before .before .before .place-in-image in
+    let thread-at' = g .before .before .before .before .before .before .before .thread-at in
+    let args' = g .before .before .before .before .before .before .before .before .before .before .before .before .before .before .before .args in
+    let pre' = g .before .before .before .before .before .before .before .before .before .before .before .before .before .before .before .pre in
     let busy = pre' in
     let a = args' in
     let th = thread-at' .result in
@@ -466,7 +470,7 @@ returns-3 c =
     let e = effect' .result in
     let is : Does busy (loop' .words) (place-in-image' .result + loop' .position) e = does busy th (place-in-image' .result + loop' .position) (loop' .words) (five-at' .result) (command-of' .result) e seen (five-at' .ensures) (command-of' .ensures) (effect' .ensures) in
     let paid = ap (λ (l : List ℕ). getD l byte 0) (weights' .ensures) in
-    let enough : weightOf standardWeights byte ≤ loop' .left = omega (arith, wide' .ensures, paid, if1' .left) in
+    let enough : weightOf standardWeights byte ≤ loop' .left = omega (arith, paid, ltb-false (loop' .left) (getD (weights' .result) byte 0) (sym (falls-short' .ensures) ∙ if1' .left)) in
     let ys = put-back3' .last .0 in
     let used = a .allowance - loop' .left in
     let back : Becomes (a .tables .now) ys (standsAt (a .t % 32) (loop' .position) used) = subst (λ (l : List ℕ). Becomes l ys (standsAt (a .t % 32) (loop' .position) used)) (loop' .inv .0) (put-back3' .ensures) in
@@ -504,7 +508,7 @@ burst-spec =
     array-read-cost-2
     array-read-must-wait
     must-wait-requires
-    wide-requires
+    falls-short-requires
     sub-put-back
     put-back-requires
     sub-told
@@ -518,7 +522,7 @@ burst-spec =
     effect-requires
     carry-own-requires
     enum-known-own
-    wide-requires-2
+    wide-requires
     sub-left-2
     sub-put-back-2
     put-back-requires-2
