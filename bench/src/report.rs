@@ -51,7 +51,7 @@ fn constant(path: &str, name: &str) -> usize {
 
 /// The bytes of the machine's tables and of a thread record in them.
 fn sizes() -> (usize, usize) {
-    (constant("tables/src/lib.rt", "SIZE"), constant("tables/src/records.rt", "WIDE"))
+    (constant("tables/src/lib.rt", "SIZE"), constant("cells/src/lib.rt", "WIDE"))
 }
 
 /// What the static libraries leave to be linked: the only functions outside them that they can call.

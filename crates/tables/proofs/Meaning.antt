@@ -1,55 +1,25 @@
 -- A store changes one part of what the tables mean: it is the small update of the same name. Assumes nothing.
-use mathlib.Core.Bool.{Bool, true, false, not}
 use mathlib.Core.Path.{_≡_, refl, ap, sym, _∙_}
 use mathlib.Core.List.{List}
 use mathlib.Core.Logic.{_⊎_, inl, inr, ⊎-elim}
-use Prim.Native.Nat.{ℕ, zero, suc, _+_, _-_, _*_, _/_, _%_, _≤_, _<_}
+use Prim.Native.Nat.{ℕ, zero, suc, _+_, _*_, _≤_, _<_}
 use native.Mathlib.Nat.{zero-add}
 use native.Mathlib.Omega.{arith}
-use lib.Dec.{eqb}
 use lib.ListN.{getD, set, length, List·getD-eq-default}
 use Rattle.queue.specs.declared.Queue.{Queue}
 use Rattle.queue.specs.Contents.{contents}
 use Rattle.stacklets.specs.declared.Stacklets.{Stacklets}
 use Rattle.stacklets.specs.Tops.{topsOf}
 use Rattle.thread.specs.declared.Thread.{Thread}
-use Rattle.thread.specs.declared.Status.{Status}
-use Rattle.thread.specs.declared.Status.the-variants.{Free, Running, Ready, Suspended, Waiting, Lent}
-use Rattle.thread.specs.Thread.{statusNumber, blankThread, movedTo}
+use Rattle.thread.specs.Thread.{blankThread}
+use Rattle.cells.specs.Record.{recordAt}
+use Rattle.cells.proofs.Laws.{record-same}
 use Rattle.rules.specs.State.{Outcome, threadAt, onCore}
 use Rattle.rules.specs.Update.{setThread, setCore, setTops, setFreeThreads, setFreeStacklets, setReady, setOutcome}
 use Rattle.tables.specs.Cells.{from, Outside}
 use Rattle.tables.specs.Change.{setUnits, setCount}
-use Rattle.tables.specs.Meaning.{statusOf, bitOf, recordAt, cellsOf, threadsIn, coresIn, unitsIn, outcomeIn, stackletsIn, queueIn, meaning}
+use Rattle.tables.specs.Meaning.{threadsIn, coresIn, unitsIn, outcomeIn, stackletsIn, queueIn, meaning}
 use Rattle.tables.proofs.Runs.{length-from, getD-from, from-same, from-set, clear}
-
--- a record by its 18 cells
-pub record-same : (xs ys : List ℕ) (a b : ℕ) → ((k : ℕ) → k < 18 → getD ys (b + k) 0 ≡ getD xs (a + k) 0) → recordAt ys b ≡ recordAt xs a
-unfolding recordAt
-record-same xs ys a b h =
-    rw (h 0 (omega arith), h 1 (omega arith), h 2 (omega arith), h 3 (omega arith), h 4 (omega arith), h 5 (omega arith), h 6 (omega arith), h 7 (omega arith), h 8 (omega arith), h 9 (omega arith), h 10 (omega arith), h 11 (omega arith), h 12 (omega arith), h 13 (omega arith), h 14 (omega arith), h 15 (omega arith), h 16 (omega arith), h 17 (omega arith))
-
-status-back : (s : Status) → statusOf (statusNumber s) ≡ s
-unfolding statusOf
-status-back Free = refl
-status-back Running = refl
-status-back Ready = refl
-status-back Suspended = refl
-status-back Waiting = refl
-status-back Lent = refl
-
-bit-back : (b : Bool) → not (eqb (bitOf b) 0) ≡ b
-bit-back true = refl
-bit-back false = refl
-
-two-back : (x : ℕ) → x % 256 + 256 * (x / 256) ≡ x
-two-back x = omega arith
-
--- the cells of a record are that record
-pub cells-back : (h : Thread) → recordAt (cellsOf h) 0 ≡ h
-unfolding recordAt
-cells-back h =
-    rw (status-back (h .status), bit-back (h .connected), two-back (h .position), two-back (h .base), two-back (h .window .lo), two-back (h .window .mark), two-back (h .window .hi), two-back (h .pending))
 
 -- what lies apart from the cells that change stays
 module _ (xs ys : List ℕ) (a n : ℕ) (o : Outside xs ys a n) where
@@ -186,10 +156,3 @@ module _ (xs words memory : List ℕ) where
   pub core-none : (c : ℕ) → 4 ≤ c → onCore (meaning xs words memory) c ≡ 0
   unfolding meaning coresIn
   core-none c l = List·getD-eq-default (coresIn xs) 0 {n = c} (omega (arith, length-from 0 4 (λ k. getD xs (576 + k) 0)))
-
--- a record moved on
-pub moved-at : (xs ys : List ℕ) (a p : ℕ) → ((k : ℕ) → k < 16 → getD ys (a + (k + 2)) 0 ≡ getD xs (a + (k + 2)) 0) → getD ys (a + 0) 0 ≡ p % 256 → getD ys (a + 1) 0 ≡ p / 256
-    → recordAt ys a ≡ movedTo p (recordAt xs a)
-unfolding recordAt
-moved-at xs ys a p h e f =
-    rw (e, f, two-back p, h 0 (omega arith), h 1 (omega arith), h 2 (omega arith), h 3 (omega arith), h 4 (omega arith), h 5 (omega arith), h 6 (omega arith), h 7 (omega arith), h 8 (omega arith), h 9 (omega arith), h 10 (omega arith), h 11 (omega arith), h 12 (omega arith), h 13 (omega arith), h 14 (omega arith), h 15 (omega arith))

@@ -15,13 +15,15 @@ use Rattle.stacklets.specs.declared.Stacklets.{Stacklets}
 use Rattle.stacklets.specs.Tops.{topsOf, stackletsOf}
 use Rattle.thread.specs.declared.Thread.{Thread}
 use Rattle.thread.specs.Thread.{movedTo}
+use Rattle.cells.specs.Record.{recordAt, cellsOf}
+use Rattle.cells.proofs.Laws.{record-same, cells-back, moved-at}
 use Rattle.rules.specs.State.{threadAt, Outcome, going, finished, faulted, isOver}
 use Rattle.rules.specs.Update.{setCore, setThread, setTops, setOutcome}
 use Rattle.tables.specs.Cells.{from, twoAt, fourAt, Outside, pasted}
 use Rattle.tables.specs.Change.{setUnits, setCount, setTop}
-use Rattle.tables.specs.Meaning.{recordAt, cellsOf, outcomeIn, unitsIn, queueIn, stackletsIn, meaning}
+use Rattle.tables.specs.Meaning.{outcomeIn, unitsIn, queueIn, stackletsIn, meaning}
 use Rattle.tables.proofs.Runs.{pasted-in, pasted-out, sets-in, sets-out, filled}
-use Rattle.tables.proofs.Meaning.{record-same, cells-back, moved-at, units-put, count-put, core-put, thread-put, thread-is, stacklets-put, outcome-put}
+use Rattle.tables.proofs.Meaning.{units-put, count-put, core-put, thread-put, thread-is, stacklets-put, outcome-put}
 
 -- the test of the outcome's first cell
 pub over-is : (xs : List ℕ) → not (eqb (getD xs 585 0) 0) ≡ isOver (outcomeIn xs)
@@ -125,6 +127,9 @@ core-store xs words memory c t l h =
     core-put xs (set xs (576 + c) t) words memory c t h (λ i o. getD-set-other xs (576 + c) i t 0 (λ z. ⊎-elim (λ p. omega arith) (λ p. omega arith) o)) (getD-set-same xs (576 + c) t 0 (omega arith))
 
 -- a record is read and stored by its part
+pub part-long : (xs : List ℕ) (a : ℕ) → a + 18 ≤ length xs → length (take (a + 18 - a) (drop a xs)) ≡ 18
+part-long xs a fits = simp (length-take, length-drop) (omega arith)
+
 module _ (xs words memory : List ℕ) (a t : ℕ) (e : a ≡ 18 * t) (l : t < 32) where
   pub record-is : recordAt xs a ≡ threadAt (meaning xs words memory) t
   record-is = ap (recordAt xs) e ∙ thread-is xs words memory t l
@@ -135,7 +140,7 @@ module _ (xs words memory : List ℕ) (a t : ℕ) (e : a ≡ 18 * t) (l : t < 32
   pub record-store : (ys : List ℕ) (h : Thread) → length xs ≡ 712 → ys ≡ sets (take (a + 18 - a) (drop a xs)) 0 (cellsOf h)
       → meaning (pasted xs a (a + 18 - a) ys) words memory ≡ setThread t h (meaning xs words memory)
   record-store ys h n f =
-      let long : length (take (a + 18 - a) (drop a xs)) ≡ a + 18 - a = simp (length-take, length-drop) (omega arith) in
+      let long : length (take (a + 18 - a) (drop a xs)) ≡ a + 18 - a = omega (arith, part-long xs a (omega arith)) in
       thread-put xs (pasted xs a (a + 18 - a) ys) words memory t h l
       (rw (← e) (record-out xs (take (a + 18 - a) (drop a xs)) ys a (a + 18 - a) h (omega arith) (omega arith) long f))
       (rw (← e) (record-in xs (take (a + 18 - a) (drop a xs)) ys a (a + 18 - a) h (omega arith) (omega arith) long f))

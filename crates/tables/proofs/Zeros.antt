@@ -1,5 +1,5 @@
 -- Tables that are all zeros: a free record for each thread, and nothing charged. Assumes nothing.
-use mathlib.Core.List.{List, [], _∷_}
+use mathlib.Core.List.{List, _∷_}
 use mathlib.Core.Logic.{_⊎_, inl, inr, ⊎-elim}
 use mathlib.Core.Path.{_≡_, refl, sym, ap, _∙_}
 use Prim.Native.Nat.{ℕ, zero, suc, _+_, _≤_, _<_}
@@ -7,9 +7,10 @@ use native.Mathlib.Omega.{arith}
 use lib.ListN.{length, getD, set, replicate, length-replicate, getD-replicate, List·getD-eq-default}
 use lib.Seq.{getD-set-same, getD-set-other, ext-getD}
 use Rattle.thread.specs.Thread.{blankThread}
+use Rattle.cells.proofs.Laws.{blank}
 use Rattle.rules.specs.State.{going}
 use Rattle.tables.specs.Cells.{from}
-use Rattle.tables.specs.Meaning.{statusOf, recordAt, threadsIn, coresIn, unitsIn, outcomeIn, meaning}
+use Rattle.tables.specs.Meaning.{threadsIn, coresIn, unitsIn, outcomeIn}
 use Rattle.tables.proofs.Runs.{from-same}
 
 lt-or-le : (x c : ℕ) → (x < c) ⊎ (c ≤ x)
@@ -35,14 +36,9 @@ constant k zero a = refl
 constant k (suc n) a = ap (λ l. a ∷ l) (constant (suc k) n a)
 
 module _ (xs : List ℕ) (z : (k : ℕ) → getD xs k 0 ≡ 0) where
-  blank : (a : ℕ) → recordAt xs a ≡ blankThread
-  unfolding recordAt statusOf
-  blank a =
-      rw (z (a + 0), z (a + 1), z (a + 2), z (a + 3), z (a + 4), z (a + 5), z (a + 6), z (a + 7), z (a + 8), z (a + 9), z (a + 10), z (a + 11), z (a + 12), z (a + 13), z (a + 14), z (a + 15), z (a + 16), z (a + 17))
-
   pub zero-threads : threadsIn xs ≡ replicate 32 blankThread
   unfolding threadsIn
-  zero-threads = from-same 0 32 _ _ (λ t l m. blank _) ∙ constant 0 32 blankThread
+  zero-threads = from-same 0 32 _ _ (λ t l m. blank xs z _) ∙ constant 0 32 blankThread
 
   pub zero-cores : coresIn xs ≡ replicate 4 0
   unfolding coresIn

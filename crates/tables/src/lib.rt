@@ -1,11 +1,11 @@
 // The machine's tables in one lent slice of bytes: where each part stands, how it is read and how it is stored. This crate alone knows the
-// layout; those above know of the bytes what they mean (`meaning`). Nothing is asked of the caller: a number of a thread, core or stacklet is
-// taken by its remainder, and tables of another size are read as nothing and never changed.
+// layout (`cells` has the bytes of one thread record); those above know of the bytes what they mean (`meaning`). Nothing is asked of the caller:
+// a number of a thread, core or stacklet is taken by its remainder, and tables of another size are read as nothing and never changed.
 
-mod cells;
 pub mod frames;
 pub mod lines;
 pub mod marks;
+mod numbers;
 pub mod records;
 
 // How many bytes the tables have.

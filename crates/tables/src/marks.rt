@@ -1,10 +1,10 @@
 // Cores, units and outcome.
 use crate::SIZE;
 use crate::Standing;
-use crate::cells::four_at;
-use crate::cells::put_four;
-use crate::cells::put_two;
-use crate::cells::two_at;
+use crate::numbers::four_at;
+use crate::numbers::put_four;
+use crate::numbers::put_two;
+use crate::numbers::two_at;
 use std::num::wrapping_add_u32;
 ghost use Prim.Native.Nat.{_%_};
 ghost use mathlib.Core.Bool.{false};

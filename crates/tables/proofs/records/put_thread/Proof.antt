@@ -1,6 +1,6 @@
 -- `tables::records::put_thread` meets its contract. Assumes nothing.
 use Rattle.tables.proofs.Changes.{unchanged, changed}
-use Rattle.tables.proofs.Stores.{record-store}
+use Rattle.tables.proofs.Stores.{part-long, record-store}
 use native.Mathlib.Omega.{arith}
 use native.Mathlib.Nat.{mod-lt}
 use Prim.Native.Nat.{_%_}
@@ -38,7 +38,7 @@ returns-2 c =
     let args' = c .before .before .before .before .before .before .before .args in
     let if1' = c .before .before .before .before .before .if1 in
     let place-of' = c .before .before .before .before .place-of in
-    changed (args' .tables .now) _ _ (if1' .left) (same-length c) (λ words memory. record-store (args' .tables .now) words memory (place-of' .result) (args' .t % 32) (place-of' .ensures .0) (mod-lt _ (omega arith)) _ (args' .th) (if1' .left) (c .before .before .write-record .ensures))
+    changed (args' .tables .now) _ _ (if1' .left) (same-length c) (λ words memory. record-store (args' .tables .now) words memory (place-of' .result) (args' .t % 32) (place-of' .ensures .0) (mod-lt _ (omega arith)) _ (args' .th) (if1' .left) (c .before .before .write-record .ensures .0 (part-long (args' .tables .now) (place-of' .result) (omega arith))))
 
 pub put-thread-spec : {M : Type 1} → statement M
 put-thread-spec =

@@ -1,6 +1,6 @@
 -- `tables::records::thread_at` meets its contract. Assumes nothing.
 use Rattle.tables.proofs.Changes.{unread, read}
-use Rattle.tables.proofs.Stores.{record-read}
+use Rattle.tables.proofs.Stores.{part-long, record-read}
 use Rattle.rules.specs.State.{threadAt}
 use Rattle.thread.specs.Thread.{blankThread}
 use mathlib.Core.Path.{_∙_}
@@ -40,7 +40,8 @@ read-record-requires c κs = search needs
 returns-2 : tie.Need-returns-2
 returns-2 c =
     let args' = c .before .before .before .before .before .args in
-    read (args' .tables .now) _ _ _ (c .before .before .before .if1 .left) (λ words memory. c .read-record .ensures ∙ record-read (args' .tables .now) words memory (c .before .before .place-of .result) (args' .t % 32) (c .before .before .place-of .ensures .0) (mod-lt _ (omega arith)))
+    let place-of' = c .before .before .place-of in
+    read (args' .tables .now) _ _ _ (c .before .before .before .if1 .left) (λ words memory. c .read-record .ensures .0 (part-long (args' .tables .now) (place-of' .result) (omega arith)) ∙ record-read (args' .tables .now) words memory (place-of' .result) (args' .t % 32) (place-of' .ensures .0) (mod-lt _ (omega arith)))
 
 pub thread-at-spec : {M : Type 1} → statement M
 thread-at-spec =

@@ -1,8 +1,8 @@
--- `tables::records::status_of` meets its contract. Assumes nothing.
+-- `cells::status_of` meets its contract. Assumes nothing.
 use borrow.Author.Tests.{eq-eqb, ne-eqb}
-use Rattle.tables.specs.Meaning.{statusOf}
-use Rattle.tables.proofs.records.status_of.Statement.{statement}
-use Rattle.tables.proofs.records.status_of.Tie as tie
+use Rattle.cells.specs.Record.{statusOf}
+use Rattle.cells.proofs.status_of.Statement.{statement}
+use Rattle.cells.proofs.status_of.Tie as tie
 
 returns : tie.Need-returns
 unfolding statusOf

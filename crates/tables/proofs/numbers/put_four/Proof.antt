@@ -1,7 +1,7 @@
--- `tables::cells::put_four` meets its contract. Assumes nothing.
+-- `tables::numbers::put_four` meets its contract. Assumes nothing.
 use borrow.Author.Needs.{needs}
-use Rattle.tables.proofs.cells.put_four.Statement.{statement}
-use Rattle.tables.proofs.cells.put_four.Tie as tie
+use Rattle.tables.proofs.numbers.put_four.Statement.{statement}
+use Rattle.tables.proofs.numbers.put_four.Tie as tie
 
 cast-put-two : tie.Need-cast-put-two
 cast-put-two c = search needs

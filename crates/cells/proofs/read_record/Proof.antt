@@ -1,8 +1,15 @@
--- `tables::records::read_record` meets its contract. Assumes nothing.
-use Rattle.tables.specs.Meaning.{recordAt}
+-- `cells::read_record` meets its contract. Assumes nothing.
+use Rattle.cells.specs.Record.{recordAt}
+use native.Mathlib.Omega.{arith}
 use borrow.Author.Needs.{needs}
-use Rattle.tables.proofs.records.read_record.Statement.{statement}
-use Rattle.tables.proofs.records.read_record.Tie as tie
+use Rattle.cells.proofs.read_record.Statement.{statement}
+use Rattle.cells.proofs.read_record.Tie as tie
+
+blank-thread-requires : tie.Need-blank-thread-requires
+blank-thread-requires c κs = search needs
+
+returns : tie.Need-returns
+returns c = (λ e. absurd (c .before .if1 .taken e), λ n. c .blank-thread .ensures)
 
 shared-slice-read-two : tie.Need-shared-slice-read-two
 shared-slice-read-two c = search needs
@@ -37,17 +44,17 @@ shared-slice-read-status-of c = search needs
 status-of-requires : tie.Need-status-of-requires
 status-of-requires c κs = search needs
 
+shared-slice-read-t20 : tie.Need-shared-slice-read-t20
+shared-slice-read-t20 c = search needs
+
 shared-slice-read-t18 : tie.Need-shared-slice-read-t18
 shared-slice-read-t18 c = search needs
 
-shared-slice-read-t6 : tie.Need-shared-slice-read-t6
-shared-slice-read-t6 c = search needs
-
-shared-slice-read-t16 : tie.Need-shared-slice-read-t16
-shared-slice-read-t16 c = search needs
-
 shared-slice-read-t8 : tie.Need-shared-slice-read-t8
 shared-slice-read-t8 c = search needs
+
+shared-slice-read-t15 : tie.Need-shared-slice-read-t15
+shared-slice-read-t15 c = search needs
 
 shared-slice-read-t13 : tie.Need-shared-slice-read-t13
 shared-slice-read-t13 c = search needs
@@ -79,15 +86,17 @@ shared-slice-read-two-12 c = search needs
 two-requires-6 : tie.Need-two-requires-6
 two-requires-6 c κs = search needs
 
-returns : tie.Need-returns
+returns-2 : tie.Need-returns-2
 unfolding recordAt
-returns c =
-    rw (c .two6 .ensures, c .before .before .before .two5 .ensures, c .before .before .before .before .before .before .two4 .ensures, c .before .before .before .before .before .before .before .before .before .before .before .before .before .before .status-of .ensures, c .before .before .before .before .before .before .before .before .before .before .before .before .before .before .before .before .two3 .ensures, c .before .before .before .before .before .before .before .before .before .before .before .before .before .before .before .before .before .before .before .two2 .ensures, c .before .before .before .before .before .before .before .before .before .before .before .before .before .before .before .before .before .before .before .before .before .before .two .ensures)
+returns-2 c =
+    (λ e. rw (c .two6 .ensures, c .before .before .before .two5 .ensures, c .before .before .before .before .before .before .two4 .ensures, c .before .before .before .before .before .before .before .before .before .before .before .before .before .before .status-of .ensures, c .before .before .before .before .before .before .before .before .before .before .before .before .before .before .before .before .two3 .ensures, c .before .before .before .before .before .before .before .before .before .before .before .before .before .before .before .before .before .before .before .two2 .ensures, c .before .before .before .before .before .before .before .before .before .before .before .before .before .before .before .before .before .before .before .before .before .before .two .ensures), λ n. absurd (n (omega arith)))
 
 pub read-record-spec : {M : Type 1} → statement M
 read-record-spec =
     tie.close
     (tie.spec
+    blank-thread-requires
+    returns
     shared-slice-read-two
     shared-slice-read-two-2
     two-requires
@@ -99,10 +108,10 @@ read-record-spec =
     two-requires-3
     shared-slice-read-status-of
     status-of-requires
+    shared-slice-read-t20
     shared-slice-read-t18
-    shared-slice-read-t6
-    shared-slice-read-t16
     shared-slice-read-t8
+    shared-slice-read-t15
     shared-slice-read-t13
     shared-slice-read-two-7
     shared-slice-read-two-8
@@ -113,4 +122,4 @@ read-record-spec =
     shared-slice-read-two-11
     shared-slice-read-two-12
     two-requires-6
-    returns)
+    returns-2)

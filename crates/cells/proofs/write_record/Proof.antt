@@ -1,9 +1,13 @@
--- `tables::records::write_record` meets its contract. Assumes nothing.
+-- `cells::write_record` meets its contract. Assumes nothing.
+use mathlib.Core.Path.{refl}
 use native.Mathlib.Omega.{arith}
 use lib.ListN.{length-set}
 use borrow.Author.Needs.{needs}
-use Rattle.tables.proofs.records.write_record.Statement.{statement}
-use Rattle.tables.proofs.records.write_record.Tie as tie
+use Rattle.cells.proofs.write_record.Statement.{statement}
+use Rattle.cells.proofs.write_record.Tie as tie
+
+returns : tie.Need-returns
+returns c = (λ e. absurd (c .if1 .taken e), λ n. refl)
 
 low-requires : tie.Need-low-requires
 low-requires c κs = search needs
@@ -53,11 +57,14 @@ high-requires-2 c κs = search needs
 slice-write-cells-10 : tie.Need-slice-write-cells-10
 slice-write-cells-10 c = simp length-set (omega arith)
 
+write-window-requires : tie.Need-write-window-requires
+write-window-requires c κs = simp length-set (omega arith)
+
 low-requires-3 : tie.Need-low-requires-3
 low-requires-3 c κs = search needs
 
 slice-write-cells-11 : tie.Need-slice-write-cells-11
-slice-write-cells-11 c = simp length-set (omega arith)
+slice-write-cells-11 c = search needs
 
 high-requires-3 : tie.Need-high-requires-3
 high-requires-3 c κs = search needs
@@ -65,52 +72,17 @@ high-requires-3 c κs = search needs
 slice-write-cells-12 : tie.Need-slice-write-cells-12
 slice-write-cells-12 c = simp length-set (omega arith)
 
-low-requires-4 : tie.Need-low-requires-4
-low-requires-4 c κs = search needs
-
-slice-write-cells-13 : tie.Need-slice-write-cells-13
-slice-write-cells-13 c = simp length-set (omega arith)
-
-high-requires-4 : tie.Need-high-requires-4
-high-requires-4 c κs = search needs
-
-slice-write-cells-14 : tie.Need-slice-write-cells-14
-slice-write-cells-14 c = simp length-set (omega arith)
-
-low-requires-5 : tie.Need-low-requires-5
-low-requires-5 c κs = search needs
-
-slice-write-cells-15 : tie.Need-slice-write-cells-15
-slice-write-cells-15 c = simp length-set (omega arith)
-
-high-requires-5 : tie.Need-high-requires-5
-high-requires-5 c κs = search needs
-
-slice-write-cells-16 : tie.Need-slice-write-cells-16
-slice-write-cells-16 c = simp length-set (omega arith)
-
-low-requires-6 : tie.Need-low-requires-6
-low-requires-6 c κs = search needs
-
-slice-write-cells-17 : tie.Need-slice-write-cells-17
-slice-write-cells-17 c = simp length-set (omega arith)
-
-high-requires-6 : tie.Need-high-requires-6
-high-requires-6 c κs = search needs
-
-slice-write-cells-18 : tie.Need-slice-write-cells-18
-slice-write-cells-18 c = simp length-set (omega arith)
-
 same-length : tie.Need-same-length
-same-length c = simp length-set
+same-length c = simp length-set (omega arith)
 
-returns : tie.Need-returns
-returns c = cc
+returns-2 : tie.Need-returns-2
+returns-2 c = (λ e. cc, λ n. absurd (n (omega arith)))
 
 pub write-record-spec : {M : Type 1} → statement M
 write-record-spec =
     tie.close
     (tie.spec
+    returns
     low-requires
     slice-write-cells
     high-requires
@@ -127,21 +99,10 @@ write-record-spec =
     slice-write-cells-9
     high-requires-2
     slice-write-cells-10
+    write-window-requires
     low-requires-3
     slice-write-cells-11
     high-requires-3
     slice-write-cells-12
-    low-requires-4
-    slice-write-cells-13
-    high-requires-4
-    slice-write-cells-14
-    low-requires-5
-    slice-write-cells-15
-    high-requires-5
-    slice-write-cells-16
-    low-requires-6
-    slice-write-cells-17
-    high-requires-6
-    slice-write-cells-18
     same-length
-    returns)
+    returns-2)

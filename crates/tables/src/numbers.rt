@@ -1,26 +1,11 @@
-// Numbers of one, two and four bytes.
+// Numbers of two and four bytes at a place.
+use cells::high;
+use cells::low;
+use cells::two;
 ghost use mathlib.Core.Path.{_≡_};
 ghost use Prim.Native.Nat.{_+_, _*_, _%_, _/_, _<_};
 ghost use lib.ListN.{set, length};
 ghost use Rattle.tables.specs.Cells.{twoAt, fourAt};
-
-pub fn two(lo: u8, hi: u8) -> u16
-    ensures { λ r. ⌜ r ≡ lo + 256 * hi ⌝ }
-{
-    (lo as u16) + 256 * (hi as u16)
-}
-
-pub fn low(x: u16) -> u8
-    ensures { λ r. ⌜ r ≡ x % 256 ⌝ }
-{
-    (x % 256) as u8
-}
-
-pub fn high(x: u16) -> u8
-    ensures { λ r. ⌜ r ≡ x / 256 ⌝ }
-{
-    (x / 256) as u8
-}
 
 // The number of two bytes at a place.
 pub fn two_at(tables: &[u8], at: usize) -> u16

@@ -1,7 +1,7 @@
--- `tables::cells::put_two` meets its contract. Assumes nothing.
+-- `tables::numbers::put_two` meets its contract. Assumes nothing.
 use borrow.Author.Needs.{needs}
-use Rattle.tables.proofs.cells.put_two.Statement.{statement}
-use Rattle.tables.proofs.cells.put_two.Tie as tie
+use Rattle.tables.proofs.numbers.put_two.Statement.{statement}
+use Rattle.tables.proofs.numbers.put_two.Tie as tie
 
 low-requires : tie.Need-low-requires
 low-requires c κs = search needs
