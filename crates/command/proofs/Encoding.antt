@@ -16,6 +16,7 @@ use Rattle.command.specs.Write.{answerOf, writtenTo, Wrote}
 use Rattle.command.specs.declared.CommandWritten.the-variants.{Bytes, TooShort}
 use Rattle.command.specs.declared.CommandRead.the-variants.{Found}
 use Rattle.command.proofs.RoundTrip.{reads-back}
+use Rattle.command.proofs.Numbers.{wrote-25, wrote-0, left-25, left-0}
 
 -- a command's bytes, with anything after them, hold the command
 pub encodes : {command known : Command} {width : ℕ} {bytes : List ℕ} (rest : List ℕ) → command ≡ known → width ≡ length (bytesOf known)
@@ -51,6 +52,8 @@ copied {command} {width} {i} {bytes} {after} before e room end copy =
     let front : after ≡ bytesOf command ++ drop (length (bytesOf command)) before = rw (copy, end, e .same, e .all) in
     record {
       answered = simp (fits, e .all);
+      number25 = wrote-25 command before width (e .all) room;
+      number0 = wrote-0 command before width (e .all);
       written = rw fits front;
       back = λ n same.
           let size : length (bytesOf command) ≡ n = cc (e .all) in
@@ -61,6 +64,12 @@ copied {command} {width} {i} {bytes} {after} before e room end copy =
 pub left : {command : Command} {width : ℕ} {bytes : List ℕ} (before : List ℕ) → Encodes command width bytes → length before < width
     → Wrote command before before TooShort
 unfolding answerOf writtenTo
-left {command} before e room =
+left {command} {width} before e room =
     let short : leb (length (bytesOf command)) (length before) ≡ false = lt-leb _ _ (rw (e .all) at room) in
-    record { answered = simp short; written = simp short; back = λ n same. let z : _≡_ {A = ℕ} 0 1 = cc in absurd (omega arith) }
+    record {
+      answered = simp short;
+      number25 = left-25 command before width (e .all) room;
+      number0 = left-0 command before width (e .all);
+      written = simp short;
+      back = λ n same. let z : _≡_ {A = ℕ} 0 1 = cc in absurd (omega arith);
+    }

@@ -1,4 +1,5 @@
 pub mod Bools
 pub mod Tables
+pub mod Numbers
 pub mod RoundTrip
 pub mod Encoding

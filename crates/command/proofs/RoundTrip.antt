@@ -15,6 +15,7 @@ use Rattle.command.specs.declared.CommandRead.{CommandRead}
 use Rattle.command.specs.declared.CommandRead.the-variants.{Found, Unknown, CutOff}
 use Rattle.command.specs.Encoded.{Fits}
 use Rattle.command.proofs.Tables.{width-most}
+use Rattle.command.proofs.Numbers.{Read, read, read-4, read-5, read-0}
 use Rattle.command.specs.Command.{commandAt, decoded, decodedAt, bytesOf, pair, low, high, widthOf, ReadAs}
 
 two-bytes : (v : ℕ) → v < 65536 → pair (low v) (high v) ≡ v
@@ -139,7 +140,15 @@ writes-again s small at command n found =
     (encoded-again _ _ _ _ (small (at + 1)) (small (at + 2)) (small (at + 3)) (getD s at 0) (rw (f .width) at (f .some)))
 
 pub read-as : (s : List ℕ) → Bytes s → (at : ℕ) (answer : CommandRead) → answer ≡ commandAt s at → ReadAs s at answer
-read-as s small at answer is = record { is = is; again = λ command n found. writes-again s small at command n (sym is ∙ found) }
+read-as s small at answer is =
+    let met : Read s at answer = rw is (read s at) in
+    record {
+      is = is;
+      number4 = read-4 s at met;
+      number5 = read-5 s at met;
+      number0 = read-0 s at met;
+      again = λ command n found. writes-again s small at command n (sym is ∙ found);
+    }
 
 -- past the end there is no command
 pub at-end : (s : List ℕ) (at : ℕ) → length s ≤ at → commandAt s at ≡ CutOff

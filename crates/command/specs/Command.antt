@@ -1,8 +1,9 @@
 -- What the bytes of one command mean: document 01's table of commands, read and written.
 use mathlib.Core.Bool.{cond}
 use mathlib.Core.List.{List, [], _∷_}
+use mathlib.Core.Logic.{_↔_, _⊎_}
 use mathlib.Core.Path.{_≡_}
-use Prim.Native.Nat.{ℕ, _+_, _-_, _*_, _/_, _%_}
+use Prim.Native.Nat.{ℕ, _+_, _-_, _*_, _/_, _%_, _≤_, _<_}
 use lib.Dec.{ltb, leb, eqb}
 use lib.ListN.{getD, length, take, drop}
 use Rattle.command.specs.declared.Command.{Command}
@@ -55,11 +56,11 @@ commandAt s at =
     (cond (ltb (length s - at) (widthOf (getD s at 0))) CutOff
     (Found (decodedAt s at) (widthOf (getD s at 0)))))
 
--- the number of a refused command
-abbrev pub numberOf : CommandRead → ℕ
-numberOf (Found c n) = 0
-numberOf Unknown = 4
-numberOf CutOff = 5
+-- document 01's number for each answer of `read`: 0 where a command is found
+abbrev pub numberOfCommandRead : CommandRead → ℕ
+numberOfCommandRead (Found c n) = 0
+numberOfCommandRead Unknown = 4
+numberOfCommandRead CutOff = 5
 
 -- the two bytes of a value, the low one first
 abbrev pub low : ℕ → ℕ
@@ -84,7 +85,14 @@ bytesOf Suspend = 11 ∷ []
 bytesOf Yield = 12 ∷ []
 bytesOf (Return a) = 13 ∷ a ∷ []
 
--- what `read` gives: what stands there, and "an accepted command's bytes are written again unchanged"
+-- what `read` gives: what stands there, each number exactly under its condition, which does not cite the row of tests, and "an accepted
+-- command's bytes are written again unchanged"
 pub record ReadAs (s : List ℕ) (at : ℕ) (answer : CommandRead) : Type 0 where
   pub is : answer ≡ commandAt s at
+  -- "4: unknown byte"
+  pub number4 : (numberOfCommandRead answer ≡ 4) ↔ ((at < length s) × (widthOf (getD s at 0) ≡ 0))
+  -- "5: operands cut off", "also where there is no byte"
+  pub number5 : (numberOfCommandRead answer ≡ 5) ↔ ((length s ≤ at) ⊎ ((1 ≤ widthOf (getD s at 0)) × (length s < at + widthOf (getD s at 0))))
+  -- "meets only 4 and 5": else the command is found, with the number of its bytes
+  pub number0 : (numberOfCommandRead answer ≡ 0) ↔ (answer ≡ Found (decodedAt s at) (widthOf (getD s at 0)))
   pub again : (command : Command) (n : ℕ) → answer ≡ Found command n → bytesOf command ≡ take n (drop at s)

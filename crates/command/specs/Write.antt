@@ -1,8 +1,9 @@
 -- Writing one command into a lent slice: "written into too short a buffer it meets 25 and writes nothing".
 use mathlib.Core.Bool.{cond}
 use mathlib.Core.List.{List, _++_}
+use mathlib.Core.Logic.{_↔_}
 use mathlib.Core.Path.{_≡_}
-use Prim.Native.Nat.{ℕ}
+use Prim.Native.Nat.{ℕ, _<_}
 use lib.Dec.{leb}
 use lib.ListN.{length, drop}
 use Rattle.command.specs.declared.Command.{Command}
@@ -11,10 +12,10 @@ use Rattle.command.specs.declared.CommandWritten.the-variants.{Bytes, To
 use Rattle.command.specs.declared.CommandRead.the-variants.{Found}
 use Rattle.command.specs.Command.{bytesOf, commandAt}
 
--- the number of a command that was not written
-abbrev pub numberOf : CommandWritten → ℕ
-numberOf (Bytes n) = 0
-numberOf TooShort = 25
+-- document 01's number for each answer of `write`: 0 where the command is written
+abbrev pub numberOfCommandWritten : CommandWritten → ℕ
+numberOfCommandWritten (Bytes n) = 0
+numberOfCommandWritten TooShort = 25
 
 -- what writing a command into a buffer answers
 unfoldable pub answerOf : Command → List ℕ → CommandWritten
@@ -25,8 +26,12 @@ unfoldable pub writtenTo : Command → List ℕ → List ℕ
 writtenTo command buffer =
     cond (leb (length (bytesOf command)) (length buffer)) (bytesOf command ++ drop (length (bytesOf command)) buffer) buffer
 
--- what `write` gives: the answer, the bytes, and "a written command reads back as itself"
+-- what `write` gives: the answer, each number exactly under its condition, the bytes, and "a written command reads back as itself"
 pub record Wrote (command : Command) (before after : List ℕ) (answer : CommandWritten) : Type 0 where
   pub answered : answer ≡ answerOf command before
+  -- "written into too short a buffer it meets 25"
+  pub number25 : (numberOfCommandWritten answer ≡ 25) ↔ (length before < length (bytesOf command))
+  -- else the number of its bytes is given
+  pub number0 : (numberOfCommandWritten answer ≡ 0) ↔ (answer ≡ Bytes (length (bytesOf command)))
   pub written : after ≡ writtenTo command before
   pub back : (n : ℕ) → answer ≡ Bytes n → commandAt after 0 ≡ Found command n
