@@ -1,5 +1,5 @@
 -- What a window allows, how a fork cuts it and how a join gives it back: document 01, "Memory and windows".
-use mathlib.Core.Bool.{Bool, true, false, cond, _&&_, _||_}
+use mathlib.Core.Bool.{Bool, cond, _&&_, _||_}
 use Prim.Native.Nat.{ℕ, _≤_}
 use lib.Dec.{ltb, leb}
 use Rattle.window.specs.declared.Window.{Window}
@@ -33,16 +33,6 @@ cutAt w e = cond (leb (w .mark) e && leb e (w .hi)) (Parts (childOf w e) (restOf
 -- "A join puts the mark back to lo"
 abbrev pub rejoined : Window → Window
 rejoined w = record { lo = w .lo; mark = w .lo; hi = w .hi }
-
--- "10: address not allowed": of a test by mayLoad or mayStore
-abbrev pub numberOfAccess : Bool → ℕ
-numberOfAccess true = 0
-numberOfAccess false = 10
-
--- "11: cut out of range"
-abbrev pub numberOfCut : Cut → ℕ
-numberOfCut (Parts child rest) = 0
-numberOfCut OutOfRange = 11
 
 -- a window of a sound state: within the memory words, the mark between its ends
 pub record Fits (w : Window) : Type 0 where

@@ -1,7 +1,8 @@
 // A thread's window on memory: which addresses it may load and store, the part that a fork cuts off for the child, and what a join
 // gives back.
 ghost use mathlib.Core.Path.{_≡_};
-ghost use Rattle.window.specs.Rights.{rootWindow, mayLoad, mayStore, cutAt, rejoined};
+ghost use Rattle.window.specs.Rights.{rootWindow, rejoined};
+ghost use Rattle.window.specs.Numbers.{LoadAnswer, StoreAnswer, CutAnswer};
 
 // Addresses from lo up to but not including hi, of which those below the mark are cut off.
 pub struct Window {
@@ -30,7 +31,7 @@ impl Window {
 
     // Parameter words may always be loaded.
     pub fn may_load(self, address: u32) -> bool
-        ensures { λ r. ⌜ r ≡ mayLoad self address ⌝ }
+        ensures { λ r. ⌜ LoadAnswer self address r ⌝ }
     {
         if address < 32 {
             return true;
@@ -40,7 +41,7 @@ impl Window {
 
     // A parameter word is never stored, whatever the mark.
     pub fn may_store(self, address: u32) -> bool
-        ensures { λ r. ⌜ r ≡ mayStore self address ⌝ }
+        ensures { λ r. ⌜ StoreAnswer self address r ⌝ }
     {
         if address < 32 {
             return false;
@@ -53,7 +54,7 @@ impl Window {
 
     // A cut at e, between the mark and hi, both included.
     pub fn cut(self, e: u32) -> Cut
-        ensures { λ r. ⌜ r ≡ cutAt self e ⌝ }
+        ensures { λ r. ⌜ CutAnswer self e r ⌝ }
     {
         if e < (self.mark as u32) {
             return Cut::OutOfRange;

@@ -30,7 +30,7 @@ returns-3 : tie.Need-returns-3
 unfolding unlessPending anyPending provided
 returns-3 c =
     simp (
-      sym (c .before .may-load .ensures) ∙ c .if3 .taken,
+      sym (c .before .may-load .ensures .is) ∙ c .if3 .taken,
       sym (c .before .before .before .is-pending2 .ensures) ∙ c .before .before .if2 .left,
       sym (c .before .before .before .before .before .is-pending .ensures) ∙ c .before .before .before .before .if1 .left,
     )
@@ -39,7 +39,7 @@ returns-4 : tie.Need-returns-4
 unfolding unlessPending anyPending provided
 returns-4 c =
     simp (
-      sym (c .before .may-load .ensures) ∙ c .if3 .left,
+      sym (c .before .may-load .ensures .is) ∙ c .if3 .left,
       sym (c .before .before .before .is-pending2 .ensures) ∙ c .before .before .if2 .left,
       sym (c .before .before .before .before .before .is-pending .ensures) ∙ c .before .before .before .before .if1 .left,
     )

@@ -15,10 +15,10 @@ enum-told-2 : tie.Need-enum-told-2
 enum-told-2 c = search needs
 
 returns : tie.Need-returns
-returns c = ap isCut (sym (c .enum-told .given .1) ∙ c .before .before .cut .ensures)
+returns c = ap isCut (sym (c .enum-told .given .1) ∙ c .before .before .cut .ensures .is)
 
 returns-2 : tie.Need-returns-2
-returns-2 c = ap isCut (sym (c .enum-told2 .given .1) ∙ c .before .before .cut .ensures)
+returns-2 c = ap isCut (sym (c .enum-told2 .given .1) ∙ c .before .before .cut .ensures .is)
 
 pub may-cut-spec : {M : Type 1} → statement M
 may-cut-spec = tie.close (tie.spec cut-requires enum-told enum-told-2 returns returns-2)

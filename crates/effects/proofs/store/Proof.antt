@@ -36,7 +36,7 @@ returns-3 : tie.Need-returns-3
 unfolding unlessPending anyPending provided
 returns-3 c =
     simp (
-      sym (rw (c .before .before .before .slot .ensures) at (c .before .before .may-store .ensures)) ∙ c .before .if3 .taken,
+      sym (rw (c .before .before .before .slot .ensures) at (c .before .before .may-store .ensures .is)) ∙ c .before .if3 .taken,
       sym (c .before .before .before .before .before .is-pending2 .ensures) ∙ c .before .before .before .before .if2 .left,
       sym (c .before .before .before .before .before .before .before .is-pending .ensures) ∙ c .before .before .before .before .before .before .if1 .left,
       c .before .before .before .slot .ensures,
@@ -47,7 +47,7 @@ returns-4 : tie.Need-returns-4
 unfolding unlessPending anyPending provided
 returns-4 c =
     simp (
-      sym (rw (c .before .before .slot .ensures) at (c .before .may-store .ensures)) ∙ c .if3 .left,
+      sym (rw (c .before .before .slot .ensures) at (c .before .may-store .ensures .is)) ∙ c .if3 .left,
       sym (c .before .before .before .before .is-pending2 .ensures) ∙ c .before .before .before .if2 .left,
       sym (c .before .before .before .before .before .before .is-pending .ensures) ∙ c .before .before .before .before .before .if1 .left,
     )

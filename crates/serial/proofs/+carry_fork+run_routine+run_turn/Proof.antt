@@ -168,7 +168,7 @@ module _ (t : ℕ) where
   carry-fork-enum-told c = search needs
 
   carry-fork-returns : fork.Need-returns (carry-fork-calls t) (carry-fork-at t) carry-fork.Post
-  carry-fork-returns c x = absurd (fork-cuts (x .come .far) (x .fork) (sym (c .before .before .cut .ensures) ∙ c .enum-told .given .1))
+  carry-fork-returns c x = absurd (fork-cuts (x .come .far) (x .fork) (sym (c .before .before .cut .ensures .is) ∙ c .enum-told .given .1))
 
   carry-fork-returns-2 : fork.Need-returns-2 (carry-fork-calls t) (carry-fork-at t) carry-fork.Post
   carry-fork-returns-2 c x = (omega arith, fork-deep (x .come .far) (x .fork) (omega (arith, c .if1 .taken)))
@@ -227,14 +227,14 @@ module _ (t : ℕ) where
       record {
         allowance = x .come .allowance;
         whole = _;
-        far = child-far (x .come .far) (x .fork) (c .before .before .before .before .before .before .before .before .before .before .before .before .before .cut .ensures) (c .before .before .before .before .before .before .before .before .before .before .before .child .given .1) (given k) refl (shallow k) (deeper k);
+        far = child-far (x .come .far) (x .fork) (c .before .before .before .before .before .before .before .before .before .before .before .before .before .cut .ensures .is) (c .before .before .before .before .before .before .before .before .before .before .before .child .given .1) (given k) refl (shallow k) (deeper k);
       }
 
   carry-fork-run-routine-requires : fork.Need-run-routine-requires (carry-fork-calls t) (carry-fork-at t) carry-fork.Post
   carry-fork-run-routine-requires c κs =
       let k = counted c in
       let x = begun k .pre .1 .0 in
-      let few = child-few (x .come .far) (x .fork) (c .before .before .before .before .before .before .before .before .before .before .before .before .before .cut .ensures) (c .before .before .before .before .before .before .before .before .before .before .before .child .given .1) (given k) refl (shallow k) (deeper k) in
+      let few = child-few (x .come .far) (x .fork) (c .before .before .before .before .before .before .before .before .before .before .before .before .before .cut .ensures .is) (c .before .before .before .before .before .before .before .before .before .before .before .child .given .1) (given k) refl (shallow k) (deeper k) in
       (omega (arith, begun k .pre .0, shallow k), (child c x, omega (arith, begun k .pre .1 .1), few, begun k .pre .1 .2))
 
   carry-fork-enum-known-ending : fork.Need-enum-known-ending (carry-fork-calls t) (carry-fork-at t) carry-fork.Post
@@ -254,7 +254,7 @@ module _ (t : ℕ) where
       let called = c .before .before .before .before .before .before .before .before in
       let y = called .before in
       let k = counted y in
-      fork-returns (x .come .far) (x .fork) (y .before .before .before .before .before .before .before .before .before .before .before .before .before .cut .ensures) (y .before .before .before .before .before .before .before .before .before .before .before .child .given .1) (given k) refl (shallow k) (deeper k) (called .run-routine .ensures (child y x)) (c .before .before .before .before .ending .given .1) (called .run-routine .kept .1 .1 .1 .1 .0 ∙ x .come .far .memory) (c .before .put .ensures)
+      fork-returns (x .come .far) (x .fork) (y .before .before .before .before .before .before .before .before .before .before .before .before .before .cut .ensures .is) (y .before .before .before .before .before .before .before .before .before .before .before .child .given .1) (given k) refl (shallow k) (deeper k) (called .run-routine .ensures (child y x)) (c .before .before .before .before .ending .given .1) (called .run-routine .kept .1 .1 .1 .1 .0 ∙ x .come .far .memory) (c .before .put .ensures)
 
   carry-fork-enum-known-ending-2 : fork.Need-enum-known-ending-2 (carry-fork-calls t) (carry-fork-at t) carry-fork.Post
   carry-fork-enum-known-ending-2 c = search needs
@@ -267,7 +267,7 @@ module _ (t : ℕ) where
       let called = c .before .before .before .before .before in
       let y = called .before in
       let k = counted y in
-      fork-stops (x .come .far) (x .fork) (y .before .before .before .before .before .before .before .before .before .before .before .before .before .cut .ensures) (y .before .before .before .before .before .before .before .before .before .before .before .child .given .1) (given k) refl (shallow k) (deeper k) (called .run-routine .ensures (child y x)) (c .before .ending2 .given .1)
+      fork-stops (x .come .far) (x .fork) (y .before .before .before .before .before .before .before .before .before .before .before .before .before .cut .ensures .is) (y .before .before .before .before .before .before .before .before .before .before .before .child .given .1) (given k) refl (shallow k) (deeper k) (called .run-routine .ensures (child y x)) (c .before .ending2 .given .1)
 
   -- a turn: where it starts, its row run, the fork that ended it to be carried out
   abbrev Turn-start : Type 0

@@ -1,6 +1,7 @@
 -- `Window::cut` meets its contract: each answer by the tests that led to it. Assumes nothing.
 use borrow.Author.Tests.{lt-leb, le-leb}
 use Rattle.window.specs.Rights.{cutAt}
+use Rattle.window.proofs.Numbers.{cut-as}
 use borrow.Author.Needs.{needs}
 use Rattle.window.proofs.Window.cut.Statement.{statement}
 use Rattle.window.proofs.Window.cut.Tie as tie
@@ -10,21 +11,21 @@ cast-if1 c = search needs
 
 returns : tie.Need-returns
 unfolding cutAt
-returns c = simp (lt-leb _ _ (c .if1 .taken))
+returns c = cut-as _ _ _ (simp (lt-leb _ _ (c .if1 .taken)))
 
 cast-if2 : tie.Need-cast-if2
 cast-if2 c = search needs
 
 returns-2 : tie.Need-returns-2
 unfolding cutAt
-returns-2 c = simp (le-leb _ _ (c .before .before .if1 .left), lt-leb _ _ (c .if2 .taken))
+returns-2 c = cut-as _ _ _ (simp (le-leb _ _ (c .before .before .if1 .left), lt-leb _ _ (c .if2 .taken)))
 
 cast-end : tie.Need-cast-end
 cast-end c = search needs
 
 returns-3 : tie.Need-returns-3
 unfolding cutAt
-returns-3 c = simp (le-leb _ _ (c .before .before .if1 .left), le-leb _ _ (c .if2 .left))
+returns-3 c = cut-as _ _ _ (simp (le-leb _ _ (c .before .before .if1 .left), le-leb _ _ (c .if2 .left)))
 
 pub cut-spec : {M : Type 1} → statement M
 cut-spec = tie.close (tie.spec cast-if1 returns cast-if2 returns-2 cast-end returns-3)

@@ -1,0 +1,41 @@
+-- Document 01's number for each answer of a window, exactly under its condition; no condition cites the tests.
+use mathlib.Core.Bool.{Bool, true, false}
+use mathlib.Core.Logic.{_↔_, _⊎_}
+use mathlib.Core.Path.{_≡_}
+use Prim.Native.Nat.{ℕ, _≤_, _<_}
+use Rattle.window.specs.declared.Window.{Window}
+use Rattle.window.specs.declared.Cut.{Cut}
+use Rattle.window.specs.declared.Cut.the-variants.{Parts, OutOfRange}
+use Rattle.window.specs.Rights.{mayLoad, mayStore, cutAt, childOf, restOf}
+
+-- "10: address not allowed": of a load or a store
+abbrev pub numberOfAccess : Bool → ℕ
+numberOfAccess true = 0
+numberOfAccess false = 10
+
+-- "11: cut out of range"
+abbrev pub numberOfCut : Cut → ℕ
+numberOfCut (Parts child rest) = 0
+numberOfCut OutOfRange = 11
+
+-- what `may_load` gives
+pub record LoadAnswer (w : Window) (address : ℕ) (r : Bool) : Type 0 where
+  pub is : r ≡ mayLoad w address
+  -- "It may load parameter words, and load and store from mark up to hi, nothing else"
+  pub number10 : (numberOfAccess r ≡ 10) ↔ ((32 ≤ address) × ((address < w .mark) ⊎ (w .hi ≤ address)))
+  pub number0 : (numberOfAccess r ≡ 0) ↔ (r ≡ true)
+
+-- what `may_store` gives
+pub record StoreAnswer (w : Window) (address : ℕ) (r : Bool) : Type 0 where
+  pub is : r ≡ mayStore w address
+  -- "Addresses 0 to 31 are parameter words, lent for reading"; "store from mark up to hi, nothing else"
+  pub number10 : (numberOfAccess r ≡ 10) ↔ ((address < 32) ⊎ (address < w .mark) ⊎ (w .hi ≤ address))
+  pub number0 : (numberOfAccess r ≡ 0) ↔ (r ≡ true)
+
+-- what `cut` gives
+pub record CutAnswer (w : Window) (e : ℕ) (r : Cut) : Type 0 where
+  pub is : r ≡ cutAt w e
+  -- "A fork whose cut is e needs mark ≤ e ≤ hi"
+  pub number11 : (numberOfCut r ≡ 11) ↔ ((e < w .mark) ⊎ (w .hi < e))
+  -- "The child's window runs from mark to e, and the mark becomes e"
+  pub number0 : (numberOfCut r ≡ 0) ↔ (r ≡ Parts (childOf w e) (restOf w e))
