@@ -5,9 +5,9 @@ use Prim.Native.Nat.{ℕ, zero, suc, _+_, _*_, _<_}
 use native.Mathlib.Nat.{add-zero}
 use native.Mathlib.Numerals.{add-one}
 use native.Mathlib.Omega.{arith}
-use lib.ListN.{length, set, take}
-use lib.Seq.{take-suc-set}
-use Rattle.reading.specs.Reading.{wordAt, wordsFrom}
+use lib.ListN.{length, getD, set, take, drop}
+use lib.Seq.{take-at, drop-cons, set-at, append-snoc}
+use Rattle.reading.specs.Reading.{wordAt, wordsFrom, readOver}
 
 words-snoc : (s : List ℕ) (at n : ℕ) → wordsFrom s at (suc n) ≡ wordsFrom s at n ++ (wordAt s (at + 4 * n) ∷ [])
 unfolding wordsFrom
@@ -16,14 +16,33 @@ words-snoc s at (suc n) =
     let e : at + 4 * suc n ≡ at + 4 + 4 * n = omega arith in
     rw (words-snoc s (at + 4) n, e)
 
--- one more word, stored after those read
-pub one-more-word : (s : List ℕ) (at i : ℕ) (words : List ℕ) (w : ℕ) → i < length words → take i words ≡ wordsFrom s at i → w ≡ wordAt s (at + 4 * i)
-    → take (i + 1) (set words i w) ≡ wordsFrom s at (i + 1)
-one-more-word s at i words w h p q = rw (add-one i, words-snoc s at i, take-suc-set words i w h, p, q)
-
-pub no-words : (s : List ℕ) (at : ℕ) → wordsFrom s at 0 ≡ []
+words-many : (s : List ℕ) (at n : ℕ) → length (wordsFrom s at n) ≡ n
 unfolding wordsFrom
-no-words s at = refl
+words-many s at zero = refl
+words-many s at (suc n) = rw (words-many s (at + 4) n)
 
-pub all-words : (s : List ℕ) (at i n : ℕ) (words : List ℕ) → i ≡ n → take i words ≡ wordsFrom s at i → take n words ≡ wordsFrom s at n
-all-words s at i n words h p = rw (← h) p
+-- no word is read yet
+pub no-words : (s : List ℕ) (at : ℕ) (before : List ℕ) → before ≡ readOver s at 0 before
+unfolding wordsFrom
+no-words s at before = refl
+
+-- one more word, stored after those read
+pub one-more-word : (s : List ℕ) (at i : ℕ) (before words : List ℕ) (w : ℕ) → i < length before → words ≡ readOver s at i before
+    → w ≡ wordAt s (at + 4 * i) → set words i w ≡ readOver s at (i + 1) before
+one-more-word s at i before words w h p q =
+    rw (
+      p,
+      q,
+      add-one i,
+      words-snoc s at i,
+      drop-cons before i 0 h,
+      set-at (wordsFrom s at i) (getD before i 0) (drop (suc i) before) (wordAt s (at + 4 * i)) i (words-many s at i),
+      append-snoc,
+    )
+
+pub all-words : (s : List ℕ) (at i n : ℕ) (before words : List ℕ) → i ≡ n → words ≡ readOver s at i before → words ≡ readOver s at n before
+all-words s at i n before words h p = rw (← h) p
+
+-- the words read are the first
+pub first-words : (s : List ℕ) (at n : ℕ) (before words : List ℕ) → words ≡ readOver s at n before → take n words ≡ wordsFrom s at n
+first-words s at n before words p = rw p (take-at (wordsFrom s at n) (drop n before) n (words-many s at n))

@@ -1,7 +1,7 @@
 -- What the print program's input says: "core count, argument count (one byte each), arguments, allowance (four bytes each), image length
 -- (two bytes), image, schedule". Bytes past the input's end read as 0.
 use mathlib.Core.Bool.{Bool}
-use mathlib.Core.List.{List, [], _∷_}
+use mathlib.Core.List.{List, [], _∷_, _++_}
 use Prim.Native.Nat.{ℕ, zero, suc, _+_, _*_}
 use lib.Dec.{ltb}
 use lib.ListN.{length, getD, drop}
@@ -23,6 +23,10 @@ wordAt s at = wordOf (getD s at 0) (getD s (at + 1) 0) (getD s (at + 2) 0) (getD
 unfoldable pub wordsFrom : List ℕ → ℕ → ℕ → List ℕ
 wordsFrom s at zero = []
 wordsFrom s at (suc n) = wordAt s at ∷ wordsFrom s (at + 4) n
+
+-- other words with these at their front: those past them stay
+abbrev pub readOver : List ℕ → ℕ → ℕ → List ℕ → List ℕ
+readOver s at n before = wordsFrom s at n ++ drop n before
 
 abbrev pub coreCount : List ℕ → ℕ
 coreCount s = getD s 0 0

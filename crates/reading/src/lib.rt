@@ -4,7 +4,7 @@ use command::byte_at;
 ghost use mathlib.Core.Path.{_≡_};
 ghost use Prim.Native.Nat.{_<_, _≤_};
 ghost use lib.ListN.{length, take};
-ghost use Rattle.reading.specs.Reading.{pairOf, wordOf, pairAt, wordAt, wordsFrom, coreCount, argumentCount, allowanceAt, imageAt, scheduleAt};
+ghost use Rattle.reading.specs.Reading.{pairOf, wordOf, pairAt, wordAt, wordsFrom, readOver, coreCount, argumentCount, allowanceAt, imageAt, scheduleAt};
 
 fn wide(byte: u8) -> usize
     ensures { λ r. ⌜ r ≡ byte ⌝ }
@@ -43,10 +43,10 @@ fn word_at(bytes: &[u8], at: usize) -> u32
     )
 }
 
-// As many words from a position on, to the front of others.
+// As many words from a position on, to the front of others, which stay past them.
 fn read_words(bytes: &[u8], at: usize, count: usize, words: &mut [u32])
     requires { ⌜ (at < 1000) × (count ≤ 255) × (count ≤ length (now words)) ⌝ }
-    ensures { λ _. ⌜ take count (now (words .exit)) ≡ wordsFrom (now (bytes .entry)) at count ⌝ }
+    ensures { λ _. ⌜ now (words .exit) ≡ readOver (now (bytes .entry)) at count (now (words .entry)) ⌝ }
 {
     let mut i: usize = 0;
     while i < count {
@@ -67,9 +67,9 @@ pub fn argument_count(input: &[u8]) -> usize
     wide(byte_at(input, 1))
 }
 
-// The arguments, to the front of words; the words stay 255.
+// The arguments, to the front of words; the words stay 255, and those past the arguments stay as they were.
 pub fn read_arguments(input: &[u8], words: &mut [u32; 255])
-    ensures { λ _. ⌜ (take (argumentCount (now (input .entry))) (now (words .exit)) ≡ wordsFrom (now (input .entry)) 2 (argumentCount (now (input .entry)))) × (length (now (words .exit)) ≡ 255) ⌝ }
+    ensures { λ _. ⌜ (take (argumentCount (now (input .entry))) (now (words .exit)) ≡ wordsFrom (now (input .entry)) 2 (argumentCount (now (input .entry)))) × (length (now (words .exit)) ≡ 255) × (now (words .exit) ≡ readOver (now (input .entry)) 2 (argumentCount (now (input .entry))) (now (words .entry))) ⌝ }
 {
     read_words(input, 2, argument_count(input), words)
 }

@@ -1,6 +1,6 @@
 -- `reading::read_arguments` meets its contract. Assumes nothing.
 use borrow.Author.Needs.{needs}
-use Rattle.reading.proofs.Words.{all-words}
+use Rattle.reading.proofs.Words.{all-words, first-words}
 use Rattle.reading.proofs.read_arguments.Statement.{statement}
 use Rattle.reading.proofs.read_arguments.Tie as tie
 
@@ -11,7 +11,9 @@ read-words-requires : tie.Need-read-words-requires
 read-words-requires c κs = search needs
 
 returns : tie.Need-returns
-returns c = (all-words _ _ _ _ _ (c .before .before .argument-count .ensures .0) (c .read-words .ensures), search needs)
+returns c =
+    let over = all-words _ _ _ _ _ _ (c .before .before .argument-count .ensures .0) (c .read-words .ensures) in
+    (first-words _ _ _ _ _ over, search needs, over)
 
 pub read-arguments-spec : {M : Type 1} → statement M
 read-arguments-spec = tie.close (tie.spec argument-count-requires read-words-requires returns)
