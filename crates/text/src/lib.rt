@@ -88,7 +88,8 @@ pub fn put_three(output: &mut [u8], at: u32, word: &[u8], x: u32, y: u32, z: u32
     put(output, d, b'\n')
 }
 
-fn wide(x: u8) -> u32
+// A byte as a number that is written.
+pub fn wide(x: u8) -> u32
     ensures { λ r. ⌜ r ≡ x ⌝ }
 {
     x as u32

@@ -3,16 +3,11 @@ use run::RunAnswer;
 use text::put_one;
 use text::put_three;
 use text::put_two;
+use text::wide;
 ghost use mathlib.Core.Path.{_≡_};
 ghost use Prim.Native.Nat.{_≤_, _+_};
 ghost use Rattle.text.specs.Buffer.{Put};
 ghost use Rattle.transcript.specs.LastLine.{lastLine};
-
-fn wide(x: u8) -> u32
-    ensures { λ r. ⌜ r ≡ x ⌝ }
-{
-    x as u32
-}
 
 fn wider(x: u16) -> u32
     ensures { λ r. ⌜ r ≡ x ⌝ }
