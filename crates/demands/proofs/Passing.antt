@@ -14,11 +14,11 @@ use Rattle.image.specs.declared.Verdict.{Verdict}
 use Rattle.image.specs.declared.Verdict.the-variants.{Accepted, Refused}
 use Rattle.image.specs.declared.Refusal.{Refusal}
 use Rattle.image.specs.declared.Refusal.the-variants.{BadLength, BadCount, BadRow, UnknownByte, OperandsCutOff, OutOfRange, BadEnd, BadTarget}
-use Rattle.image.specs.Image.{imageVerdict, numberIn, numberOf as refusalNumber}
+use Rattle.image.specs.Image.{imageVerdict, numberIn, numberOfRefusal}
 use Rattle.image.proofs.Accepted.{accepted}
 use Rattle.image.proofs.Places.{starts-at}
 use Rattle.schedule.specs.declared.Entry.{Entry}
-use Rattle.schedule.specs.Meaning.{Schedule, entries, malformed, scheduleOf, numberOf}
+use Rattle.schedule.specs.Meaning.{Schedule, entries, malformed, scheduleOf, numberOfSchedule}
 use Rattle.rules.specs.Sound.{GoodJob}
 use Rattle.demands.specs.Input.{Input, jobIn, badCores, badArguments, badWords, entryCount, refusalOf}
 use Rattle.demands.specs.Demands.{Takes}
@@ -39,7 +39,7 @@ passed-number n rest e = go (eqb n 0) refl e
 same : (a b : ℕ) → not (eqb a b) ≡ false → a ≡ b
 same a b e = eqb-true a b (not-false (eqb a b) e)
 
-refusal-some : (r : Refusal) → 1 ≤ refusalNumber r
+refusal-some : (r : Refusal) → 1 ≤ numberOfRefusal r
 refusal-some BadLength = omega arith
 refusal-some BadCount = omega arith
 refusal-some BadRow = omega arith
@@ -69,7 +69,7 @@ pub record Room (schedule log : List ℕ) : Type 0 where
   pub means : scheduleOf schedule ≡ entries all
   pub room : length all ≤ length log
 
-room-by : (schedule log : List ℕ) (x : Schedule) → scheduleOf schedule ≡ x → numberOf x ≡ 0 → ltb (length log) (entryCount x) ≡ false → Room schedule log
+room-by : (schedule log : List ℕ) (x : Schedule) → scheduleOf schedule ≡ x → numberOfSchedule x ≡ 0 → ltb (length log) (entryCount x) ≡ false → Room schedule log
 room-by schedule log (entries es) h e l = record { all = es; means = h; room = ltb-false (length log) (length es) l }
 room-by schedule log malformed h e l = absurd (omega (arith, e))
 
@@ -84,7 +84,7 @@ module _ (i : Input) (schedule log : List ℕ) (passes : refusalOf i schedule lo
   fourth = cond lastTest 25 0
 
   abbrev third : ℕ
-  third = cond (not (eqb (numberOf (scheduleOf schedule)) 0)) 13 fourth
+  third = cond (not (eqb (numberOfSchedule (scheduleOf schedule)) 0)) 13 fourth
 
   first : (badCores i ≡ false) × (cond (not (eqb imageNumber 0)) imageNumber (cond (badArguments i) 24 third) ≡ 0)
   unfolding refusalOf
@@ -96,8 +96,8 @@ module _ (i : Input) (schedule log : List ℕ) (passes : refusalOf i schedule lo
   arguments-right : (badArguments i ≡ false) × (third ≡ 0)
   arguments-right = passed (badArguments i) 24 third (omega arith) (second .1)
 
-  schedule-right : (not (eqb (numberOf (scheduleOf schedule)) 0) ≡ false) × (fourth ≡ 0)
-  schedule-right = passed (not (eqb (numberOf (scheduleOf schedule)) 0)) 13 fourth (omega arith) (arguments-right .1)
+  schedule-right : (not (eqb (numberOfSchedule (scheduleOf schedule)) 0) ≡ false) × (fourth ≡ 0)
+  schedule-right = passed (not (eqb (numberOfSchedule (scheduleOf schedule)) 0)) 13 fourth (omega arith) (arguments-right .1)
 
   words-right : (badWords i ≡ false) × (ltb (length log) (entryCount (scheduleOf schedule)) ≡ false)
   words-right = neither (badWords i) _ (passed lastTest 25 0 (omega arith) (schedule-right .1) .0)

@@ -14,7 +14,7 @@ use Rattle.command.specs.declared.Command.the-variants.{Set, Add, Subtract, Loa
 use Rattle.image.specs.declared.Verdict.{Verdict}
 use Rattle.image.specs.declared.Verdict.the-variants.{Accepted, Refused}
 use Rattle.image.specs.Layout.{argumentsOf}
-use Rattle.image.specs.Image.{imageVerdict, numberIn, numberOf as refusalNumber}
+use Rattle.image.specs.Image.{imageVerdict, numberIn, numberOfRefusal}
 use Rattle.window.specs.Rights.{rootWindow, childOf}
 use Rattle.stacklets.specs.Frames.{slotOf}
 use Rattle.thread.specs.declared.Effect.{Effect}
@@ -216,7 +216,7 @@ module _ (i : Input) where
     met-image Accepted h = met-arguments h (ℕ-discrete (length (i .arguments)) (argumentsOf (i .image) 0))
     met-image (Refused x) h =
         let z = refusal-range x in
-        let k : n ≡ refusalNumber x = is (refusalNumber x) (stops-image (refusalNumber x) (z .0) (ap numberIn h)) in
+        let k : n ≡ numberOfRefusal x = is (numberOfRefusal x) (stops-image (numberOfRefusal x) (z .0) (ap numberIn h)) in
         byImage (omega (arith, z .0)) (omega (arith, z .1)) (ap numberIn h ∙ sym k)
 
     met : Met n

@@ -13,16 +13,16 @@ use Rattle.image.specs.declared.Verdict.the-variants.{Accepted, Refused}
 use Rattle.image.specs.declared.Refusal.{Refusal}
 use Rattle.image.specs.declared.Refusal.the-variants.{BadLength, BadCount, BadRow, UnknownByte, OperandsCutOff, OutOfRange, BadEnd, BadTarget}
 use Rattle.image.specs.Layout.{argumentsOf}
-use Rattle.image.specs.Image.{imageVerdict, numberIn, numberOf as refusalNumber}
+use Rattle.image.specs.Image.{imageVerdict, numberIn, numberOfRefusal}
 use Rattle.schedule.specs.declared.Entry.{Entry}
-use Rattle.schedule.specs.Format.{bytesOf}
-use Rattle.schedule.specs.Meaning.{Schedule, entries, malformed, scheduleOf, numberOf}
-use Rattle.schedule.proofs.Following.{allBytes, accepted, accepts-short}
+use Rattle.schedule.specs.Format.{bytesOfEntries}
+use Rattle.schedule.specs.Meaning.{Schedule, entries, malformed, scheduleOf, numberOfSchedule, IsSchedule, WellFormed}
+use Rattle.schedule.proofs.Forming.{means as schedule-means, malforms as schedule-malforms}
 use Rattle.demands.specs.Input.{Input, badCores, entryCount, refusalOf}
-use Rattle.demands.specs.WholeRun.{GoodCores, GoodImage, GoodArguments, RightWords, WrongWords, bytesOfEntries, IsSchedule, WellFormed, RunNumbers, SchedulerNumbers}
+use Rattle.demands.specs.WholeRun.{GoodCores, GoodImage, GoodArguments, RightWords, WrongWords, RunNumbers, SchedulerNumbers}
 
 -- the image's author's numbers
-pub refusal-range : (r : Refusal) → (1 ≤ refusalNumber r) × (refusalNumber r ≤ 8)
+pub refusal-range : (r : Refusal) → (1 ≤ numberOfRefusal r) × (numberOfRefusal r ≤ 8)
 refusal-range BadLength = (omega arith, omega arith)
 refusal-range BadCount = (omega arith, omega arith)
 refusal-range BadRow = (omega arith, omega arith)
@@ -32,40 +32,13 @@ refusal-range OutOfRange = (omega arith, omega arith)
 refusal-range BadEnd = (omega arith, omega arith)
 refusal-range BadTarget = (omega arith, omega arith)
 
--- SCHEDULES. A schedule that is read as entries is their bytes
-bytes-all : (es : List Entry) → bytesOfEntries es ≡ allBytes es
-unfolding bytesOfEntries allBytes
-bytes-all [] = refl
-bytes-all (e ∷ es) = ap (λ (l : List ℕ). bytesOf e ++ l) (bytes-all es)
-
+-- the empty schedule
 no-bytes : bytesOfEntries [] ≡ []
 unfolding bytesOfEntries
 no-bytes = refl
 
 nothing : IsSchedule [] []
 nothing = record { bytes = sym no-bytes; short = omega arith }
-
-module _ (schedule : List ℕ) where
-  written : (es : List Entry) → scheduleOf schedule ≡ entries es → IsSchedule schedule es
-  written es h = let a = accepted schedule es h in record { bytes = a .bytes ∙ sym (bytes-all es); short = a .short }
-
-  read : (es : List Entry) → IsSchedule schedule es → scheduleOf schedule ≡ entries es
-  read es w =
-      let same : schedule ≡ allBytes es = w .bytes ∙ bytes-all es in
-      ap scheduleOf same ∙ accepts-short es (subst (λ (s : List ℕ). length s ≤ 32768) same (w .short))
-
-  never-both : (es : List Entry) → scheduleOf schedule ≡ malformed → scheduleOf schedule ≡ entries es → ⊥
-  never-both es p q = let z : _≡_ {A = ℕ} 0 1 = cc in omega arith
-
-  ill-formed : scheduleOf schedule ≡ malformed → ¬ (WellFormed schedule)
-  ill-formed h = λ (es, w). never-both es h (read es w)
-
-  unread : ¬ (WellFormed schedule) → scheduleOf schedule ≡ malformed
-  unread n = go (scheduleOf schedule) refl
-    where
-      go : (x : Schedule) → scheduleOf schedule ≡ x → scheduleOf schedule ≡ malformed
-      go (entries es) h = absurd (n (es, written es h))
-      go malformed h = h
 
 -- A ROW OF TESTS. The last, 25's, of whether the words are as many as they must be, and of whether the log is short
 abbrev last : Bool → Bool → Bool → ℕ
@@ -99,7 +72,7 @@ module _ (i : Input) (schedule log : List ℕ) where
 
   -- what follows 24's test, the image's and 23's
   abbrev fromSchedule : Schedule → Bool → Bool → ℕ
-  fromSchedule x p m = cond (not (eqb (numberOf x) 0)) 13 (last p m (ltb (length log) (entryCount x)))
+  fromSchedule x p m = cond (not (eqb (numberOfSchedule x) 0)) 13 (last p m (ltb (length log) (entryCount x)))
 
   abbrev fromArguments : Bool → Schedule → Bool → Bool → ℕ
   fromArguments a x p m = cond (not a) 24 (fromSchedule x p m)
@@ -137,8 +110,8 @@ module _ (i : Input) (schedule log : List ℕ) where
       byNone refl g a r es w (eqb-true (length (i .parameters)) 32 e, eqb-true (length (i .memory)) 992 f) (ltb-false (length log) (length es) h)
 
   met-schedule : GoodCores i → GoodImage i → GoodArguments i → (x : Schedule) → scheduleOf schedule ≡ x → Met (fromSchedule x parametersRight memoryRight)
-  met-schedule g a r (entries es) h = met-last g a r es (written schedule es h) parametersRight refl memoryRight refl (ltb (length log) (length es)) refl
-  met-schedule g a r malformed h = by13 refl g a r (ill-formed schedule h)
+  met-schedule g a r (entries es) h = met-last g a r es (schedule-means schedule es .0 h) parametersRight refl memoryRight refl (ltb (length log) (length es)) refl
+  met-schedule g a r malformed h = by13 refl g a r (schedule-malforms schedule .0 h)
 
   met-arguments : GoodCores i → GoodImage i → (b : Bool) → argumentsRight ≡ b → Met (fromArguments b (scheduleOf schedule) parametersRight memoryRight)
   met-arguments g a true e = met-schedule g a (eqb-true (length (i .arguments)) (argumentsOf (i .image) 0) e) (scheduleOf schedule) refl
@@ -149,7 +122,7 @@ module _ (i : Input) (schedule log : List ℕ) where
   met-image g Accepted h = met-arguments g h argumentsRight refl
   met-image g (Refused r) h =
       let z = refusal-range r in
-      subst Met (sym (given (refusalNumber r) (fromArguments argumentsRight (scheduleOf schedule) parametersRight memoryRight) (z .0)))
+      subst Met (sym (given (numberOfRefusal r) (fromArguments argumentsRight (scheduleOf schedule) parametersRight memoryRight) (z .0)))
       (byImage (z .0) (z .1) g (ap numberIn h))
 
   met-cores : (a : Bool) → eqb (i .cores) 0 ≡ a → (b : Bool) → ltb 4 (i .cores) ≡ b
@@ -266,11 +239,11 @@ module _ (i : Input) (schedule log : List ℕ) where
 
       gives-13 : ¬ (WellFormed schedule) → refusalOf i schedule log ≡ 13
       gives-13 n =
-          row false 0 true malformed parametersRight memoryRight (good-cores g) (ap numberIn a) same-arguments (unread schedule n) refl refl
+          row false 0 true malformed parametersRight memoryRight (good-cores g) (ap numberIn a) same-arguments (schedule-malforms schedule .1 n) refl refl
 
       module _ (es : List Entry) (w : IsSchedule schedule es) where
         at-last : (p m : Bool) → parametersRight ≡ p → memoryRight ≡ m → refusalOf i schedule log ≡ last p m (ltb (length log) (length es))
-        at-last p m e f = row false 0 true (entries es) p m (good-cores g) (ap numberIn a) same-arguments (read schedule es w) e f
+        at-last p m e f = row false 0 true (entries es) p m (good-cores g) (ap numberIn a) same-arguments (schedule-means schedule es .1 w) e f
 
         gives-25 : WrongWords i ⊎ (length log < length es) → refusalOf i schedule log ≡ 25
         gives-25 (inl (inl n)) = at-last false memoryRight (ne-eqb (length (i .parameters)) 32 n) refl
@@ -294,8 +267,8 @@ module _ (i : Input) (schedule log : List ℕ) where
     number25 = (known .number25, λ (g, a, r, es, w, h). gives-25 g a r es w h);
     runs = (known .runs, λ (g, a, r, es, w, b, l). gives-none g a r es w b l);
     others = known .others;
-    means = λ es. (written schedule es, read schedule es);
-    malforms = (ill-formed schedule, unread schedule);
+    means = schedule-means schedule;
+    malforms = schedule-malforms schedule;
     taken = λ k es w l. gives-none (k .some, k .most) (k .image) (k .arguments) es w (k .parameters, k .memory) l;
   }
 
@@ -305,7 +278,7 @@ module _ (i : Input) where
   empty = run-numbers i [] []
 
   none-left : (es : List Entry) → IsSchedule [] es → length es ≡ 0
-  none-left es w = ap entryCount (sym (read [] es w) ∙ read [] [] nothing)
+  none-left es w = ap entryCount (sym (schedule-means [] es .1 w) ∙ schedule-means [] [] .1 nothing)
 
   only-words : (es : List Entry) → IsSchedule [] es → WrongWords i ⊎ (0 < length es) → WrongWords i
   only-words es w (inl h) = h

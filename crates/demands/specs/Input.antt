@@ -6,7 +6,7 @@ use lib.Dec.{ltb, eqb}
 use lib.ListN.{length}
 use Rattle.image.specs.Layout.{argumentsOf, programOf, startsIn}
 use Rattle.image.specs.Image.{imageVerdict, numberIn}
-use Rattle.schedule.specs.Meaning.{Schedule, entries, malformed, scheduleOf, numberOf}
+use Rattle.schedule.specs.Meaning.{Schedule, entries, malformed, scheduleOf, numberOfSchedule}
 use Rattle.thread.specs.Job.{Job, jobOf}
 use Rattle.rules.specs.State.{State, Outcome, going, finished, faulted}
 use Rattle.rules.specs.Start.{startState}
@@ -50,7 +50,7 @@ refusalOf i schedule log =
     cond (badCores i) 23
     (cond (not (eqb (numberIn (imageVerdict (i .image))) 0)) (numberIn (imageVerdict (i .image)))
     (cond (badArguments i) 24
-    (cond (not (eqb (numberOf (scheduleOf schedule)) 0)) 13
+    (cond (not (eqb (numberOfSchedule (scheduleOf schedule)) 0)) 13
     (cond (badWords i || ltb (length log) (entryCount (scheduleOf schedule))) 25 0))))
 
 -- document 01's last line: "`finished` result units, `faulted` number thread offset .., `open` units"

@@ -1,7 +1,7 @@
 -- Each number of a whole run, exactly under its condition: document 01, "The caller", "The image's author", and 13. The tests stand in the
 -- order "23, image, 24, 13, 25", so a condition also says that none before it is met. No condition cites the row of tests, so good input is
 -- not refused.
-use mathlib.Core.List.{List, [], _∷_, _++_}
+use mathlib.Core.List.{List, []}
 use mathlib.Core.Logic.{_⊎_}
 use mathlib.Core.Path.{_≡_}
 use Prim.Native.Nat.{ℕ, _≤_, _<_}
@@ -10,8 +10,7 @@ use Rattle.image.specs.declared.Verdict.the-variants.{Accepted}
 use Rattle.image.specs.Layout.{argumentsOf}
 use Rattle.image.specs.Image.{imageVerdict, numberIn}
 use Rattle.schedule.specs.declared.Entry.{Entry}
-use Rattle.schedule.specs.Format.{bytesOf}
-use Rattle.schedule.specs.Meaning.{entries, malformed, scheduleOf}
+use Rattle.schedule.specs.Meaning.{entries, malformed, scheduleOf, IsSchedule, WellFormed}
 use Rattle.serial.specs.Serial.{stopped, serialFrom}
 use Rattle.soundness.specs.Numbers.{Exactly}
 use Rattle.demands.specs.Input.{Input, jobIn, refusalOf}
@@ -35,19 +34,6 @@ RightWords i = (length (i .parameters) ≡ 32) × (length (i .memory) ≡ 992)
 
 abbrev pub WrongWords : Input → Type 0
 WrongWords i = (¬ (length (i .parameters) ≡ 32)) ⊎ (¬ (length (i .memory) ≡ 992))
-
--- the bytes of entries, one after another
-unfoldable pub bytesOfEntries : List Entry → List ℕ
-bytesOfEntries [] = []
-bytesOfEntries (e ∷ es) = bytesOf e ++ bytesOfEntries es
-
--- a schedule of these entries: their bytes and nothing else, so no byte is unknown and no entry cut, and not over 32,768 bytes
-pub record IsSchedule (schedule : List ℕ) (es : List Entry) : Type 0 where
-  pub bytes : schedule ≡ bytesOfEntries es
-  pub short : length schedule ≤ 32768
-
-abbrev pub WellFormed : List ℕ → Type 0
-WellFormed schedule = (es : List Entry) × IsSchedule schedule es
 
 -- a run by a schedule
 pub record RunNumbers (i : Input) (schedule log : List ℕ) : Type 0 where

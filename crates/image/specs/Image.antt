@@ -16,20 +16,20 @@ use Rattle.image.specs.Layout.{countOf, slotsOf, argumentsOf, lengthOf, 
 use Rattle.image.specs.Code.{_then_, routineVerdict}
 
 -- the numbers of the image's author
-abbrev pub numberOf : Refusal → ℕ
-numberOf BadLength = 1
-numberOf BadCount = 2
-numberOf BadRow = 3
-numberOf UnknownByte = 4
-numberOf OperandsCutOff = 5
-numberOf OutOfRange = 6
-numberOf BadEnd = 7
-numberOf BadTarget = 8
+abbrev pub numberOfRefusal : Refusal → ℕ
+numberOfRefusal BadLength = 1
+numberOfRefusal BadCount = 2
+numberOfRefusal BadRow = 3
+numberOfRefusal UnknownByte = 4
+numberOfRefusal OperandsCutOff = 5
+numberOfRefusal OutOfRange = 6
+numberOfRefusal BadEnd = 7
+numberOfRefusal BadTarget = 8
 
 -- the number of an answer, 0 for an accepted image
 abbrev pub numberIn : Verdict → ℕ
 numberIn Accepted = 0
-numberIn (Refused n) = numberOf n
+numberIn (Refused n) = numberOfRefusal n
 
 -- "slots (1 to 16), arguments (at most the slots), code length (at least 1)"
 abbrev pub rowGood : List ℕ → ℕ → Bool

@@ -2,10 +2,10 @@
 use crate::Refusal;
 use crate::Verdict;
 ghost use mathlib.Core.Path.{_≡_};
-ghost use Rattle.image.specs.Image.{numberOf, numberIn};
+ghost use Rattle.image.specs.Image.{numberOfRefusal, numberIn};
 
 pub fn number_of(refusal: Refusal) -> u8
-    ensures { λ r. ⌜ r ≡ numberOf refusal ⌝ }
+    ensures { λ r. ⌜ r ≡ numberOfRefusal refusal ⌝ }
 {
     match refusal {
         Refusal::BadLength => 1,

@@ -3,7 +3,7 @@
 use schedule::EntryRead;
 ghost use mathlib.Core.Path.{_≡_};
 ghost use Prim.Native.Nat.{_+_, _*_};
-ghost use Rattle.schedule.specs.Format.{entryAt};
+ghost use Rattle.schedule.specs.Format.{EntryAnswer};
 ghost use Rattle.reader.specs.Row.{isPair, areFour, Row};
 
 // A schedule, and the position of its next entry.
@@ -21,7 +21,7 @@ pub fn new<'a>(schedule: &'a [u8]) -> EntryReader<'a>
 
 // What the reader finds at its position.
 pub fn entry<'a>(r: EntryReader<'a>) -> EntryRead
-    ensures { λ e. ⌜ e ≡ entryAt (now (r .entry .schedule)) (r .entry .at) ⌝ }
+    ensures { λ e. ⌜ EntryAnswer (now (r .entry .schedule)) (r .entry .at) e ⌝ }
 {
     schedule::read(r.schedule, r.at)
 }
@@ -38,7 +38,7 @@ pub fn moved<'a>(r: EntryReader<'a>, at: usize) -> EntryReader<'a>
 
 // What a reader finds at a position, for callers with plain parameters. The entry at the front, or the one after it, is a wrong answer.
 pub fn read_at(schedule: &[u8], at: usize) -> EntryRead
-    ensures { λ e. ⌜ e ≡ entryAt (now (schedule .entry)) at ⌝ }
+    ensures { λ e. ⌜ EntryAnswer (now (schedule .entry)) at e ⌝ }
 {
     entry(moved(new(schedule), at))
 }

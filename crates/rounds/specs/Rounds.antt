@@ -7,7 +7,7 @@ use lib.Dec.{ltb, leb, eqb}
 use lib.ListN.{length, drop}
 use Rattle.schedule.specs.declared.Entry.{Entry}
 use Rattle.schedule.specs.declared.Entry.the-variants.{Enable}
-use Rattle.schedule.specs.Format.{bytesOf}
+use Rattle.schedule.specs.Format.{bytesOf, bytesOfEntries}
 use Rattle.thread.specs.Thread.{none}
 use Rattle.rules.specs.State.{Job, State, After, isOver}
 use Rattle.rules.specs.Rules.{entryOf}
@@ -85,11 +85,6 @@ beginning s size = record { state = s; written = []; left = usable size; moved =
 abbrev pub scheduledFrom : Job → State → ℕ → Progress
 scheduledFrom j s size = rounds (suc (usable size)) j (beginning s size)
 
--- the bytes of entries
-unfoldable pub bytesOfAll : List Entry → List ℕ
-bytesOfAll [] = []
-bytesOfAll (e ∷ es) = bytesOf e ++ bytesOfAll es
-
 -- "the rest stay"
 abbrev pub filled : List ℕ → List Entry → List ℕ
-filled buffer es = bytesOfAll es ++ drop (length (bytesOfAll es)) buffer
+filled buffer es = bytesOfEntries es ++ drop (length (bytesOfEntries es)) buffer

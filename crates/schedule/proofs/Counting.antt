@@ -2,6 +2,7 @@
 use mathlib.Core.Path.{_≡_, refl, ap, sym, _∙_}
 use mathlib.Core.Bool.{true}
 use mathlib.Core.List.{List, []}
+use mathlib.Core.Logic.{_↔_}
 use Prim.Native.Nat.{ℕ, _+_, _≤_, _<_}
 use native.Mathlib.Nat.{zero-add, add-zero}
 use native.Mathlib.Omega.{arith}
@@ -9,10 +10,11 @@ use borrow.Author.Tests.{lt-ltb, le-ltb}
 use lib.ListN.{length, drop}
 use Rattle.schedule.proofs.Standing.{Found-at, found}
 use Rattle.schedule.proofs.Following.{follow, follows}
+use Rattle.schedule.proofs.Forming.{means, malforms}
 use Rattle.schedule.proofs.Four.{Steps, steps}
 use Rattle.schedule.specs.Format.{entryAt}
 use Rattle.schedule.specs.Four.{fourSteps}
-use Rattle.schedule.specs.Meaning.{Schedule, entries, malformed, prepend, entriesOf, scheduleOf, numberOf, countOf, numberOfCount, Counts}
+use Rattle.schedule.specs.Meaning.{Schedule, entries, malformed, prepend, entriesOf, scheduleOf, numberOfSchedule, countOf, numberOfCounted, IsSchedule, WellFormed, Counts}
 use Rattle.schedule.specs.declared.Entry.{Entry}
 use Rattle.schedule.specs.declared.EntryRead.the-variants.{Found, End, Malformed as Bad}
 use Rattle.schedule.specs.declared.Counted.{Counted}
@@ -71,12 +73,27 @@ goes-on-four s at n so h =
     let all : n + 4 ≡ n + 1 + 1 + 1 + 1 = omega arith in
     rw all (goes-on s (at + 6) _ three _ _ (f .fourth))
 
-numbers : (x : Schedule) → numberOfCount (countOf x) ≡ numberOf x
+numbers : (x : Schedule) → numberOfCounted (countOf x) ≡ numberOfSchedule x
 numbers (entries es) = refl
 numbers malformed = refl
 
+-- the numbers of what a schedule is read as
+counts-13 : (s : List ℕ) (x : Schedule) → scheduleOf s ≡ x → (numberOfCounted (countOf x) ≡ 13) ↔ (¬ (WellFormed s))
+counts-13 s (entries es) h = (λ p. absurd (omega arith), λ n. absurd (n (es, means s es .0 h)))
+counts-13 s malformed h = (λ p. malforms s .0 h, λ n. refl)
+
+counts-0 : (s : List ℕ) (x : Schedule) → scheduleOf s ≡ x → (numberOfCounted (countOf x) ≡ 0) ↔ WellFormed s
+counts-0 s (entries es) h = (λ p. (es, means s es .0 h), λ w. refl)
+counts-0 s malformed h = (λ p. absurd (omega arith), λ w. absurd (malforms s .0 h w))
+
 counts-as : (s : List ℕ) (r : Counted) → r ≡ countOf (scheduleOf s) → Counts s r
-counts-as s r h = record { is = h; number = ap numberOfCount h ∙ numbers (scheduleOf s) }
+counts-as s r h = record {
+  is = h;
+  number = ap numberOfCounted h ∙ numbers (scheduleOf s);
+  number13 = rw h (counts-13 s (scheduleOf s) refl);
+  number0 = rw h (counts-0 s (scheduleOf s) refl);
+  many = λ es w. h ∙ ap countOf (means s es .1 w);
+}
 
 -- a schedule of at most 32,768 bytes
 pub counts : (s : List ℕ) (r : Counted) → length s ≤ 32768 → r ≡ countOf (entriesOf s) → Counts s r

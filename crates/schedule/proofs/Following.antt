@@ -9,7 +9,7 @@ use lib.ListN.{length, drop}
 use lib.Seq.{drop-drop}
 use lib.Dec.{eqb, ltb}
 use Rattle.schedule.proofs.Standing.{Found-at, found, ended}
-use Rattle.schedule.specs.Format.{bytesOf, entryIn, entryAt}
+use Rattle.schedule.specs.Format.{bytesOf, bytesOfEntries, entryIn, entryAt}
 use Rattle.schedule.specs.Meaning.{Schedule, entries, malformed, prepend, entriesOf, scheduleOf}
 use Rattle.schedule.specs.declared.Entry.{Entry}
 use Rattle.schedule.specs.declared.Entry.the-variants.{Step, Take, Steal, Enable}
@@ -111,14 +111,9 @@ module _ (s : List ℕ) (at : ℕ) (es : List Entry) (left : entriesOf (drop at 
       let z : _≡_ {A = ℕ} 0 1 = cc in
       omega arith
 
--- the bytes of a list of entries
-unfoldable pub allBytes : List Entry → List ℕ
-allBytes [] = []
-allBytes (e ∷ es) = bytesOf e ++ allBytes es
-
 -- the bytes of accepted entries are the schedule
-pub whole-from : (s : List ℕ) (at : ℕ) (es : List Entry) → entriesOf (drop at s) ≡ entries es → drop at s ≡ allBytes es
-unfolding allBytes
+pub whole-from : (s : List ℕ) (at : ℕ) (es : List Entry) → entriesOf (drop at s) ≡ entries es → drop at s ≡ bytesOfEntries es
+unfolding bytesOfEntries
 whole-from s at [] h = ended s at (no-entry s at h)
 whole-from s at (e ∷ es) h =
     let n : Next s at e es = next-entry s at e es h in
@@ -136,15 +131,15 @@ entries-entry (Enable t) [] = refl
 entries-entry (Enable t) (y ∷ rest) = refl
 
 -- the bytes of a list of entries are accepted as these entries
-pub accepts : (es : List Entry) → entriesOf (allBytes es) ≡ entries es
-unfolding allBytes entriesOf
+pub accepts : (es : List Entry) → entriesOf (bytesOfEntries es) ≡ entries es
+unfolding bytesOfEntries entriesOf
 accepts [] = refl
-accepts (e ∷ es) = entries-entry e (allBytes es) ∙ ap (prepend e) (accepts es)
+accepts (e ∷ es) = entries-entry e (bytesOfEntries es) ∙ ap (prepend e) (accepts es)
 
 -- a schedule that is accepted is one of at most 32,768 bytes
 pub record Accepted (s : List ℕ) (es : List Entry) : Type 0 where
   pub means : entriesOf s ≡ entries es
-  pub bytes : s ≡ allBytes es
+  pub bytes : s ≡ bytesOfEntries es
   pub short : length s ≤ 32768
 
 accepted-by : (s : List ℕ) (es : List Entry) (b : Bool) → ltb 32768 (length s) ≡ b → cond b malformed (entriesOf s) ≡ entries es → Accepted s es
@@ -156,6 +151,6 @@ unfolding scheduleOf
 accepted s es h = accepted-by s es (ltb 32768 (length s)) refl h
 
 -- and the bytes of any entries that short are
-pub accepts-short : (es : List Entry) → length (allBytes es) ≤ 32768 → scheduleOf (allBytes es) ≡ entries es
+pub accepts-short : (es : List Entry) → length (bytesOfEntries es) ≤ 32768 → scheduleOf (bytesOfEntries es) ≡ entries es
 unfolding scheduleOf
-accepts-short es h = rw (le-ltb 32768 (length (allBytes es)) h) (accepts es)
+accepts-short es h = rw (le-ltb 32768 (length (bytesOfEntries es)) h) (accepts es)

@@ -1,5 +1,5 @@
 -- Laws of bytes put into a buffer, and of entries written and read. Assumes nothing.
-use mathlib.Core.Path.{_≡_}
+use mathlib.Core.Path.{_≡_, refl, ap}
 use mathlib.Core.List.{List, [], _∷_, _++_, append-assoc}
 use Prim.Native.Nat.{ℕ, suc, _+_, _≤_, _<_}
 use native.Mathlib.Numerals.{add-one}
@@ -9,7 +9,7 @@ use lib.ListN.{length, take, drop, set, take-append-drop}
 use lib.Seq.{sets, sets-eq, drop-at, length-take-le}
 use Rattle.schedule.proofs.Standing.{Found-at, found, reads-entry}
 use Rattle.schedule.specs.Format.{bytesOf, entryAt}
-use Rattle.schedule.specs.Writing.{placed, writtenOf, Writes}
+use Rattle.schedule.specs.Writing.{placed, writtenOf, numberOfWritten, Writes}
 use Rattle.schedule.specs.declared.Entry.{Entry}
 use Rattle.schedule.specs.declared.EntryRead.the-variants.{Found}
 use Rattle.schedule.specs.declared.Written.the-variants.{Bytes, NoRoom}
@@ -18,12 +18,22 @@ module _ (bytes b : List ℕ) (at : ℕ) where
   -- without room nothing is written
   pub no-room : length b < at + length bytes → Writes bytes b at NoRoom b
   unfolding placed writtenOf
-  no-room h = record { answer = rw (lt-leb _ _ h); buffer = rw (lt-leb _ _ h) }
+  no-room h = record {
+    answer = rw (lt-leb _ _ h);
+    number25 = (λ p. h, λ l. refl);
+    number0 = (λ p. absurd (omega arith), ap numberOfWritten);
+    buffer = rw (lt-leb _ _ h);
+  }
 
   -- with room the bytes are, by one store each
   room : at + length bytes ≤ length b → Writes bytes b at (Bytes (length bytes)) (sets b at bytes)
   unfolding placed writtenOf
-  room h = record { answer = rw (le-leb _ _ h); buffer = rw (le-leb _ _ h) (sets-eq bytes b at h) }
+  room h = record {
+    answer = rw (le-leb _ _ h);
+    number25 = (λ p. absurd (omega arith), λ l. absurd (omega arith));
+    number0 = (λ p. refl, λ p. refl);
+    buffer = rw (le-leb _ _ h) (sets-eq bytes b at h);
+  }
 
 pub room-two : (k x : ℕ) (b : List ℕ) (at : ℕ) → at + 2 ≤ length b → Writes (k ∷ x ∷ []) b at (Bytes 2) (set (set b at k) (at + 1) x)
 room-two k x b at h = rw (add-one at) (room (k ∷ x ∷ []) b at h)

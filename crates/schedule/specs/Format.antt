@@ -1,8 +1,10 @@
 -- The bytes of an entry, and the entry that stands at a position of a schedule: document 01, "Schedule".
-use mathlib.Core.List.{List, [], _∷_}
+use mathlib.Core.List.{List, [], _∷_, _++_}
 use mathlib.Core.Bool.{cond}
-use Prim.Native.Nat.{ℕ, _+_}
-use lib.ListN.{drop}
+use mathlib.Core.Logic.{_↔_, _⊎_}
+use mathlib.Core.Path.{_≡_}
+use Prim.Native.Nat.{ℕ, _+_, _≤_, _<_}
+use lib.ListN.{length, drop}
 use lib.Dec.{eqb}
 use Rattle.schedule.specs.declared.Entry.{Entry}
 use Rattle.schedule.specs.declared.Entry.the-variants.{Step, Take, Steal, Enable}
@@ -15,6 +17,11 @@ bytesOf (Step c) = 1 ∷ c ∷ []
 bytesOf (Take c) = 2 ∷ c ∷ []
 bytesOf (Steal c t) = 3 ∷ c ∷ t ∷ []
 bytesOf (Enable t) = 4 ∷ t ∷ []
+
+-- the bytes of entries, one after another
+unfoldable pub bytesOfEntries : List Entry → List ℕ
+bytesOfEntries [] = []
+bytesOfEntries (e ∷ es) = bytesOf e ++ bytesOfEntries es
 
 -- what is made of an entry with the one operand x, by its command byte k: 01, 02 or 04; and of any other byte
 abbrev pub oneOperand : {A : Type 0} → ℕ → ℕ → (Entry → A) → A → A
@@ -36,7 +43,22 @@ unfoldable pub entryAt : List ℕ → ℕ → EntryRead
 entryAt s at = entryIn at (drop at s)
 
 -- document 01's number for each answer of `read`: 13 is "unknown byte, cut entry"
-abbrev pub numberOfRead : EntryRead → ℕ
-numberOfRead (Found e next) = 0
-numberOfRead End = 0
-numberOfRead Malformed = 13
+abbrev pub numberOfEntryRead : EntryRead → ℕ
+numberOfEntryRead (Found e next) = 0
+numberOfEntryRead End = 0
+numberOfEntryRead Malformed = 13
+
+-- an entry's bytes stand at a position
+abbrev pub StandsAt : List ℕ → ℕ → Entry → Type 0
+StandsAt s at e = (rest : List ℕ) × (drop at s ≡ bytesOf e ++ rest)
+
+-- what `read` gives: each answer exactly under its condition, which does not cite the row of tests
+pub record EntryAnswer (s : List ℕ) (at : ℕ) (r : EntryRead) : Type 0 where
+  pub is : r ≡ entryAt s at
+  -- "13 (whole run): unknown byte, cut entry": bytes are left, and no entry's bytes stand there
+  pub number13 : (numberOfEntryRead r ≡ 13) ↔ ((at < length s) × ((e : Entry) → ¬ (StandsAt s at e)))
+  -- else nothing is left, or an entry's bytes stand there
+  pub number0 : (numberOfEntryRead r ≡ 0) ↔ ((length s ≤ at) ⊎ ((e : Entry) × StandsAt s at e))
+  pub ends : (r ≡ End) ↔ (length s ≤ at)
+  -- that entry is given, with "the next entry's position"
+  pub finds : (e : Entry) → (r ≡ Found e (at + length (bytesOf e))) ↔ StandsAt s at e

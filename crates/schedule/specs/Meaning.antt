@@ -2,10 +2,11 @@
 use mathlib.Core.Path.{_≡_}
 use mathlib.Core.List.{List, [], _∷_}
 use mathlib.Core.Bool.{cond}
-use Prim.Native.Nat.{ℕ}
+use mathlib.Core.Logic.{_↔_}
+use Prim.Native.Nat.{ℕ, _≤_}
 use lib.ListN.{length}
 use lib.Dec.{ltb, eqb}
-use Rattle.schedule.specs.Format.{oneOperand}
+use Rattle.schedule.specs.Format.{bytesOfEntries, oneOperand}
 use Rattle.schedule.specs.declared.Entry.{Entry}
 use Rattle.schedule.specs.declared.Entry.the-variants.{Steal}
 use Rattle.schedule.specs.declared.Counted.{Counted}
@@ -35,9 +36,17 @@ unfoldable pub scheduleOf : List ℕ → Schedule
 scheduleOf s = cond (ltb 32768 (length s)) malformed (entriesOf s)
 
 -- document 01's number for a schedule: 13, or 0 where it is accepted
-abbrev pub numberOf : Schedule → ℕ
-numberOf (entries es) = 0
-numberOf malformed = 13
+abbrev pub numberOfSchedule : Schedule → ℕ
+numberOfSchedule (entries es) = 0
+numberOfSchedule malformed = 13
+
+-- a schedule of these entries: their bytes and nothing else, so no byte is unknown and no entry cut, and not over 32,768 bytes
+pub record IsSchedule (schedule : List ℕ) (es : List Entry) : Type 0 where
+  pub bytes : schedule ≡ bytesOfEntries es
+  pub short : length schedule ≤ 32768
+
+abbrev pub WellFormed : List ℕ → Type 0
+WellFormed schedule = (es : List Entry) × IsSchedule schedule es
 
 -- the count of a schedule's entries
 abbrev pub countOf : Schedule → Counted
@@ -45,11 +54,16 @@ countOf (entries es) = Entries (length es)
 countOf malformed = Malformed
 
 -- document 01's number for each answer of `count`
-abbrev pub numberOfCount : Counted → ℕ
-numberOfCount (Entries n) = 0
-numberOfCount Malformed = 13
+abbrev pub numberOfCounted : Counted → ℕ
+numberOfCounted (Entries n) = 0
+numberOfCounted Malformed = 13
 
--- what `count` gives of a schedule's bytes
+-- what `count` gives of a schedule's bytes: each number exactly under its condition, which does not cite the reading
 pub record Counts (s : List ℕ) (r : Counted) : Type 0 where
   pub is : r ≡ countOf (scheduleOf s)
-  pub number : numberOfCount r ≡ numberOf (scheduleOf s)
+  pub number : numberOfCounted r ≡ numberOfSchedule (scheduleOf s)
+  -- "13 (whole run): unknown byte, cut entry, or over 32,768 bytes"
+  pub number13 : (numberOfCounted r ≡ 13) ↔ (¬ (WellFormed s))
+  pub number0 : (numberOfCounted r ≡ 0) ↔ WellFormed s
+  -- the number of the entries whose bytes it is
+  pub many : (es : List Entry) → IsSchedule s es → r ≡ Entries (length es)

@@ -2,7 +2,7 @@
 // written at a position, and the entries of a whole schedule are counted, which is where document 01's number 13 is found.
 ghost use mathlib.Core.Path.{_≡_};
 ghost use mathlib.Core.List.{[], _∷_};
-ghost use Rattle.schedule.specs.Format.{bytesOf, entryAt};
+ghost use Rattle.schedule.specs.Format.{bytesOf, EntryAnswer};
 ghost use Rattle.schedule.specs.Four.{fourSteps};
 ghost use Rattle.schedule.specs.Meaning.{Counts};
 ghost use Rattle.schedule.specs.Writing.{Writes};
@@ -46,7 +46,7 @@ pub enum Written {
 
 // The entry at a position of a schedule.
 pub fn read(schedule: &[u8], at: usize) -> EntryRead
-    ensures { λ r. ⌜ r ≡ entryAt (now (schedule .entry)) at ⌝ }
+    ensures { λ r. ⌜ EntryAnswer (now (schedule .entry)) at r ⌝ }
 {
     let length = schedule.len();
     if length <= at {

@@ -11,8 +11,8 @@ use lib.ListN.{getD, length}
 use Rattle.command.proofs.Bools.{both}
 use Rattle.schedule.specs.declared.Entry.{Entry}
 use Rattle.schedule.specs.declared.Entry.the-variants.{Enable}
-use Rattle.schedule.specs.Format.{bytesOf}
-use Rattle.schedule.proofs.Following.{allBytes, accepts-short}
+use Rattle.schedule.specs.Format.{bytesOf, bytesOfEntries}
+use Rattle.schedule.proofs.Following.{accepts-short}
 use Rattle.rules.specs.Lists.{Every}
 use Rattle.rules.specs.State.{Job, State, isOver}
 use Rattle.rules.specs.Rules.{entryOf}
@@ -23,12 +23,12 @@ use Rattle.demands.specs.Demands.{Demand3}
 use Rattle.demands.proofs.Demands.{demand-3}
 use Rattle.demands.proofs.Passing.{takes}
 use Rattle.search.specs.Search.{choiceOf, lowestSuspended}
-use Rattle.rounds.specs.Rounds.{Progress, isWritten, mayTry, recorded, tried, turns, fresh, round, goesOn, wakened, rounds, usable, beginning, bytesOfAll}
+use Rattle.rounds.specs.Rounds.{Progress, isWritten, mayTry, recorded, tried, turns, fresh, round, goesOn, wakened, rounds, usable, beginning}
 use Rattle.turns.proofs.Keeping.{short, many-append}
 use Rattle.scheduler.specs.Promise.{scheduledOf, refusalIn, EqualsRun}
 
-one-many : (e : Entry) → length (bytesOfAll (e ∷ [])) ≡ length (bytesOf e)
-unfolding bytesOfAll
+one-many : (e : Entry) → length (bytesOfEntries (e ∷ [])) ≡ length (bytesOf e)
+unfolding bytesOfEntries
 one-many e = ap length (append-nil (bytesOf e))
 
 module _ (j : Job) where
@@ -42,7 +42,7 @@ module _ (j : Job) where
   pub record Ran (s₀ : State) (room : ℕ) (p : Progress) : Type 0 where
     pub runs : runFrom j s₀ (p .written) ≡ p .state
     pub logs : Every (λ n. isWritten n ≡ true) (logsFrom j s₀ (p .written))
-    pub fits : length (bytesOfAll (p .written)) + p .left ≡ room
+    pub fits : length (bytesOfEntries (p .written)) + p .left ≡ room
 
   module _ (s₀ : State) (room : ℕ) where
     ran-recorded : (p : Progress) → Ran s₀ room p → 3 ≤ p .left → (e : Entry) (b : Bool) → isWritten (entryOf j (p .state) e .log) ≡ b
@@ -89,23 +89,18 @@ module _ (j : Job) where
         let next = ran-rounds n (wakened j (round j p)) (ran-wakened (round j p) q) in
         either (goesOn (round j p)) (rounds n j (wakened j (round j p))) (round j p) (λ h. next) q
 
-bytes-all : (es : List Entry) → bytesOfAll es ≡ allBytes es
-unfolding bytesOfAll allBytes
-bytes-all [] = refl
-bytes-all (e ∷ es) = ap (λ (l : List ℕ). bytesOf e ++ l) (bytes-all es)
-
 module _ (i : Input) (size : ℕ) where
   whole : Ran (jobIn i) (startIn i) (usable size) (scheduledOf i size)
-  unfolding runFrom logsFrom bytesOfAll
+  unfolding runFrom logsFrom bytesOfEntries
   whole = ran-rounds (jobIn i) (startIn i) (usable size) (suc (usable size)) (beginning (startIn i) size)
       (record { runs = refl; logs = tt; fits = zero-add (usable size) })
 
   pub equals : refusalIn i ≡ 0 → ((k : ℕ) → getD (i .image) k 0 < 256) → EqualsRun i (scheduledOf i size)
   equals passes bytes =
       let es = scheduledOf i size .written in
-      let few : length (allBytes es) ≤ 32768 = rw (← bytes-all es) (omega (arith, whole .fits)) in
+      let few : length (bytesOfEntries es) ≤ 32768 = omega (arith, whole .fits) in
       record {
-        means = rw (bytes-all es) (accepts-short es few);
+        means = accepts-short es few;
         state = whole .runs;
         logs = whole .logs;
         demand = subst (Demand3 i) (whole .runs) (demand-3 i (takes i [] [] passes bytes) es);

@@ -5,6 +5,7 @@ use mathlib.Core.Path.{_≡_}
 use Prim.Native.Nat.{ℕ}
 use lib.ListN.{length}
 use Rattle.schedule.specs.Meaning.{entries, scheduleOf}
+use Rattle.schedule.specs.Format.{bytesOfEntries}
 use Rattle.rules.specs.Lists.{Every}
 use Rattle.rules.specs.Runs.{runFrom, logsFrom}
 use Rattle.tables.specs.Meaning.{meaning}
@@ -12,7 +13,7 @@ use Rattle.demands.specs.declared.RunAnswer.the-variants.{Refused}
 use Rattle.demands.specs.Input.{Input, jobIn, startIn, refusalOf, answerOf, numberOfAnswer}
 use Rattle.demands.specs.Demands.{Demand3}
 use Rattle.demands.specs.WholeRun.{SchedulerNumbers}
-use Rattle.rounds.specs.Rounds.{Progress, isWritten, scheduledFrom, bytesOfAll, filled}
+use Rattle.rounds.specs.Rounds.{Progress, isWritten, scheduledFrom, filled}
 use Rattle.scheduler.specs.declared.Scheduled.{Scheduled}
 
 -- 23, the image's, 24 and 25, this of the words only: the tests of a run by the empty schedule, which needs no log
@@ -38,11 +39,11 @@ pub record IsScheduled (p : Progress) (before : List ℕ) (r : Scheduled) (memor
   pub memory : memoryAfter ≡ p .state .memory
   pub machine : meaning (r .tables) (r .words) memoryAfter ≡ p .state
   pub buffer : after ≡ filled before (p .written)
-  pub used : r .used ≡ length (bytesOfAll (p .written))
+  pub used : r .used ≡ length (bytesOfEntries (p .written))
 
 -- "and equals the run by them": the bytes are a schedule, the run by it ends in the same state, and each of its entries is accepted or faults
 pub record EqualsRun (i : Input) (p : Progress) : Type 0 where
-  pub means : scheduleOf (bytesOfAll (p .written)) ≡ entries (p .written)
+  pub means : scheduleOf (bytesOfEntries (p .written)) ≡ entries (p .written)
   pub state : runFrom (jobIn i) (startIn i) (p .written) ≡ p .state
   pub logs : Every (λ n. isWritten n ≡ true) (logsFrom (jobIn i) (startIn i) (p .written))
   pub demand : Demand3 i (p .state)

@@ -10,7 +10,7 @@ use Rattle.image.specs.declared.Verdict.the-variants.{Accepted, Refused}
 use Rattle.image.specs.declared.Refusal.{Refusal}
 use Rattle.image.specs.declared.Checked.{Checked}
 use Rattle.image.specs.Layout.{argumentsOf, programOf, startsIn}
-use Rattle.image.specs.Image.{imageVerdict, imageAnswer, programFor, numberOf}
+use Rattle.image.specs.Image.{imageVerdict, imageAnswer, programFor, numberOfRefusal}
 use Rattle.image.proofs.Accepted.{accepted}
 use Rattle.image.proofs.Laws.{slots-most, arguments-most}
 use Rattle.image.proofs.Places.{starts-at}
@@ -46,7 +46,7 @@ module _ (image parameters arguments memory : List ℕ) (allowance : ℕ) where
   abbrev j : Job
   j = jobOf image (startsIn (programOf image)) parameters allowance
 
-  pub refused : (x : Refusal) → imageVerdict image ≡ Refused x → stopped (numberOf x) memory 0 ≡ serialOf j arguments memory
+  pub refused : (x : Refusal) → imageVerdict image ≡ Refused x → stopped (numberOfRefusal x) memory 0 ≡ serialOf j arguments memory
   unfolding serialOf
   refused x h = rw h
 

@@ -10,7 +10,7 @@ use Rattle.command.specs.Weight.{weightOf}
 use Rattle.image.specs.declared.Verdict.{Verdict}
 use Rattle.image.specs.declared.Verdict.the-variants.{Accepted, Refused}
 use Rattle.image.specs.Layout.{argumentsOf}
-use Rattle.image.specs.Image.{imageVerdict, numberOf}
+use Rattle.image.specs.Image.{imageVerdict, numberOfRefusal}
 use Rattle.window.specs.declared.Window.{Window}
 use Rattle.window.specs.Rights.{rootWindow, childOf, restOf, rejoined}
 use Rattle.stacklets.specs.Frames.{slotOf}
@@ -130,7 +130,7 @@ serialFrom j arguments memory = runFrom j 1 (startedOn 0 arguments rootWindow) m
 
 -- an image's number, or what follows it
 abbrev pub byVerdict : Verdict → List ℕ → Ended → Ended
-byVerdict (Refused n) memory run = stopped (numberOf n) memory 0
+byVerdict (Refused n) memory run = stopped (numberOfRefusal n) memory 0
 byVerdict Accepted memory run = run
 
 -- "Plain run: image, 24, 25", then the run; the number and nothing changed where one is met

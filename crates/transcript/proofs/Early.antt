@@ -11,7 +11,7 @@ use Rattle.image.specs.declared.Verdict.{Verdict}
 use Rattle.image.specs.declared.Verdict.the-variants.{Accepted, Refused}
 use Rattle.image.specs.declared.Refusal.the-variants.{BadLength, BadCount, BadRow, UnknownByte, OperandsCutOff, OutOfRange, BadEnd, BadTarget}
 use Rattle.image.specs.Image.{imageVerdict, numberIn}
-use Rattle.schedule.specs.Meaning.{scheduleOf, numberOf}
+use Rattle.schedule.specs.Meaning.{scheduleOf, numberOfSchedule}
 use Rattle.demands.specs.Input.{Input, badCores, badArguments, badWords, entryCount, refusalOf}
 use Rattle.reading.specs.Reading.{scheduleIn}
 use Rattle.transcript.specs.Job.{inputOf}
@@ -41,7 +41,7 @@ unfolding numberOfRun refusalOf
 roomy i s w e =
     let room : List ℕ = replicate (entryCount (scheduleOf s)) 0 in
     let l : entryCount (scheduleOf s) ≤ length room = omega (arith, length-replicate {A = ℕ} (entryCount (scheduleOf s)) 0) in
-    tests (numberIn (imageVerdict (i .image))) (first-eight (imageVerdict (i .image))) (badCores i) (not (eqb (numberIn (imageVerdict (i .image))) 0)) (badArguments i) (not (eqb (numberOf (scheduleOf s)) 0))
+    tests (numberIn (imageVerdict (i .image))) (first-eight (imageVerdict (i .image))) (badCores i) (not (eqb (numberIn (imageVerdict (i .image))) 0)) (badArguments i) (not (eqb (numberOfSchedule (scheduleOf s)) 0))
     (rw (w, le-ltb (length room) (entryCount (scheduleOf s)) l) at e)
 
 -- "Input that ends before the schedule gives `refused 25`", and nothing else does

@@ -14,7 +14,8 @@ use Rattle.schedule.specs.Meaning.{Schedule, entries, malformed, scheduleOf, co
 use Rattle.schedule.specs.declared.Entry.{Entry}
 use Rattle.schedule.specs.declared.Counted.{Counted}
 use Rattle.schedule.specs.declared.Counted.the-variants.{Entries, Malformed}
-use Rattle.schedule.proofs.Following.{allBytes, Accepted, accepted}
+use Rattle.schedule.proofs.Following.{Accepted, accepted}
+use Rattle.schedule.specs.Format.{bytesOfEntries}
 use Rattle.rules.specs.State.{Outcome, going, finished, faulted}
 use Rattle.rules.proofs.Laws.{logs-many}
 use Rattle.rules.specs.Runs.{runFrom, logsFrom}
@@ -30,8 +31,8 @@ use Rattle.transcript.specs.LastLine.{lastLine}
 use Rattle.transcript.specs.Transcript.{playedText, numberOfRun, runText}
 use Rattle.transcript.specs.Parts.{linesOf}
 
-twice-as-many : (es : List Entry) → 2 * length es ≤ length (allBytes es)
-unfolding allBytes
+twice-as-many : (es : List Entry) → 2 * length es ≤ length (bytesOfEntries es)
+unfolding bytesOfEntries
 twice-as-many [] = omega arith
 twice-as-many (e ∷ es) = simp length-append (omega (arith, two-bytes e, twice-as-many es))
 

@@ -11,9 +11,9 @@ use lib.Seq.{take-at, drop-at, drop-drop, length-take-le}
 use Rattle.schedule.specs.declared.Entry.{Entry}
 use Rattle.schedule.specs.declared.Entry.the-variants.{Step, Take, Steal, Enable}
 use Rattle.schedule.specs.declared.Written.the-variants.{Bytes, NoRoom}
-use Rattle.schedule.specs.Format.{bytesOf}
+use Rattle.schedule.specs.Format.{bytesOf, bytesOfEntries}
 use Rattle.schedule.specs.Writing.{placed, writtenOf, Writes}
-use Rattle.rounds.specs.Rounds.{isWritten, bytesOfAll}
+use Rattle.rounds.specs.Rounds.{isWritten}
 use Rattle.turns.specs.Steps.{lastKept, kept, Puts, Keeps}
 
 -- "when .. fewer than 3 bytes are left": an entry has 2 or 3
@@ -24,46 +24,46 @@ short (Steal c t) = (omega arith, omega arith)
 short (Enable t) = (omega arith, omega arith)
 
 -- the bytes of entries behind others
-pub bytes-append : (es ds : List Entry) → bytesOfAll (es ++ ds) ≡ bytesOfAll es ++ bytesOfAll ds
-unfolding bytesOfAll
+pub bytes-append : (es ds : List Entry) → bytesOfEntries (es ++ ds) ≡ bytesOfEntries es ++ bytesOfEntries ds
+unfolding bytesOfEntries
 bytes-append [] ds = refl
-bytes-append (e ∷ es) ds = ap (λ (l : List ℕ). bytesOf e ++ l) (bytes-append es ds) ∙ sym (append-assoc (bytesOf e) (bytesOfAll es) (bytesOfAll ds))
+bytes-append (e ∷ es) ds = ap (λ (l : List ℕ). bytesOf e ++ l) (bytes-append es ds) ∙ sym (append-assoc (bytesOf e) (bytesOfEntries es) (bytesOfEntries ds))
 
-pub many-append : (es ds : List Entry) → length (bytesOfAll (es ++ ds)) ≡ length (bytesOfAll es) + length (bytesOfAll ds)
-many-append es ds = ap length (bytes-append es ds) ∙ length-append (bytesOfAll es) (bytesOfAll ds)
+pub many-append : (es ds : List Entry) → length (bytesOfEntries (es ++ ds)) ≡ length (bytesOfEntries es) + length (bytesOfEntries ds)
+many-append es ds = ap length (bytes-append es ds) ∙ length-append (bytesOfEntries es) (bytesOfEntries ds)
 
 -- of one entry again and again
 module _ (e : Entry) where
-  pub row-more : (n : ℕ) → bytesOfAll (replicate n e) ++ bytesOf e ≡ bytesOfAll (replicate (suc n) e)
-  unfolding bytesOfAll
+  pub row-more : (n : ℕ) → bytesOfEntries (replicate n e) ++ bytesOf e ≡ bytesOfEntries (replicate (suc n) e)
+  unfolding bytesOfEntries
   row-more zero = sym (append-nil (bytesOf e))
-  row-more (suc n) = append-assoc (bytesOf e) (bytesOfAll (replicate n e)) (bytesOf e) ∙ ap (λ (l : List ℕ). bytesOf e ++ l) (row-more n)
+  row-more (suc n) = append-assoc (bytesOf e) (bytesOfEntries (replicate n e)) (bytesOf e) ∙ ap (λ (l : List ℕ). bytesOf e ++ l) (row-more n)
 
-  pub row-fits : (i n : ℕ) → i < n → length (bytesOfAll (replicate i e)) + length (bytesOf e) ≤ length (bytesOfAll (replicate n e))
-  unfolding bytesOfAll
+  pub row-fits : (i n : ℕ) → i < n → length (bytesOfEntries (replicate i e)) + length (bytesOf e) ≤ length (bytesOfEntries (replicate n e))
+  unfolding bytesOfEntries
   row-fits i zero l = absurd (omega (arith, l))
-  row-fits zero (suc n) l = omega (arith, length-append (bytesOf e) (bytesOfAll (replicate n e)))
+  row-fits zero (suc n) l = omega (arith, length-append (bytesOf e) (bytesOfEntries (replicate n e)))
   row-fits (suc i) (suc n) l =
-      omega (arith, row-fits i n (omega (arith, l)), length-append (bytesOf e) (bytesOfAll (replicate i e)), length-append (bytesOf e) (bytesOfAll (replicate n e)))
+      omega (arith, row-fits i n (omega (arith, l)), length-append (bytesOf e) (bytesOfEntries (replicate i e)), length-append (bytesOf e) (bytesOfEntries (replicate n e)))
 
-  pub row-many : (n : ℕ) → length (bytesOf e) ≡ 2 → length (bytesOfAll (replicate n e)) ≡ 2 * n
-  unfolding bytesOfAll
+  pub row-many : (n : ℕ) → length (bytesOf e) ≡ 2 → length (bytesOfEntries (replicate n e)) ≡ 2 * n
+  unfolding bytesOfEntries
   row-many zero two = refl
-  row-many (suc n) two = length-append (bytesOf e) (bytesOfAll (replicate n e)) ∙ omega (arith, two, row-many n two)
+  row-many (suc n) two = length-append (bytesOf e) (bytesOfEntries (replicate n e)) ∙ omega (arith, two, row-many n two)
 
   -- the last one
-  pub last-bytes : (log : ℕ) → isWritten log ≡ true → bytesOfAll (lastKept e log) ≡ bytesOf e
-  unfolding bytesOfAll
+  pub last-bytes : (log : ℕ) → isWritten log ≡ true → bytesOfEntries (lastKept e log) ≡ bytesOf e
+  unfolding bytesOfEntries
   last-bytes log h = rw h (append-nil (bytesOf e))
 
-  pub last-none : (log : ℕ) → isWritten log ≡ false → bytesOfAll (lastKept e log) ≡ []
-  unfolding bytesOfAll
+  pub last-none : (log : ℕ) → isWritten log ≡ false → bytesOfEntries (lastKept e log) ≡ []
+  unfolding bytesOfEntries
   last-none log h = rw h
 
-  pub last-few : (log : ℕ) → length (bytesOfAll (lastKept e log)) ≤ 3
+  pub last-few : (log : ℕ) → length (bytesOfEntries (lastKept e log)) ≤ 3
   last-few log = by (isWritten log) refl
     where
-      by : (b : Bool) → isWritten log ≡ b → length (bytesOfAll (lastKept e log)) ≤ 3
+      by : (b : Bool) → isWritten log ≡ b → length (bytesOfEntries (lastKept e log)) ≤ 3
       by true h = rw (last-bytes log h) (short e .1)
       by false h = rw (last-none log h) (omega arith)
 
@@ -122,35 +122,35 @@ one-less n left l h = omega (arith, l, h)
 pub all-is : (n left : ℕ) → left ≤ 0 → n - left ≡ n
 all-is n left l = omega (arith, l)
 
-pub first : (e : Entry) (b : List ℕ) (at : ℕ) → Puts (bytesOfAll (replicate 0 e)) b at at b
-unfolding bytesOfAll
+pub first : (e : Entry) (b : List ℕ) (at : ℕ) → Puts (bytesOfEntries (replicate 0 e)) b at at b
+unfolding bytesOfEntries
 first e b at = puts-none b at
 
 -- an entry that is kept: so many of it are written, and then the last
-module _ (e : Entry) (again log : ℕ) (b : List ℕ) (at : ℕ) (room : at + length (bytesOfAll (kept e again log)) ≤ length b) where
-  all-fit : at + length (bytesOfAll (replicate again e)) + length (bytesOfAll (lastKept e log)) ≤ length b
+module _ (e : Entry) (again log : ℕ) (b : List ℕ) (at : ℕ) (room : at + length (bytesOfEntries (kept e again log)) ≤ length b) where
+  all-fit : at + length (bytesOfEntries (replicate again e)) + length (bytesOfEntries (lastKept e log)) ≤ length b
   all-fit = omega (arith, room, many-append (replicate again e) (lastKept e log))
 
   module _ (p : ℕ) (b' : List ℕ) (same : length b' ≡ length b) where
     -- i of them are
-    module _ (i : ℕ) (h : Puts (bytesOfAll (replicate i e)) b at p b') where
+    module _ (i : ℕ) (h : Puts (bytesOfEntries (replicate i e)) b at p b') where
       pub next-fits : i < again → p + length (bytesOf e) ≤ length b'
       next-fits l = omega (arith, same, all-fit, h .position, row-fits e i again l)
 
-      pub one-more : (q : ℕ) (b'' : List ℕ) → Puts (bytesOf e) b' p q b'' → Puts (bytesOfAll (replicate (suc i) e)) b at q b''
+      pub one-more : (q : ℕ) (b'' : List ℕ) → Puts (bytesOf e) b' p q b'' → Puts (bytesOfEntries (replicate (suc i) e)) b at q b''
       one-more q b'' k = subst (λ (l : List ℕ). Puts l b at q b'') (row-more e i) (puts-more _ _ b b' b'' at p q (omega (arith, all-fit)) h k)
 
     -- all of them are
-    module _ (h : Puts (bytesOfAll (replicate again e)) b at p b') where
+    module _ (h : Puts (bytesOfEntries (replicate again e)) b at p b') where
       pub last-fits : isWritten log ≡ true → p + length (bytesOf e) ≤ length b'
       last-fits w = omega (arith, same, all-fit, h .position, ap length (last-bytes e log w))
 
       pub all-kept : isWritten log ≡ true → (q : ℕ) (b'' : List ℕ) → Puts (bytesOf e) b' p q b'' → Keeps e again log b at q b''
       all-kept w q b'' k =
-          subst (λ (l : List ℕ). Puts l b at q b'') (ap (λ (l : List ℕ). bytesOfAll (replicate again e) ++ l) (sym (last-bytes e log w)) ∙ sym (bytes-append (replicate again e) (lastKept e log)))
+          subst (λ (l : List ℕ). Puts l b at q b'') (ap (λ (l : List ℕ). bytesOfEntries (replicate again e) ++ l) (sym (last-bytes e log w)) ∙ sym (bytes-append (replicate again e) (lastKept e log)))
           (puts-more _ _ b b' b'' at p q (omega (arith, all-fit)) h k)
 
       pub not-kept : isWritten log ≡ false → Keeps e again log b at p b'
       not-kept w =
           subst (λ (l : List ℕ). Puts l b at p b')
-          (sym (append-nil _) ∙ ap (λ (l : List ℕ). bytesOfAll (replicate again e) ++ l) (sym (last-none e log w)) ∙ sym (bytes-append (replicate again e) (lastKept e log))) h
+          (sym (append-nil _) ∙ ap (λ (l : List ℕ). bytesOfEntries (replicate again e) ++ l) (sym (last-none e log w)) ∙ sym (bytes-append (replicate again e) (lastKept e log))) h

@@ -11,7 +11,7 @@ use lib.Dec.{eqb, leb}
 use lib.ListN.{length}
 use Rattle.schedule.specs.declared.Entry.{Entry}
 use Rattle.schedule.specs.declared.Entry.the-variants.{Enable}
-use Rattle.schedule.specs.Format.{bytesOf}
+use Rattle.schedule.specs.Format.{bytesOf, bytesOfEntries}
 use Rattle.thread.specs.Thread.{none}
 use Rattle.rules.specs.State.{Job, State, After, isOver}
 use Rattle.rules.specs.Rules.{entryOf}
@@ -19,14 +19,14 @@ use Rattle.rules.specs.Sound.{Sound}
 use Rattle.soundness.proofs.Kept.{entry-sound}
 use Rattle.soundness.proofs.KeepSized.{keep-count}
 use Rattle.search.specs.Search.{choiceOf, lowestSuspended, isNothing}
-use Rattle.rounds.specs.Rounds.{Progress, isWritten, mayTry, recorded, tried, turns, fresh, goesOn, wakened, rounds, usable, beginning, scheduledFrom, bytesOfAll}
+use Rattle.rounds.specs.Rounds.{Progress, isWritten, mayTry, recorded, tried, turns, fresh, goesOn, wakened, rounds, usable, beginning, scheduledFrom}
 use Rattle.turns.specs.Steps.{lastKept}
 use Rattle.turns.proofs.Keeping.{short, last-bytes, last-few, many-append}
 use Rattle.turns.proofs.Refusing.{refused-stays, nothing-refused}
 
 -- how many bytes entries have
 abbrev pub many : List Entry → ℕ
-many es = length (bytesOfAll es)
+many es = length (bytesOfEntries es)
 
 -- how far the scheduler has come, by the state, the entries written and whether one of this round was accepted
 abbrev pub standing : ℕ → State → List Entry → Bool → Progress
@@ -127,7 +127,7 @@ from-enabled j p t still e = rw (still, e)
 module _ (j : Job) (count room : ℕ) where
   -- the first round
   pub begins : (s : State) (size : ℕ) → Sound j s → s .count ≡ count → room ≡ usable size → Rounding j count room s size s [] false 0
-  unfolding bytesOfAll
+  unfolding bytesOfEntries
   begins s size ok n r =
       let whole : room - 0 ≡ usable size = sub-zero room ∙ r in
       record {

@@ -11,6 +11,7 @@ use lib.Seq.{take-at, drop-at, drop-drop}
 use Rattle.command.proofs.Bools.{both}
 use Rattle.schedule.specs.declared.Entry.{Entry}
 use Rattle.schedule.specs.declared.Entry.the-variants.{Enable}
+use Rattle.schedule.specs.Format.{bytesOfEntries}
 use Rattle.thread.specs.Thread.{none}
 use Rattle.rules.specs.State.{Job, State, After, isOver}
 use Rattle.rules.specs.Rules.{entryOf}
@@ -19,7 +20,7 @@ use Rattle.entries.specs.declared.Carried.{Carried}
 use Rattle.entries.specs.Repeat.{Repeats}
 use Rattle.search.proofs.Searching.{lowest-is}
 use Rattle.search.specs.Search.{choiceOf, lowestSuspended, isNothing}
-use Rattle.rounds.specs.Rounds.{Progress, usable, scheduledFrom, bytesOfAll, filled}
+use Rattle.rounds.specs.Rounds.{Progress, usable, scheduledFrom, filled}
 use Rattle.turns.specs.Steps.{stepsBehind, lastKept, kept, Puts, Keeps, Rounded}
 use Rattle.turns.proofs.Keeping.{short, last-bytes, bytes-append, many-append}
 use Rattle.turns.proofs.Refusing.{enables}
@@ -39,7 +40,7 @@ pub record Stage (j : Job) (count room : ℕ) (begin : State) (first : List ℕ)
   pub entries : List Entry
   pub rounding : Rounding j count room begin (length first) s entries m c
   pub used : at ≡ many entries
-  pub bytes : buffer ≡ bytesOfAll entries ++ drop at first
+  pub bytes : buffer ≡ bytesOfEntries entries ++ drop at first
   pub has : room ≤ length first
 
 -- the test before a try
@@ -55,7 +56,7 @@ module _ (s : State) (left : ℕ) (over b : Bool) (is : over ≡ isOver (s .outc
 
 module _ (j : Job) (count room : ℕ) where
   pub begun : (s : State) (first : List ℕ) → Sound j s → s .count ≡ count → room ≡ usable (length first) → Stage j count room s first s 0 first false 0
-  unfolding bytesOfAll
+  unfolding bytesOfEntries
   begun s first ok n r = record {
     entries = [];
     rounding = begins j count room s (length first) ok n r;
@@ -75,35 +76,35 @@ module _ (j : Job) (count room : ℕ) where
     within = omega (arith, st .used, st .rounding .within)
 
     pub same-size : length buffer ≡ length first
-    same-size = ap length (st .bytes) ∙ length-append (bytesOfAll es) (drop at first) ∙ omega (arith, length-drop at first, st .used, st .has, within)
+    same-size = ap length (st .bytes) ∙ length-append (bytesOfEntries es) (drop at first) ∙ omega (arith, length-drop at first, st .used, st .has, within)
 
     -- more entries are written
-    module _ (ds : List Entry) (next : ℕ) (after : List ℕ) (k : Puts (bytesOfAll ds) buffer at next after) where
+    module _ (ds : List Entry) (next : ℕ) (after : List ℕ) (k : Puts (bytesOfEntries ds) buffer at next after) where
       used-next : next ≡ many (es ++ ds)
       used-next = omega (arith, k .position, st .used, many-append es ds)
 
-      bytes-next : after ≡ bytesOfAll (es ++ ds) ++ drop next first
+      bytes-next : after ≡ bytesOfEntries (es ++ ds) ++ drop next first
       bytes-next =
-          let head : take at buffer ≡ bytesOfAll es = ap (take at) (st .bytes) ∙ take-at (bytesOfAll es) (drop at first) at (sym (st .used)) in
+          let head : take at buffer ≡ bytesOfEntries es = ap (take at) (st .bytes) ∙ take-at (bytesOfEntries es) (drop at first) at (sym (st .used)) in
           let tail : drop (at + many ds) buffer ≡ drop next first =
           sym (drop-drop (many ds) at buffer)
           ∙ ap (λ (l : List ℕ). drop (many ds) (drop at l)) (st .bytes)
-          ∙ ap (drop (many ds)) (drop-at (bytesOfAll es) (drop at first) at (sym (st .used)))
+          ∙ ap (drop (many ds)) (drop-at (bytesOfEntries es) (drop at first) at (sym (st .used)))
           ∙ drop-drop (many ds) at first
           ∙ ap (λ (n : ℕ). drop n first) (sym (k .position))
           in
           k .buffer
-          ∙ ap (λ (l : List ℕ). l ++ (bytesOfAll ds ++ drop (at + many ds) buffer)) head
-          ∙ ap (λ (l : List ℕ). bytesOfAll es ++ (bytesOfAll ds ++ l)) tail
-          ∙ sym (append-assoc (bytesOfAll es) (bytesOfAll ds) (drop next first))
+          ∙ ap (λ (l : List ℕ). l ++ (bytesOfEntries ds ++ drop (at + many ds) buffer)) head
+          ∙ ap (λ (l : List ℕ). bytesOfEntries es ++ (bytesOfEntries ds ++ l)) tail
+          ∙ sym (append-assoc (bytesOfEntries es) (bytesOfEntries ds) (drop next first))
           ∙ ap (λ (l : List ℕ). l ++ drop next first) (sym (bytes-append es ds))
 
     -- it ends
     finishes : standing room s es m ≡ scheduledFrom j begin (length first) → Rounded j begin first s at buffer
     finishes all = record {
       state = ap (λ (x : Progress). x .state) all;
-      used = st .used ∙ ap (λ (x : Progress). length (bytesOfAll (x .written))) all;
-      buffer = st .bytes ∙ ap (λ (n : ℕ). bytesOfAll es ++ drop n first) (st .used) ∙ ap (λ (x : Progress). filled first (x .written)) all;
+      used = st .used ∙ ap (λ (x : Progress). length (bytesOfEntries (x .written))) all;
+      buffer = st .bytes ∙ ap (λ (n : ℕ). bytesOfEntries es ++ drop n first) (st .used) ∙ ap (λ (x : Progress). filled first (x .written)) all;
     }
 
     -- "when over", or with "fewer than 3 bytes"
@@ -140,7 +141,7 @@ module _ (j : Job) (count room : ℕ) where
             carries-on j count room begin (length first) s es m c (st .rounding) l e choice ongoing three-left x end
             (subst (λ (n : ℕ). Repeats j s e n x end) (behind ∙ ap (λ (n : ℕ). stepsBehind count (room - n)) (st .used)) rep)
 
-        pub room-for : at + length (bytesOfAll (kept e (x .again) (x .log))) ≤ length buffer
+        pub room-for : at + length (bytesOfEntries (kept e (x .again) (x .log))) ≤ length buffer
         room-for = omega (arith, on .within, many-append es (kept e (x .again) (x .log)), st .used, same-size, st .has)
 
         module _ (next : ℕ) (after : List ℕ) (k : Keeps e (x .again) (x .log) buffer at next after) where
@@ -155,7 +156,7 @@ module _ (j : Job) (count room : ℕ) where
 
           wrote : x .log ≡ 0 → at < next
           wrote z =
-              let two : 2 ≤ length (bytesOfAll (lastKept e (x .log))) = rw (last-bytes e (x .log) (rw z)) (short e .0) in
+              let two : 2 ≤ length (bytesOfEntries (lastKept e (x .log))) = rw (last-bytes e (x .log) (rw z)) (short e .0) in
               omega (arith, two, k .position, many-append (replicate (x .again) e) (lastKept e (x .log)))
 
           -- the bytes left and the bonus do not grow
@@ -193,7 +194,7 @@ module _ (j : Job) (count room : ℕ) where
               subst (λ (a : After). Rounding j count room begin (length first) (a .state) (es ++ lastKept (Enable t) (a .log)) false 0) (sym gives)
               (again-enabled j count room begin (length first) s es m c (st .rounding) ongoing three-left last still t lowest some accepted-log)
 
-          pub enable-fits : at + length (bytesOfAll (kept (Enable t) 0 log)) ≤ length buffer
+          pub enable-fits : at + length (bytesOfEntries (kept (Enable t) 0 log)) ≤ length buffer
           enable-fits = omega (arith, on-enabled .within, many-append es (lastKept (Enable t) log), st .used, same-size, st .has)
 
           module _ (next : ℕ) (after : List ℕ) (k : Keeps (Enable t) 0 log buffer at next after) where
@@ -209,5 +210,5 @@ module _ (j : Job) (count room : ℕ) where
             pub woke : (at < next) × (next ≤ room)
             woke =
                 let zero : log ≡ 0 = ap (λ (a : After). a .log) gives ∙ accepted-log in
-                let two : 2 ≤ length (bytesOfAll (lastKept (Enable t) log)) = rw (last-bytes (Enable t) log (rw zero)) (short (Enable t) .0) in
+                let two : 2 ≤ length (bytesOfEntries (lastKept (Enable t) log)) = rw (last-bytes (Enable t) log (rw zero)) (short (Enable t) .0) in
                 (omega (arith, two, k .position), omega (arith, on-enabled .within, used-next _ next after k))

@@ -6,8 +6,9 @@ use Prim.Native.Nat.{ℕ, _+_, _-_, _/_}
 use lib.Dec.{eqb}
 use lib.ListN.{length, take, drop, replicate}
 use Rattle.schedule.specs.declared.Entry.{Entry}
+use Rattle.schedule.specs.Format.{bytesOfEntries}
 use Rattle.rules.specs.State.{Job, State}
-use Rattle.rounds.specs.Rounds.{isWritten, scheduledFrom, bytesOfAll, filled}
+use Rattle.rounds.specs.Rounds.{isWritten, scheduledFrom, filled}
 
 -- how many steps of an only core may follow a first one: each has 2 bytes, and before each 3 must be left
 abbrev pub stepsBehind : ℕ → ℕ → ℕ
@@ -28,10 +29,10 @@ kept e again log = replicate again e ++ lastKept e log
 
 -- its bytes stand at a position
 abbrev pub Keeps : Entry → ℕ → ℕ → List ℕ → ℕ → ℕ → List ℕ → Type 0
-Keeps e again log before at r after = Puts (bytesOfAll (kept e again log)) before at r after
+Keeps e again log before at r after = Puts (bytesOfEntries (kept e again log)) before at r after
 
 -- the rounds from a state on: the state that they end in, and their entries at the buffer's front
 pub record Rounded (j : Job) (s : State) (before : List ℕ) (end : State) (position : ℕ) (after : List ℕ) : Type 0 where
   pub state : end ≡ scheduledFrom j s (length before) .state
-  pub used : position ≡ length (bytesOfAll (scheduledFrom j s (length before) .written))
+  pub used : position ≡ length (bytesOfEntries (scheduledFrom j s (length before) .written))
   pub buffer : after ≡ filled before (scheduledFrom j s (length before) .written)

@@ -15,11 +15,10 @@ use tables::marks::is_over;
 ghost use mathlib.Core.Path.{_≡_};
 ghost use Prim.Native.Nat.{_+_, _≤_};
 ghost use lib.ListN.{length};
-ghost use Rattle.schedule.specs.Format.{bytesOf};
+ghost use Rattle.schedule.specs.Format.{bytesOf, bytesOfEntries};
 ghost use Rattle.rules.specs.State.{jobOf};
 ghost use Rattle.tables.specs.Meaning.{meaning};
 ghost use Rattle.entries.specs.Given.{Sounding};
-ghost use Rattle.rounds.specs.Rounds.{bytesOfAll};
 ghost use Rattle.turns.specs.Steps.{stepsBehind, kept, Puts, Keeps, Rounded};
 
 // How many steps of a machine's only core may follow a first one, with so many bytes left: before each 3 must be left. A core among others
@@ -51,7 +50,7 @@ fn put(entry: Entry, buffer: &mut [u8], at: usize) -> usize
 // Writes an entry that was carried out once and then again, each time accepted but perhaps the last, which is written if it is accepted or
 // faults; gives the position behind.
 fn keep(entry: Entry, again: usize, log: u8, buffer: &mut [u8], at: usize) -> usize
-    requires { ⌜ at + length (bytesOfAll (kept entry again log)) ≤ length (now buffer) ⌝ }
+    requires { ⌜ at + length (bytesOfEntries (kept entry again log)) ≤ length (now buffer) ⌝ }
     ensures { λ r. ⌜ Keeps entry again log (now (buffer .entry)) at r (now (buffer .exit)) ⌝ }
 {
     let mut p = at;

@@ -1,7 +1,7 @@
 -- `reader::read_at` meets its contract: a walk of its MIR, by hand. The reader that each call returns is held in a local and passed to the next call. All that the proof knows of the three callees is that each meets its contract.
 -- In a local of a body MIR erases the lifetime of the struct's type, so a machine value is shown to have the type at `erased`.
 -- Assumes nothing.
-use mathlib.Core.Path.{_≡_, refl, ap, _∙_}
+use mathlib.Core.Path.{_≡_, refl, subst, _∙_}
 use Prim.Native.Nat.{ℕ, _<_, _^_}
 use mathlib.Core.List.{List, [], _∷_}
 use lib.ListN.{length}
@@ -38,7 +38,7 @@ use denote.Triple.Table.{entered, cited}
 use denote.Triple.Walked.{says, Stays, stay-none, stay-none-slice, walkOf, goes-none, goes-none-slice, Walks, ends-at, walked, walk-meets}
 use denote.Exit.{yes}
 use denote.Triple.Clauses.{ensured, lasts}
-use Rattle.schedule.specs.Format.{entryAt}
+use Rattle.schedule.specs.Format.{EntryAnswer}
 use Rattle.reader.specs.declared.EntryReader.{EntryReader}
 use Rattle.schedule.specs.declared.EntryRead.{EntryRead}
 use Rattle.reader.proofs.EntryReader as T
@@ -130,10 +130,10 @@ module _ {M : Type 1} (𝓤 : URA M) (H : Heap 𝓤) (A : Atoms 𝓤) (W : Given
   goes-entry : (r : EntryReader) (u : Val) → ent 𝓤 (⋆ 𝓤 H A (‵ (B (κ, tt) .own r (u ∷ [])) ∷ (‵ (flft κ q) ⊛ ‵ ftrue) ∷ [])) (Entry 𝓤 H A mem run .pre (to-entry r u))
   goes-entry r u = qed W (‵ (B (κ, tt) .own r (u ∷ [])) ∷ (‵ (flft κ q) ⊛ ‵ ftrue) ∷ []) ∵ nothing ! $ move ! (1 ∷ 0 ∷ []) $ fjoin ! $ move ! (1 ∷ 0 ∷ []) $ join ! $ frame ! $ done !
 
-  entry-said : (r : EntryReader) (t : EntryRead) → ent 𝓤 (ensured 𝓤 H A entry.ended (entry.clauses 𝓤 H A mem run) (κ, tt) (r, tt) tt t) (fact 𝓤 (t ≡ entryAt (now (r .schedule)) (r .at)))
-  entry-said r t = exE 𝓤 _ (λ ws. snd∗ 𝓤 (sem 𝓤 H A (lasts entry.ended (κ, tt) (r, tt) ws)) (fact 𝓤 (t ≡ entryAt (now (r .schedule)) (r .at))))
+  entry-said : (r : EntryReader) (t : EntryRead) → ent 𝓤 (ensured 𝓤 H A entry.ended (entry.clauses 𝓤 H A mem run) (κ, tt) (r, tt) tt t) (fact 𝓤 (EntryAnswer (now (r .schedule)) (r .at) t))
+  entry-said r t = exE 𝓤 _ (λ ws. snd∗ 𝓤 (sem 𝓤 H A (lasts entry.ended (κ, tt) (r, tt) ws)) (fact 𝓤 (EntryAnswer (now (r .schedule)) (r .at) t)))
 
-  exits : (t : EntryRead) (u : Val) → t ≡ entryAt (now s) n → ent 𝓤 (⋆ 𝓤 H A (‵ (S.the-row .own t (u ∷ [])) ∷ (‵ (flft κ q) ⊛ ‵ ftrue) ∷ ‵ Own ∷ [])) (Post u)
+  exits : (t : EntryRead) (u : Val) → EntryAnswer (now s) n t → ent 𝓤 (⋆ 𝓤 H A (‵ (S.the-row .own t (u ∷ [])) ∷ (‵ (flft κ q) ⊛ ‵ ftrue) ∷ ‵ Own ∷ [])) (Post u)
   exits t u e =
       qed W (‵ (S.the-row .own t (u ∷ [])) ∷ (‵ (flft κ q) ⊛ ‵ ftrue) ∷ ‵ Own ∷ []) ∵
       suffices ! _ (ends-at 𝓤 H A read-at.ended stayed (read-at.clauses 𝓤 H A mem run) W (((κ, tt), (q, tt), tt, (s, (n, tt)), at), tt) u t (tt, (tt, tt)) (tt, (tt, tt))) $ says ! e $
@@ -164,13 +164,13 @@ module _ {M : Type 1} (𝓤 : URA M) (H : Heap 𝓤) (A : Atoms 𝓤) (W : Given
         use2 W (raw (Entry 𝓤 H A mem run .pre (to-entry r₁ u₁))) (goes-entry r₁ u₁) $
         calls-at ! fm (Entry 𝓤 H A mem run) known-entry (to-entry r₁ u₁) (and-then ! (load ! (from ! (stop !)) (look ! 4 refl)) (no-more !)) (λ u.
         use1 W (later (some (λ (t : EntryRead). ((‵ (flft κ q) ⊛ ‵ ftrue) ⊛ ‵ (S.the-row .own t (u ∷ []))) ⊛ raw (ensured 𝓤 H A entry.ended (entry.clauses 𝓤 H A mem run) (κ, tt) (r₁, tt) tt t)))) (id⊢ 𝓤 _) $ await ! tt $ pick ! (λ t.
-        split ! $ move ! (1 ∷ []) $ use1 W (raw (fact 𝓤 (t ≡ entryAt (now (r₁ .schedule)) (r₁ .at)))) (entry-said r₁ t) $ heard ! (t ≡ entryAt (now (r₁ .schedule)) (r₁ .at)) (λ e. split ! $ move ! (1 ∷ []) $
+        split ! $ move ! (1 ∷ []) $ use1 W (raw (fact 𝓤 (EntryAnswer (now (r₁ .schedule)) (r₁ .at) t))) (entry-said r₁ t) $ heard ! (EntryAnswer (now (r₁ .schedule)) (r₁ .at) t) (λ e. split ! $ move ! (1 ∷ []) $
         -- [the result; the token; what s owns; _4; …; _3; …; _2; …; _1; …; room for _0; …]
         peeks ! S.the-row (Is S.the-row) (shows 𝓤 H A S.the-row) t (u ∷ []) (λ is.
         land ! (from ! (stop !)) (init ! 11 refl (EL.lawful S.the-type S′.the-laws 𝓤 H A W tt .typed t _ is .0)) $
         returns ! (look ! 11 refl) $ forget ! 3 refl $ forget ! 5 refl $ forget ! 7 refl $ forget ! 9 refl $ forget ! 11 refl $
         move ! (11 ∷ 12 ∷ []) $ free1 ! $ move ! (9 ∷ 10 ∷ []) $ free1 ! $ move ! (7 ∷ 8 ∷ []) $ free1 ! $ move ! (5 ∷ 6 ∷ []) $ free1 ! $ move ! (3 ∷ 4 ∷ []) $ free1 ! $ free0 ! $
-        by ! (exits t u (e ∙ (ap (λ (x : RefT (List ℕ)). entryAt (now x) (r₁ .at)) (e₁ .0 ∙ e₀ .0) ∙ ap (entryAt (now s)) (e₁ .1)))))))))))))))))))))
+        by ! (exits t u (subst (λ (x : RefT (List ℕ)). EntryAnswer (now x) n t) (e₁ .0 ∙ e₀ .0) (subst (λ (k : ℕ). EntryAnswer (now (r₁ .schedule)) k t) (e₁ .1) e))))))))))))))))))))
 
 module _ {M : Type 1} (𝓤 : URA M) (H : Heap 𝓤) (A : Atoms 𝓤) (W : Given 𝓤 H A) (mem : Memory → SProp 𝓤) (run : Routine → Fun 𝓤) (𝓣 : Tables 𝓤 H)
     (known-new : Triple 𝓤 (𝓣 .C #reader·new) (New 𝓤 H A mem run)) (known-moved : Triple 𝓤 (𝓣 .C #reader·moved) (Moved 𝓤 H A mem run)) (known-entry : Triple 𝓤 (𝓣 .C #reader·entry) (Entry 𝓤 H A mem run)) where

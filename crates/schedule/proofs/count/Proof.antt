@@ -47,22 +47,22 @@ add-entries-2 : tie.Need-add-entries-2 Inv-loop μ-loop
 add-entries-2 c = omega (arith, c .before .before .before .before .before .before .loop .inv .few, c .before .before .before .before .before .before .loop .inv .within)
 
 loop-less-2 : tie.Need-loop-less-2 Inv-loop μ-loop
-loop-less-2 c = omega (arith, found _ _ _ _ (sym (c .before .before .before .read .ensures) ∙ c .before .next .given .1) .wide, found _ _ _ _ (sym (c .before .before .before .read .ensures) ∙ c .before .next .given .1) .within)
+loop-less-2 c = omega (arith, found _ _ _ _ (sym (c .before .before .before .read .ensures .is) ∙ c .before .next .given .1) .wide, found _ _ _ _ (sym (c .before .before .before .read .ensures .is) ∙ c .before .next .given .1) .within)
 
 loop-again-2 : tie.Need-loop-again-2 Inv-loop μ-loop
-loop-again-2 c = goes-on _ _ _ (c .before .before .before .before .before .before .loop .inv) _ _ (sym (c .before .before .before .read .ensures) ∙ c .before .next .given .1)
+loop-again-2 c = goes-on _ _ _ (c .before .before .before .before .before .before .loop .inv) _ _ (sym (c .before .before .before .read .ensures .is) ∙ c .before .next .given .1)
 
 enum-told : tie.Need-enum-told Inv-loop μ-loop
 enum-told c = search needs
 
 returns-2 : tie.Need-returns-2 Inv-loop μ-loop
-returns-2 c = counts _ _ (c .before .before .before .before .before .before .if1 .left) (stops _ _ _ (c .before .before .before .before .before .loop .inv) (sym (c .before .before .read .ensures) ∙ c .enum-told .given .1))
+returns-2 c = counts _ _ (c .before .before .before .before .before .before .if1 .left) (stops _ _ _ (c .before .before .before .before .before .loop .inv) (sym (c .before .before .read .ensures .is) ∙ c .enum-told .given .1))
 
 enum-told-2 : tie.Need-enum-told-2 Inv-loop μ-loop
 enum-told-2 c = search needs
 
 returns-3 : tie.Need-returns-3 Inv-loop μ-loop
-returns-3 c = counts _ _ (c .before .before .before .before .before .before .if1 .left) (spoils _ _ _ (c .before .before .before .before .before .loop .inv) (sym (c .before .before .read .ensures) ∙ c .enum-told2 .given .1))
+returns-3 c = counts _ _ (c .before .before .before .before .before .before .if1 .left) (spoils _ _ _ (c .before .before .before .before .before .loop .inv) (sym (c .before .before .read .ensures .is) ∙ c .enum-told2 .given .1))
 
 pub count-spec : {M : Type 1} → statement M
 count-spec =

@@ -2,7 +2,7 @@
 use borrow.Author.Tests.{eq-eqb, ne-eqb, lt-ltb, le-ltb}
 use mathlib.Core.Path.{sym, _∙_, ap}
 use borrow.Author.Needs.{needs}
-use Rattle.schedule.specs.Meaning.{numberOfCount}
+use Rattle.schedule.specs.Meaning.{numberOfCounted}
 use Rattle.schedule.proofs.Counting.{counted}
 use Rattle.demands.specs.Input.{refusalOf}
 use Rattle.begin.proofs.refusal.refusal.Statement.{statement}
@@ -53,7 +53,7 @@ returns-7 c = λ a. rw (ne-eqb _ _ (c .before .before .before .before .before .b
 
 returns-8 : tie.Need-returns-8
 unfolding refusalOf
-returns-8 c = λ a. rw (ne-eqb _ _ (c .before .before .before .before .before .before .before .if1 .left), le-ltb _ _ (c .before .before .before .before .before .before .if2 .left), ← c .before .before .before .before .before .before .before .before .before .before .before .before .before .before .pre, eq-eqb _ _ (c .before .before .before .before .before .if3 .left), rw (c .before .before .before .before .arguments-of .ensures) at (eq-eqb _ _ (c .before .before .before .if4 .left)), sym (c .before .before .count .ensures .number) ∙ ap numberOfCount (c .enum-told .given .1))
+returns-8 c = λ a. rw (ne-eqb _ _ (c .before .before .before .before .before .before .before .if1 .left), le-ltb _ _ (c .before .before .before .before .before .before .if2 .left), ← c .before .before .before .before .before .before .before .before .before .before .before .before .before .before .pre, eq-eqb _ _ (c .before .before .before .before .before .if3 .left), rw (c .before .before .before .before .arguments-of .ensures) at (eq-eqb _ _ (c .before .before .before .if4 .left)), sym (c .before .before .count .ensures .number) ∙ ap numberOfCounted (c .enum-told .given .1))
 
 returns-9 : tie.Need-returns-9
 unfolding refusalOf
