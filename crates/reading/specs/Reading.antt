@@ -2,9 +2,10 @@
 -- (two bytes), image, schedule". Bytes past the input's end read as 0.
 use mathlib.Core.Bool.{Bool}
 use mathlib.Core.List.{List, [], _∷_, _++_}
+use mathlib.Core.Path.{_≡_}
 use Prim.Native.Nat.{ℕ, zero, suc, _+_, _*_}
 use lib.Dec.{ltb}
-use lib.ListN.{length, getD, drop}
+use lib.ListN.{length, getD, take, drop}
 
 -- "values of two or four bytes are little-endian"
 abbrev pub pairOf : ℕ → ℕ → ℕ
@@ -34,7 +35,13 @@ coreCount s = getD s 0 0
 abbrev pub argumentCount : List ℕ → ℕ
 argumentCount s = getD s 1 0
 
--- the arguments stand at 2, and then one thing after the other
+-- the arguments, which stand at 2, read to the front of 255 words; those past them stay
+pub record ArgumentsRead (s before after : List ℕ) : Type 0 where
+  pub first : take (argumentCount s) after ≡ wordsFrom s 2 (argumentCount s)
+  pub many : length after ≡ 255
+  pub over : after ≡ readOver s 2 (argumentCount s) before
+
+-- after the arguments one thing stands after the other
 abbrev pub allowanceAt : List ℕ → ℕ
 allowanceAt s = 2 + 4 * argumentCount s
 

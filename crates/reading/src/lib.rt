@@ -3,8 +3,8 @@
 use command::byte_at;
 ghost use mathlib.Core.Path.{_≡_};
 ghost use Prim.Native.Nat.{_<_, _≤_};
-ghost use lib.ListN.{length, take};
-ghost use Rattle.reading.specs.Reading.{pairOf, wordOf, pairAt, wordAt, wordsFrom, readOver, coreCount, argumentCount, allowanceAt, imageAt, scheduleAt};
+ghost use lib.ListN.{length};
+ghost use Rattle.reading.specs.Reading.{pairOf, wordOf, pairAt, wordAt, readOver, ArgumentsRead, coreCount, argumentCount, allowanceAt, imageAt, scheduleAt};
 
 fn wide(byte: u8) -> usize
     ensures { λ r. ⌜ r ≡ byte ⌝ }
@@ -69,7 +69,7 @@ pub fn argument_count(input: &[u8]) -> usize
 
 // The arguments, to the front of words; the words stay 255, and those past the arguments stay as they were.
 pub fn read_arguments(input: &[u8], words: &mut [u32; 255])
-    ensures { λ _. ⌜ (take (argumentCount (now (input .entry))) (now (words .exit)) ≡ wordsFrom (now (input .entry)) 2 (argumentCount (now (input .entry)))) × (length (now (words .exit)) ≡ 255) × (now (words .exit) ≡ readOver (now (input .entry)) 2 (argumentCount (now (input .entry))) (now (words .entry))) ⌝ }
+    ensures { λ _. ⌜ ArgumentsRead (now (input .entry)) (now (words .entry)) (now (words .exit)) ⌝ }
 {
     read_words(input, 2, argument_count(input), words)
 }

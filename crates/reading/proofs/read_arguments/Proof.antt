@@ -13,7 +13,7 @@ read-words-requires c κs = search needs
 returns : tie.Need-returns
 returns c =
     let over = all-words _ _ _ _ _ _ (c .before .before .argument-count .ensures .0) (c .read-words .ensures) in
-    (first-words _ _ _ _ _ over, search needs, over)
+    record { first = first-words _ _ _ _ _ over; many = search needs; over = over }
 
 pub read-arguments-spec : {M : Type 1} → statement M
 read-arguments-spec = tie.close (tie.spec argument-count-requires read-words-requires returns)

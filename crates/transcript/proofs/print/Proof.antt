@@ -68,7 +68,7 @@ same-length-2 : tie.Need-same-length-2
 same-length-2 c = search needs
 
 returns-2 : tie.Need-returns-2
-returns-2 c = prints-run _ _ _ (c .before .before .before .before .before .before .before .before .before .before .before .before .before .before .before .before .before .image-at .ensures .0) (c .before .before .before .before .before .before .before .before .before .before .before .before .before .before .before .before .schedule-at .ensures) _ _ _ _ (c .before .before .before .before .before .before .before .before .before .before .core-count .ensures) (c .before .before .before .before .before .before .before .allowance .ensures) (c .before .before .before .before .before .before .before .before .before .before .before .before .argument-count .ensures .0) (c .before .before .before .before .before .before .before .before .before .before .before .before .before .read-arguments .ensures .0) (c .before .before .before .before .before .before .before .before .before .before .before .before .before .before .before .if1 .left) (c .before .before .before .transcribe .ensures)
+returns-2 c = prints-run _ _ _ (c .before .before .before .before .before .before .before .before .before .before .before .before .before .before .before .before .before .image-at .ensures .0) (c .before .before .before .before .before .before .before .before .before .before .before .before .before .before .before .before .schedule-at .ensures) _ _ _ _ (c .before .before .before .before .before .before .before .before .before .before .core-count .ensures) (c .before .before .before .before .before .before .before .allowance .ensures) (c .before .before .before .before .before .before .before .before .before .before .before .before .argument-count .ensures .0) (c .before .before .before .before .before .before .before .before .before .before .before .before .before .read-arguments .ensures .first) (c .before .before .before .before .before .before .before .before .before .before .before .before .before .before .before .if1 .left) (c .before .before .before .transcribe .ensures)
 
 pub print-spec : {M : Type 1} → statement M
 print-spec =
