@@ -69,10 +69,10 @@ module _ (i : Input) (k : Takes i) where
         λ ι. done (a ι) (d ι) (b ι)
     same-end (stopped w n t) v u m h l e = let z : _≡_ {A = ℕ} 0 1 = cc in absurd (omega arith)
 
-    agree : (v : ℕ) → end .outcome ≡ finished v → serialIn i ≡ done v (end .memory) (end .units)
+    agree : (v : ℕ) → end .outcome ≡ finished v → serialIn i ≡ done v (end .store .memory) (end .units)
     agree v over =
         serial-starts
-        ∙ same-end (serialFrom (jobIn i) (i .arguments) (i .memory)) v (end .units) (end .memory) (sound .sized .memory) (theory .size)
+        ∙ same-end (serialFrom (jobIn i) (i .arguments) (i .memory)) v (end .units) (end .store .memory) (sound .sized .memory) (theory .size)
         (theory .same ∙ entries-agree (jobIn i) (good i k) (i .arguments) (i .memory) (i .cores) (k .some) (k .most) (k .arguments) (k .memory) es v over)
 
     free : (v : ℕ) → end .outcome ≡ finished v → AllFree end
@@ -84,14 +84,14 @@ module _ (i : Input) (k : Takes i) where
       threadsOnce = record {
         many = finished-all (jobIn i) end sound v over;
         once = sound .freeThreads .once;
-        below = every-map (λ n h. h .0) (end .freeThreads) (sound .freeThreads .free);
+        below = every-map (λ n h. h .0) (end .queues .freeThreads) (sound .freeThreads .free);
       };
       stackletsOnce = record {
         many = finished-stacklets (jobIn i) end sound v over .0;
         once = finished-stacklets (jobIn i) end sound v over .2;
-        below = every-map (λ x h. h .0) (end .freeStacklets) (sound .freeStacklets .free);
+        below = every-map (λ x h. h .0) (end .queues .freeStacklets) (sound .freeStacklets .free);
       };
-      tops = λ x h. every-member (λ y. (y < 16) × (topAt (end .tops) y ≡ 0) × Unused end y) (end .freeStacklets) (sound .freeStacklets .free) x
+      tops = λ x h. every-member (λ y. (y < 16) × (topAt (end .store .tops) y ≡ 0) × Unused end y) (end .queues .freeStacklets) (sound .freeStacklets .free) x
           (finished-stacklets (jobIn i) end sound v over .1 x h) .1;
     }
 

@@ -86,13 +86,13 @@ pub record EachOnce (n : ℕ) (queue : List ℕ) : Type 0 where
 pub record AllFree (s : State) : Type 0 where
   pub records : (t : ℕ) → t < 32 → IsFree s t
   pub counted : countOf Free (s .threads) ≡ 32
-  pub threads : (t : ℕ) → t < 32 → Member t (s .freeThreads)
-  pub stacklets : (x : ℕ) → x < 16 → Member x (s .freeStacklets)
+  pub threads : (t : ℕ) → t < 32 → Member t (s .queues .freeThreads)
+  pub stacklets : (x : ℕ) → x < 16 → Member x (s .queues .freeStacklets)
   -- once, and nothing else does
-  pub threadsOnce : EachOnce 32 (s .freeThreads)
-  pub stackletsOnce : EachOnce 16 (s .freeStacklets)
+  pub threadsOnce : EachOnce 32 (s .queues .freeThreads)
+  pub stackletsOnce : EachOnce 16 (s .queues .freeStacklets)
   -- no word of a stacklet is in use
-  pub tops : (x : ℕ) → x < 16 → topAt (s .tops) x ≡ 0
+  pub tops : (x : ℕ) → x < 16 → topAt (s .store .tops) x ≡ 0
 
 -- "some such step would be refused by 20, 21 or 22"
 abbrev pub IsTight : ℕ → Type 0
@@ -101,7 +101,7 @@ IsTight n = (n ≡ 20) ⊎ ((n ≡ 21) ⊎ (n ≡ 22))
 -- Demand 3: "the following holds at the schedule's end", where the entries have led to this state
 pub record Demand3 (i : Input) (end : State) : Type 0 where
   -- "If the machine has finished, so does the plain run ..; result, units and every memory word equal the plain run's"
-  pub agrees : (v : ℕ) → end .outcome ≡ finished v → serialIn i ≡ done v (end .memory) (end .units)
+  pub agrees : (v : ℕ) → end .outcome ≡ finished v → serialIn i ≡ done v (end .store .memory) (end .units)
   -- "and all 32 threads and 16 stacklets are free"
   pub free : (v : ℕ) → end .outcome ≡ finished v → AllFree end
   -- "If the plain run faults or stops at its allowance or depth, the machine has not finished"

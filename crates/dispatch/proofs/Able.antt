@@ -34,16 +34,16 @@ module _ (j : Job) (s : State) (ok : Sound j s) where
   used-below t u = ⊎-elim (λ h. h) (λ h. absurd (omega (arith, past t h))) (lt-or-le t 32)
 
   -- the ready queue's head is a thread
-  pub ready-first : HeadBelow 32 (s .ready)
-  ready-first = first-below (λ t. statusAt s t ≡ 2) 32 (s .ready) (λ t e. used-below t (omega (arith, e))) (ok .turns .ready)
+  pub ready-first : HeadBelow 32 (s .queues .ready)
+  ready-first = first-below (λ t. statusAt s t ≡ 2) 32 (s .queues .ready) (λ t e. used-below t (omega (arith, e))) (ok .turns .ready)
 
   -- so is the first free number
-  pub free-first : HeadBelow 32 (s .freeThreads)
-  free-first = first-below (λ t. (t < 32) × (statusAt s t ≡ 0)) 32 (s .freeThreads) (λ t e. e .0) (ok .freeThreads .free)
+  pub free-first : HeadBelow 32 (s .queues .freeThreads)
+  free-first = first-below (λ t. (t < 32) × (statusAt s t ≡ 0)) 32 (s .queues .freeThreads) (λ t e. e .0) (ok .freeThreads .free)
 
   -- and the first free stacklet is one of 16
-  pub stacklet-first : HeadBelow 16 (s .freeStacklets)
-  stacklet-first = first-below (λ x. (x < 16) × (topAt (s .tops) x ≡ 0) × Unused s x) 16 (s .freeStacklets) (λ x e. e .0) (ok .freeStacklets .free)
+  pub stacklet-first : HeadBelow 16 (s .queues .freeStacklets)
+  stacklet-first = first-below (λ x. (x < 16) × (topAt (s .store .tops) x ≡ 0) × Unused s x) 16 (s .queues .freeStacklets) (λ x e. e .0) (ok .freeStacklets .free)
 
   -- a connected thread's parent is in use
   pub linked-below : (t : ℕ) → threadAt s t .connected ≡ true → threadAt s t .parent < 32

@@ -30,16 +30,16 @@ module _ (s : State) (c : ℕ) (b : Bool) (e : b ≡ isOver (s .outcome)) where
       unfolding takeOf
       take-busy l = rw (← e, going, ← count, lt-leb _ _ core, ← on, lt-ltb _ _ l)
 
-      module _ (idle : 32 ≤ k) (first : Front) (hf : first ≡ firstOf (s .ready)) where
+      module _ (idle : 32 ≤ k) (first : Front) (hf : first ≡ firstOf (s .queues .ready)) where
         pub take-none : first ≡ Nothing → refused 16 s ≡ takeOf s c
         unfolding takeOf takeInto
-        take-none f = rw (← e, going, ← count, lt-leb _ _ core, ← on, le-ltb _ _ idle, nothing-empty (s .ready) (sym hf ∙ f))
+        take-none f = rw (← e, going, ← count, lt-leb _ _ core, ← on, le-ltb _ _ idle, nothing-empty (s .queues .ready) (sym hf ∙ f))
 
-        pub took : (t : ℕ) (s1 s2 s3 : State) (th a : Thread) → first ≡ Number t → s1 ≡ setReady (restOf (s .ready)) s
+        pub took : (t : ℕ) (s1 s2 s3 : State) (th a : Thread) → first ≡ Number t → s1 ≡ setReady (restOf (s .queues .ready)) s
             → th ≡ threadAt s1 t → a ≡ withStatus Running th → s2 ≡ setThread t a s1 → s3 ≡ setCore c t s2 → accepted s3 ≡ takeOf s c
         unfolding takeOf takeInto
         took t s1 s2 s3 th a f g1 ht ha g2 g3 =
-            rw (g3, g2, ha, ht, g1, ← e, going, ← count, lt-leb _ _ core, ← on, le-ltb _ _ idle, number-first (s .ready) t (sym hf ∙ f))
+            rw (g3, g2, ha, ht, g1, ← e, going, ← count, lt-leb _ _ core, ← on, le-ltb _ _ idle, number-first (s .queues .ready) t (sym hf ∙ f))
 
 -- enable
 module _ (s : State) (t : ℕ) (b : Bool) (e : b ≡ isOver (s .outcome)) where

@@ -52,26 +52,26 @@ place-by above p free spot e = rw e (place-go above p free)
 rest-none : (free : List ℕ) → firstOf free ≡ Nothing → restOf free ≡ free
 rest-none free e = rw (nothing-empty free e)
 
-pub none-left : (s : State) (rest : List ℕ) → rest ≡ restOf (s .freeStacklets) → firstOf (s .freeStacklets) ≡ Nothing → setFreeStacklets rest s ≡ s
-none-left s rest e f = ap (λ (xs : List ℕ). setFreeStacklets xs s) (e ∙ rest-none (s .freeStacklets) f)
+pub none-left : (s : State) (rest : List ℕ) → rest ≡ restOf (s .queues .freeStacklets) → firstOf (s .queues .freeStacklets) ≡ Nothing → setFreeStacklets rest s ≡ s
+none-left s rest e f = ap (λ (xs : List ℕ). setFreeStacklets xs s) (e ∙ rest-none (s .queues .freeStacklets) f)
 
 module _ (j : Job) (s : State) (o : Turn) (f : Asked) where
   -- "20: no free thread number"
-  pub no-number : (kind : ForkKind) (first : Front) → first ≡ firstOf (s .freeThreads) → first ≡ Nothing → refused 20 s ≡ forkOf j s kind o f
+  pub no-number : (kind : ForkKind) (first : Front) → first ≡ firstOf (s .queues .freeThreads) → first ≡ Nothing → refused 20 s ≡ forkOf j s kind o f
   unfolding forkOf forkWith
-  no-number kind first e1 e2 = rw (nothing-empty (s .freeThreads) (sym e1 ∙ e2))
+  no-number kind first e1 e2 = rw (nothing-empty (s .queues .freeThreads) (sym e1 ∙ e2))
 
-  module _ (kind : ForkKind) (n sl size : ℕ) (above : Bool) (first spot : Front) (tops : List ℕ) (e1 : first ≡ firstOf (s .freeThreads))
-      (e2 : first ≡ Number n) (e3 : sl ≡ slotsOf (j .image) (o .thread .routine)) (e4 : size ≡ slotsOf (j .image) (f .routine)) (e0 : tops ≡ s .tops)
+  module _ (kind : ForkKind) (n sl size : ℕ) (above : Bool) (first spot : Front) (tops : List ℕ) (e1 : first ≡ firstOf (s .queues .freeThreads))
+      (e2 : first ≡ Number n) (e3 : sl ≡ slotsOf (j .image) (o .thread .routine)) (e4 : size ≡ slotsOf (j .image) (f .routine)) (e0 : tops ≡ s .store .tops)
       (e5 : above ≡ (isConnected kind && (isTopmost tops (o .thread .base) sl && fitsOn tops (o .thread .base / 64) size)))
-      (e6 : spot ≡ cond above (Number (o .thread .base / 64)) (firstOf (s .freeStacklets))) where
-    place-found : placeOf (goesAbove j s kind (o .thread) (f .routine)) (o .thread .base / 64) (s .freeStacklets) ≡ placeBy spot (leftBy above s .freeStacklets)
+      (e6 : spot ≡ cond above (Number (o .thread .base / 64)) (firstOf (s .queues .freeStacklets))) where
+    place-found : placeOf (goesAbove j s kind (o .thread) (f .routine)) (o .thread .base / 64) (s .queues .freeStacklets) ≡ placeBy spot (leftBy above s .queues .freeStacklets)
     unfolding goesAbove
-    place-found = rw (← e0, ← e4, ← e3, ← e5) (sym (place-by above (o .thread .base / 64) (s .freeStacklets) spot e6))
+    place-found = rw (← e0, ← e4, ← e3, ← e5) (sym (place-by above (o .thread .base / 64) (s .queues .freeStacklets) spot e6))
 
-    pub fork-found : forkOn j s kind o f n (restOf (s .freeThreads)) (placeBy spot (leftBy above s .freeStacklets)) ≡ forkOf j s kind o f
+    pub fork-found : forkOn j s kind o f n (restOf (s .queues .freeThreads)) (placeBy spot (leftBy above s .queues .freeStacklets)) ≡ forkOf j s kind o f
     unfolding forkOf forkWith
-    fork-found = rw (← place-found, number-first (s .freeThreads) n (sym e1 ∙ e2))
+    fork-found = rw (← place-found, number-first (s .queues .freeThreads) n (sym e1 ∙ e2))
 
     -- "21: a stacklet is needed and none is free"
     pub no-stacklet : spot ≡ Nothing → refused 21 s ≡ forkOf j s kind o f
@@ -81,29 +81,29 @@ module _ (j : Job) (s : State) (o : Turn) (f : Asked) where
     -- the stores one after another
     pub born-by : (x : ℕ) → spot ≡ Number x → (s0 s1 s2 s3 s4 s5 s6 : State) (ws : List ℕ) (base ar : ℕ)
         → s0 ≡ setWords ws s → s1 ≡ leftBy above s0 → s2 ≡ handsOutNumber s1 → s3 ≡ bothRecords kind (o .number) n (o .thread) (o .next) f base s2
-        → s4 ≡ charge (o .weight) s3 → s5 ≡ setTops (pushedTops (s4 .tops) x size) s4 → s6 ≡ childGoes kind (o .core) n s5
-        → base ≡ baseOn (s2 .tops) x → ar ≡ argumentsOf (j .image) (f .routine)
-        → ws ≡ pushedWords (s4 .tops) (s .words) x size (argumentsAt (s .words) (o .thread .base + f .first) ar)
+        → s4 ≡ charge (o .weight) s3 → s5 ≡ setTops (pushedTops (s4 .store .tops) x size) s4 → s6 ≡ childGoes kind (o .core) n s5
+        → base ≡ baseOn (s2 .store .tops) x → ar ≡ argumentsOf (j .image) (f .routine)
+        → ws ≡ pushedWords (s4 .store .tops) (s .store .words) x size (argumentsAt (s .store .words) (o .thread .base + f .first) ar)
         → accepted s6 ≡ forkOf j s kind o f
     unfolding forkOn born
     born-by x e7 s0 s1 s2 s3 s4 s5 s6 ws base ar g0 g1 g2 g3 g4 g5 g6 hb ha hw = go ∙ fork-found
       where
-        same2 : s2 .tops ≡ s .tops
+        same2 : s2 .store .tops ≡ s .store .tops
         same2 = rw (g2, g1, g0)
 
-        same4 : s4 .tops ≡ s .tops
+        same4 : s4 .store .tops ≡ s .store .tops
         same4 = rw (g4, g3) same2
 
-        g5' : s5 ≡ setTops (pushedTops (s .tops) x size) s4
+        g5' : s5 ≡ setTops (pushedTops (s .store .tops) x size) s4
         g5' = g5 ∙ ap (λ (ts : List ℕ). setTops (pushedTops ts x size) s4) same4
 
-        hb' : base ≡ baseOn (s .tops) x
+        hb' : base ≡ baseOn (s .store .tops) x
         hb' = hb ∙ ap (λ (ts : List ℕ). baseOn ts x) same2
 
-        hw' : ws ≡ pushedWords (s .tops) (s .words) x size (argumentsAt (s .words) (o .thread .base + f .first) ar)
-        hw' = hw ∙ ap (λ (ts : List ℕ). pushedWords ts (s .words) x size (argumentsAt (s .words) (o .thread .base + f .first) ar)) same4
+        hw' : ws ≡ pushedWords (s .store .tops) (s .store .words) x size (argumentsAt (s .store .words) (o .thread .base + f .first) ar)
+        hw' = hw ∙ ap (λ (ts : List ℕ). pushedWords ts (s .store .words) x size (argumentsAt (s .store .words) (o .thread .base + f .first) ar)) same4
 
-        go : accepted s6 ≡ forkOn j s kind o f n (restOf (s .freeThreads)) (placeBy spot (leftBy above s .freeStacklets))
+        go : accepted s6 ≡ forkOn j s kind o f n (restOf (s .queues .freeThreads)) (placeBy spot (leftBy above s .queues .freeStacklets))
         go = rw (g6, g5', g4, g3, g2, g1, g0, hb', hw', ha, e4, e7)
 
 -- the stacklet that is found is one of 16
@@ -122,16 +122,16 @@ cut-never w e c l h f g = let k = cut-made w e l h in let z : _≡_ {A = ℕ} 0 
 -- a new frame on a stacklet below 16
 module _ {xs : List ℕ} (l : length xs ≡ size) (x slots : ℕ) (low : x < 16) (words memory : List ℕ) where
   pub frame-pushed : (ys : List ℕ) → Becomes xs ys (pushes (x % 16) slots)
-      → meaning ys words memory ≡ setTops (pushedTops (meaning xs words memory .tops) x slots) (meaning xs words memory)
+      → meaning ys words memory ≡ setTops (pushedTops (meaning xs words memory .store .tops) x slots) (meaning xs words memory)
   frame-pushed ys b = b .means l words memory ∙ ap (λ (k : ℕ). pushes k slots (meaning xs words memory)) (mod-eq-of-lt low)
 
   pub frame-laid : (before after arguments : List ℕ) → Pushes xs (x % 16) slots arguments before after
-      → after ≡ pushedWords (meaning xs words memory .tops) before x slots arguments
+      → after ≡ pushedWords (meaning xs words memory .store .tops) before x slots arguments
   frame-laid before after arguments b =
-      b .means l words memory ∙ ap (λ (k : ℕ). pushedWords (meaning xs words memory .tops) before k slots arguments) (mod-eq-of-lt low)
+      b .means l words memory ∙ ap (λ (k : ℕ). pushedWords (meaning xs words memory .store .tops) before k slots arguments) (mod-eq-of-lt low)
 
-  pub base-found : (base : ℕ) → Reads xs base (λ s. baseOn (s .tops) (x % 16)) 0 → base ≡ baseOn (meaning xs words memory .tops) x
-  base-found base b = b .means l words memory ∙ ap (λ (k : ℕ). baseOn (meaning xs words memory .tops) k) (mod-eq-of-lt low)
+  pub base-found : (base : ℕ) → Reads xs base (λ s. baseOn (s .store .tops) (x % 16)) 0 → base ≡ baseOn (meaning xs words memory .store .tops) x
+  base-found base b = b .means l words memory ∙ ap (λ (k : ℕ). baseOn (meaning xs words memory .store .tops) k) (mod-eq-of-lt low)
 
 -- the records of both threads by their parts
 pub parent-is : (h th : Thread) (st st' : Status) (next d : ℕ) (w w' : Window) → h ≡ behindFork st next d w th → st ≡ st' → w ≡ w' → h ≡ behindFork st' next d w' th

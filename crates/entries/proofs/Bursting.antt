@@ -128,19 +128,8 @@ module _ {image starts parameters : List ℕ} {allowance : ℕ} {xs ws₀ ms₀ 
       }
     where
       with-threads : List Thread → State
-      with-threads l = record {
-        threads = l;
-        cores = s₀ .cores;
-        count = s₀ .count;
-        tops = s₀ .tops;
-        freeThreads = s₀ .freeThreads;
-        freeStacklets = s₀ .freeStacklets;
-        ready = s₀ .ready;
-        units = s₀ .units;
-        outcome = s₀ .outcome;
-        words = s₀ .words;
-        memory = s₀ .memory;
-      }
+      with-threads l =
+          record { threads = l; cores = s₀ .cores; count = s₀ .count; queues = s₀ .queues; store = s₀ .store; units = s₀ .units; outcome = s₀ .outcome }
 
   module _ {k p left : ℕ} {ws ms : List ℕ} (made : Made k p left ws ms) where
     -- the state before the next step is sound, and its thread in use

@@ -39,5 +39,5 @@ charged {xs} w l h b words memory = b .means l words memory ∙ ap (λ (u : ℕ)
 
 -- the frame at a base goes
 pub popped : {xs ys : List ℕ} (base : ℕ) → length xs ≡ size → base < 1024 → Becomes xs ys (pops (base % 1024)) → (words memory : List ℕ)
-    → meaning ys words memory ≡ setTops (poppedTops (meaning xs words memory .tops) base) (meaning xs words memory)
+    → meaning ys words memory ≡ setTops (poppedTops (meaning xs words memory .store .tops) base) (meaning xs words memory)
 popped {xs} base l h b words memory = b .means l words memory ∙ ap (λ (k : ℕ). pops k (meaning xs words memory)) (mod-eq-of-lt h)

@@ -93,7 +93,7 @@ module _ (arguments slot : ℕ → ℕ) (pending : ℕ → Bool) (w : Window) wh
 
   module _ (xs : List ℕ) (c t weight : ℕ) (is-window : w ≡ recordIn xs t .window) (seated : Seated xs c t weight)
       (linked : recordIn xs t .connected ≡ true → recordIn xs t .parent < 32) (fewer : recordIn xs t .children < 255)
-      (numbers : HeadBelow 32 (meaning xs [] [] .freeThreads)) (stacklets : HeadBelow 16 (meaning xs [] [] .freeStacklets)) where
+      (numbers : HeadBelow 32 (meaning xs [] [] .queues .freeThreads)) (stacklets : HeadBelow 16 (meaning xs [] [] .queues .freeStacklets)) where
     pub carrying : (e : Effect) → Guarded arguments (viewOf slot pending w) e → IsOther e → Carrying xs c t weight e
     carrying (Faults n) g o = seated .sized
     carrying (Sets d v) g o = absurd o

@@ -124,10 +124,10 @@ seed-ready xs image words c t w r d a k th l f =
 pub seed-carried : (j : Job) (s : State) (c t w place next byte r d a k : ℕ) (th : Thread) (seed : Effect) (x : After)
     → th ≡ threadAt s t → place ≡ offsetOf j th → byte ≡ getD (j .image) place 0 → r ≡ getD (j .image) (place + 1) 0 → d ≡ getD (j .image) (place + 2) 0
     → a ≡ getD (j .image) (place + 3) 0 → k ≡ getD (j .image) (place + 4) 0 → (byte ≡ 8) ⊎ (byte ≡ 9) → w ≡ weightOf (j .weights) byte
-    → next ≡ th .position + 5 → seed ≡ seedOf (j .image) (s .words) th r d a k → x ≡ stolenOf j s (turnWith c t th w next place) seed
+    → next ≡ th .position + 5 → seed ≡ seedOf (j .image) (s .store .words) th r d a k → x ≡ stolenOf j s (turnWith c t th w next place) seed
     → x ≡ stolenOf j s (turnAt j s c t) (effectAt j s (threadAt s t))
 unfolding effectAt
 seed-carried j s c t w place next byte r d a k th seed x met ep eb er ed ea ek which ew en es ex =
     ex ∙ ap (stolenOf j s (turnWith c t th w next place)) es
-    ∙ sym (either-fork j s (turnWith c t th w next place) (viewOf (slotOf (s .words) (th .base)) (isPending (th .pending)) (th .window)) (argumentsOf (j .image)) byte r d a k which)
+    ∙ sym (either-fork j s (turnWith c t th w next place) (viewOf (slotOf (s .store .words) (th .base)) (isPending (th .pending)) (th .window)) (argumentsOf (j .image)) byte r d a k which)
     ∙ rw (← met, ← ep, ← eb, ← er, ← ed, ← ea, ← ek, fork-wide byte which, ← ew, ← en)

@@ -59,8 +59,8 @@ pub record Seated (xs : List ℕ) (c t weight : ℕ) : Type 0 where
 pub record Forking (xs : List ℕ) (c t weight d e : ℕ) : Type 0 where
   pub seated : Seated xs c t weight
   pub children : recordIn xs t .children < 255
-  pub numbers : HeadBelow 32 (meaning xs [] [] .freeThreads)
-  pub stacklets : HeadBelow 16 (meaning xs [] [] .freeStacklets)
+  pub numbers : HeadBelow 32 (meaning xs [] [] .queues .freeThreads)
+  pub stacklets : HeadBelow 16 (meaning xs [] [] .queues .freeStacklets)
   pub result : d < 16
   pub low : recordIn xs t .window .mark ≤ e
   pub high : e ≤ recordIn xs t .window .hi
@@ -82,19 +82,19 @@ bothRecords kind t n th next f base s =
 
 -- the free stacklets that are left by a new frame: all where it goes above its parent's, or else all but the first
 abbrev pub leftBy : Bool → State → State
-leftBy above s = setFreeStacklets (cond above (s .freeStacklets) (restOf (s .freeStacklets))) s
+leftBy above s = setFreeStacklets (cond above (s .queues .freeStacklets) (restOf (s .queues .freeStacklets))) s
 
 -- the first free thread number is handed out; where none is free, nothing changes
 abbrev pub handsOutNumber : State → State
-handsOutNumber s = setFreeThreads (restOf (s .freeThreads)) s
+handsOutNumber s = setFreeThreads (restOf (s .queues .freeThreads)) s
 
 -- a stacklet is given back when its last frame goes
 abbrev pub givesBack : ℕ → State → State
-givesBack base s = setFreeStacklets (stackletsWithout base (s .freeStacklets)) s
+givesBack base s = setFreeStacklets (stackletsWithout base (s .queues .freeStacklets)) s
 
 -- thread p, whose record is q, joins the ready queue if a child's end wakes it
 abbrev pub wakesUp : Bool → Thread → ℕ → State → State
-wakesUp connected q p s = setReady (readyAfter connected q p (s .ready)) s
+wakesUp connected q p s = setReady (readyAfter connected q p (s .queues .ready)) s
 
 -- a place, as the number taken from a queue with the queue that is left
 abbrev pub placeBy : Front → List ℕ → Place

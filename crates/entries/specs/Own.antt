@@ -10,7 +10,7 @@ use Rattle.thread.specs.declared.Effect.the-variants.{Faults, Sets, Loads, Stor
 use Rattle.thread.specs.Thread.{movedTo}
 use Rattle.thread.specs.Effect.{bytesBy}
 use Rattle.rules.specs.State.{Job, State}
-use Rattle.rules.specs.Update.{accepted}
+use Rattle.rules.specs.Update.{accepted, withStore}
 use Rattle.rules.specs.Turn.{Turn, done}
 use Rattle.rules.specs.Rules.{carriedOf}
 use Rattle.entries.specs.declared.own.Own.{Own}
@@ -52,24 +52,12 @@ IsOther (Returns v) = Unit {0}
 
 -- the state with these words and this memory
 abbrev pub withBoth : List ℕ → List ℕ → State → State
-withBoth words memory s = record {
-  threads = s .threads;
-  cores = s .cores;
-  count = s .count;
-  tops = s .tops;
-  freeThreads = s .freeThreads;
-  freeStacklets = s .freeStacklets;
-  ready = s .ready;
-  units = s .units;
-  outcome = s .outcome;
-  words = words;
-  memory = memory;
-}
+withBoth words memory s = withStore (record { tops = s .store .tops; words = words; memory = memory }) s
 
 -- the rule carries out an effect on the frame at a base so, whatever the state around it
 abbrev pub CarriedSo : Effect → ℕ → ℕ → List ℕ → List ℕ → List ℕ → List ℕ → List ℕ → ℕ → Type 0
 CarriedSo e position base parameters ws ms ws' ms' p =
-    (j : Job) (s : State) (o : Turn) → j .parameters ≡ parameters → s .words ≡ ws → s .memory ≡ ms → o .thread .base ≡ base → o .next ≡ (position + bytesBy e) % 2 ^ 16
+    (j : Job) (s : State) (o : Turn) → j .parameters ≡ parameters → s .store .words ≡ ws → s .store .memory ≡ ms → o .thread .base ≡ base → o .next ≡ (position + bytesBy e) % 2 ^ 16
     → carriedOf j s o e ≡ accepted (done o (movedTo p (o .thread)) (withBoth ws' ms' s))
 
 -- what the answer says: the rule carries the effect out so; or it is of another kind, and nothing has changed

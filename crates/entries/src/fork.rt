@@ -42,7 +42,7 @@ ghost use Rattle.dispatch.specs.Orderly.{after};
 // Does a new frame of `wide` words go above the parent's, of `slots` words at a base?
 fn goes_above(tables: &[u8], kind: ForkKind, base: u16, slots: u8, wide: u8) -> bool
     requires { ⌜ (length (now tables) ≡ size) × (base < 1024) ⌝ }
-    ensures { λ r. ⌜ ((words memory : List ℕ) → r ≡ (isConnected kind && (isTopmost (meaning (now (tables .entry)) words memory .tops) base slots && fitsOn (meaning (now (tables .entry)) words memory .tops) (base / 64) wide))) ⌝ }
+    ensures { λ r. ⌜ ((words memory : List ℕ) → r ≡ (isConnected kind && (isTopmost (meaning (now (tables .entry)) words memory .store .tops) base slots && fitsOn (meaning (now (tables .entry)) words memory .store .tops) (base / 64) wide))) ⌝ }
 {
     if !is_connected(kind) {
         return false;
@@ -70,7 +70,7 @@ fn place_child(tables: &mut [u8], kind: ForkKind, c: u8, n: u8)
 fn find_place(tables: &mut [u8], above: bool, base: u16) -> Front
     requires { ⌜ base < 1024 ⌝ }
     ensures left { λ _. ⌜ Becomes (now (tables .entry)) (now (tables .exit)) (leftBy above) ⌝ }
-    ensures spot { λ r. ⌜ Reads (now (tables .entry)) r (λ s. cond above (Number (base / 64)) (firstOf (s .freeStacklets))) (cond above (Number (base / 64)) Nothing) ⌝ }
+    ensures spot { λ r. ⌜ Reads (now (tables .entry)) r (λ s. cond above (Number (base / 64)) (firstOf (s .queues .freeStacklets))) (cond above (Number (base / 64)) Nothing) ⌝ }
     ensures none { λ r. ⌜ (r ≡ Nothing → Becomes (now (tables .entry)) (now (tables .exit)) (λ s. s)) ⌝ }
 {
     if above {

@@ -21,9 +21,9 @@ stackletsWithout base free = cond (eqb (base % 64) 0) (appended capacity free (b
 abbrev pub freed : Turn → State → State
 freed o s =
     setThread (o .number) blankThread
-    (setFreeThreads (appended capacity (s .freeThreads) (o .number))
-    (setFreeStacklets (stackletsWithout (o .thread .base) (s .freeStacklets))
-    (setTops (poppedTops (s .tops) (o .thread .base))
+    (setFreeThreads (appended capacity (s .queues .freeThreads) (o .number))
+    (setFreeStacklets (stackletsWithout (o .thread .base) (s .queues .freeStacklets))
+    (setTops (poppedTops (s .store .tops) (o .thread .base))
     (charge (o .weight) s))))
 
 -- "a waiting parent whose children have all ended joins the ready line and is ready"
@@ -42,7 +42,7 @@ readyAfter connected q p ready = cond (wakes connected q) (appended capacity rea
 unfoldable pub returnToParent : State → Turn → ℕ → Thread → ℕ → State
 returnToParent s o p q v =
     setCore (o .core) (cond (o .thread .connected) p none)
-    (setReady (readyAfter (o .thread .connected) q p (s .ready))
+    (setReady (readyAfter (o .thread .connected) q p (s .queues .ready))
     (setThread p (withoutChild (statusAfter (o .thread .connected) q) q)
     (setSlot q (o .thread .result) v (freed o s))))
 

@@ -44,7 +44,7 @@ toldOf log s = record {
   log = log;
   outcome = s .outcome;
   units = s .units;
-  memory = take 4 (s .memory);
+  memory = take 4 (s .store .memory);
   statuses = threadAt s 0 .status ∷ threadAt s 1 .status ∷ threadAt s 2 .status ∷ threadAt s 3 .status ∷ [];
 }
 

@@ -60,7 +60,7 @@ takeOf s c =
     cond (isOver (s .outcome)) (refused 19 s)
     (cond (leb (s .count) c) (refused 14 s)
     (cond (isBusy s c) (refused 15 s)
-    (takeInto s c (s .ready))))
+    (takeInto s c (s .queues .ready))))
 
 -- is thread t's next command a seed: is it lent, "its next command .. 08 or 09"?
 unfoldable pub isSeed : Job → State → ℕ → Bool

@@ -32,9 +32,9 @@ sizeAt j s t = slotsOf (j .image) (threadAt s t .routine)
 pub record Sized (j : Job) (s : State) : Type 0 where
   pub threads : length (s .threads) ≡ 32
   pub cores : length (s .cores) ≡ 4
-  pub tops : length (s .tops) ≡ 16
-  pub words : length (s .words) ≡ 1024
-  pub memory : length (s .memory) ≡ 992
+  pub tops : length (s .store .tops) ≡ 16
+  pub words : length (s .store .words) ≡ 1024
+  pub memory : length (s .store .memory) ≡ 992
   pub some : 1 ≤ s .count
   pub most : s .count ≤ 4
   pub units : s .units ≤ j .allowance
@@ -62,9 +62,9 @@ pub record Links (s : State) : Type 0 where
 
 -- "a ready thread stands once in the line .. and nothing else does"
 pub record Turns (s : State) : Type 0 where
-  pub ready : Every (IsReady s) (s .ready)
-  pub once : Distinct (s .ready)
-  pub stands : (t : ℕ) → IsReady s t → Member t (s .ready)
+  pub ready : Every (IsReady s) (s .queues .ready)
+  pub once : Distinct (s .queues .ready)
+  pub stands : (t : ℕ) → IsReady s t → Member t (s .queues .ready)
 
 -- the used children of thread t among the first n threads
 abbrev pub isChild : State → ℕ → ℕ → ℕ
@@ -103,15 +103,15 @@ pub record Windows (s : State) : Type 0 where
 
 -- "each thread number .. is either in use or once in its free line"
 pub record FreeThreads (s : State) : Type 0 where
-  pub free : Every (λ n. (n < 32) × IsFree s n) (s .freeThreads)
-  pub once : Distinct (s .freeThreads)
-  pub stands : (t : ℕ) → t < 32 → IsFree s t → Member t (s .freeThreads)
+  pub free : Every (λ n. (n < 32) × IsFree s n) (s .queues .freeThreads)
+  pub once : Distinct (s .queues .freeThreads)
+  pub stands : (t : ℕ) → t < 32 → IsFree s t → Member t (s .queues .freeThreads)
 
 -- "frames on a stacklet do not overlap and each above the lowest belongs to a child of the thread below it"
 pub record Frames (j : Job) (s : State) : Type 0 where
   pub bounded : (t : ℕ) → Used s t → threadAt s t .base < 1024
-  pub most : (x : ℕ) → topAt (s .tops) x ≤ 64
-  pub under : (t : ℕ) → Used s t → Under (s .tops) (threadAt s t .base) (sizeAt j s t)
+  pub most : (x : ℕ) → topAt (s .store .tops) x ≤ 64
+  pub under : (t : ℕ) → Used s t → Under (s .store .tops) (threadAt s t .base) (sizeAt j s t)
   pub apart : (t u : ℕ) → Used s t → Used s u → (t ≡ u → ⊥) → Apart (threadAt s t .base) (sizeAt j s t) (threadAt s u .base) (sizeAt j s u)
   pub stacked : (t : ℕ) → Used s t → (threadAt s t .base % 64 ≡ 0)
       ⊎ (Used s (threadAt s t .parent) × (threadAt s (threadAt s t .parent) .base + sizeAt j s (threadAt s t .parent) ≡ threadAt s t .base))
@@ -122,9 +122,9 @@ Unused s x = (t : ℕ) → Used s t → threadAt s t .base / 64 ≡ x → ⊥
 
 -- "each stacklet is either in use or once in its free line"
 pub record FreeStacklets (s : State) : Type 0 where
-  pub free : Every (λ x. (x < 16) × (topAt (s .tops) x ≡ 0) × Unused s x) (s .freeStacklets)
-  pub once : Distinct (s .freeStacklets)
-  pub stands : (x : ℕ) → x < 16 → Unused s x → Member x (s .freeStacklets)
+  pub free : Every (λ x. (x < 16) × (topAt (s .store .tops) x ≡ 0) × Unused s x) (s .queues .freeStacklets)
+  pub once : Distinct (s .queues .freeStacklets)
+  pub stands : (x : ℕ) → x < 16 → Unused s x → Member x (s .queues .freeStacklets)
 
 -- all of it
 pub record Sound (j : Job) (s : State) : Type 0 where

@@ -16,12 +16,12 @@ startState j count arguments memory = record {
   threads = set (replicate 32 blankThread) 0 rootThread;
   cores = set (replicate 4 none) 0 0;
   count = count;
-  tops = pushedTops (replicate 16 0) 0 (slotsOf (j .image) 0);
-  freeThreads = ascendingFrom 1 31;
-  freeStacklets = ascendingFrom 1 15;
-  ready = [];
+  queues = record { freeThreads = ascendingFrom 1 31; freeStacklets = ascendingFrom 1 15; ready = [] };
+  store = record {
+    tops = pushedTops (replicate 16 0) 0 (slotsOf (j .image) 0);
+    words = pushedWords (replicate 16 0) (replicate 1024 0) 0 (slotsOf (j .image) 0) arguments;
+    memory = memory;
+  };
   units = 0;
   outcome = going;
-  words = pushedWords (replicate 16 0) (replicate 1024 0) 0 (slotsOf (j .image) 0) arguments;
-  memory = memory;
 }

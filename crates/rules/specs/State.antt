@@ -21,21 +21,28 @@ isOver going = false
 isOver (finished v) = true
 isOver (faulted n t o) = true
 
+-- the queues of numbers: the free threads and stacklets, and the threads that are ready, in the order in which they are taken
+pub record Queues : Type 0 where
+  pub freeThreads : List ℕ
+  pub freeStacklets : List ℕ
+  pub ready : List ℕ
+
+-- the words: of each stacklet how many hold frames, all stacklets' words, and the memory words
+pub record Store : Type 0 where
+  pub tops : List ℕ
+  pub words : List ℕ
+  pub memory : List ℕ
+
 pub record State : Type 0 where
   pub threads : List Thread
   -- the thread on each core
   pub cores : List ℕ
   -- how many cores there are
   pub count : ℕ
-  pub tops : List ℕ
-  pub freeThreads : List ℕ
-  pub freeStacklets : List ℕ
-  pub ready : List ℕ
+  pub queues : Queues
+  pub store : Store
   pub units : ℕ
   pub outcome : Outcome
-  -- the words of the stacklets, and the memory words
-  pub words : List ℕ
-  pub memory : List ℕ
 
 -- what an entry gives: the state, and the entry's log byte
 pub record After : Type 0 where

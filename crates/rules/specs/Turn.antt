@@ -47,7 +47,7 @@ turnAt j s c t = record {
 -- what the next command of a thread does to it
 unfoldable pub effectAt : Job → State → Thread → Effect
 effectAt j s h =
-    effectOf (argumentsOf (j .image)) (viewOf (slotOf (s .words) (h .base)) (isPending (h .pending)) (h .window)) (decodedAt (j .image) (offsetOf j h))
+    effectOf (argumentsOf (j .image)) (viewOf (slotOf (s .store .words) (h .base)) (isPending (h .pending)) (h .window)) (decodedAt (j .image) (offsetOf j h))
 
 -- "22: units plus the command's weight pass the allowance"
 abbrev pub tooDear : Job → State → Turn → Bool
@@ -59,7 +59,7 @@ waits j h = eqb (byteOf j h) 10 && ltb 0 (h .children)
 
 -- the word at an address: "Addresses 0 to 31 are parameter words"
 abbrev pub wordAt : Job → State → ℕ → ℕ
-wordAt j s a = cond (ltb a 32) (getD (j .parameters) a 0) (getD (s .memory) (a - 32) 0)
+wordAt j s a = cond (ltb a 32) (getD (j .parameters) a 0) (getD (s .store .memory) (a - 32) 0)
 
 -- the command is done, the thread's record is h, and the weight is charged
 abbrev pub done : Turn → Thread → State → State

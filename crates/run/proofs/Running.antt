@@ -89,7 +89,7 @@ module _ (i : Input) (schedule log : List ℕ) where
               room .means,
               record {
                 answer = a ∙ ap (λ (x : State). answerOf (x .outcome) (x .units)) state;
-                memory = ap (λ (x : State). x .memory) state;
+                memory = ap (λ (x : State). x .store .memory) state;
                 log = q .log ∙ ap (λ (l : List Entry). logged log (logsFrom (jobIn i) (startIn i) l)) met;
                 machine = state;
               },

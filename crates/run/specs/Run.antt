@@ -21,7 +21,7 @@ pub record IsRefused (i : Input) (n : ℕ) (logBefore : List ℕ) (r : Ran) (mem
 -- a run by entries: the fold's outcome and units, its memory, a log byte for each entry, and its state in the machine
 pub record IsPlayed (i : Input) (es : List Entry) (logBefore : List ℕ) (r : Ran) (memoryAfter logAfter : List ℕ) : Type 0 where
   pub answer : r .answer ≡ answerOf (runFrom (jobIn i) (startIn i) es .outcome) (runFrom (jobIn i) (startIn i) es .units)
-  pub memory : memoryAfter ≡ runFrom (jobIn i) (startIn i) es .memory
+  pub memory : memoryAfter ≡ runFrom (jobIn i) (startIn i) es .store .memory
   pub log : logAfter ≡ logged logBefore (logsFrom (jobIn i) (startIn i) es)
   pub machine : meaning (r .tables) (r .words) memoryAfter ≡ runFrom (jobIn i) (startIn i) es
 

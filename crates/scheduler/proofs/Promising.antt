@@ -59,7 +59,7 @@ module _ (i : Input) (b : Begun) (xs ys ws vs : List ℕ) (begun : Begins i [] [
           refused = λ n. absurd (n passes);
           scheduled = λ z. record {
             answer = a ∙ ap (λ (s : State). answerOf (s .outcome) (s .units)) (p .state);
-            memory = ap (λ (s : State). s .memory) (p .state);
+            memory = ap (λ (s : State). s .store .memory) (p .state);
             machine = p .state;
             buffer = p .buffer;
             used = p .used;

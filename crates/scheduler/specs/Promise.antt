@@ -36,7 +36,7 @@ pub record IsRefused (i : Input) (n : ℕ) (before : List ℕ) (r : Scheduled) (
 -- the run of the scheduler: its state and its entries, which are written to the buffer's front
 pub record IsScheduled (p : Progress) (before : List ℕ) (r : Scheduled) (memoryAfter after : List ℕ) : Type 0 where
   pub answer : r .answer ≡ answerOf (p .state .outcome) (p .state .units)
-  pub memory : memoryAfter ≡ p .state .memory
+  pub memory : memoryAfter ≡ p .state .store .memory
   pub machine : meaning (r .tables) (r .words) memoryAfter ≡ p .state
   pub buffer : after ≡ filled before (p .written)
   pub used : r .used ≡ length (bytesOfEntries (p .written))

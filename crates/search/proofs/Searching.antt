@@ -29,11 +29,11 @@ module _ (j : Job) (s : State) where
   idle c e l h = h ∙ rw (le-ltb _ _ l)
 
   -- an idle core, by how many threads are ready
-  pub takes : (c n : ℕ) → n ≡ length (s .ready) → 0 < n → Take c ≡ idleChoice j s c
+  pub takes : (c n : ℕ) → n ≡ length (s .queues .ready) → 0 < n → Take c ≡ idleChoice j s c
   unfolding idleChoice
   takes c n e l = rw (← e, lt-ltb _ _ l)
 
-  pub steals : (c n t : ℕ) → n ≡ length (s .ready) → n ≤ 0 → t ≡ firstSeed j s → Steal c t ≡ idleChoice j s c
+  pub steals : (c n t : ℕ) → n ≡ length (s .queues .ready) → n ≤ 0 → t ≡ firstSeed j s → Steal c t ≡ idleChoice j s c
   unfolding idleChoice
   steals c n t e l f = rw (← e, le-ltb _ _ l, f)
 

@@ -37,7 +37,7 @@ firstSeed j s = seedFrom (s .count) j s 0
 -- the order in which an idle core looks: "an idle one takes if the line is not empty, else steals". Where there is no seed it makes no try,
 -- which is the steal of none: refused by 18, so nothing is written and nothing changes
 unfoldable pub idleChoice : Job → State → ℕ → Entry
-idleChoice j s c = cond (ltb 0 (length (s .ready))) (Take c) (Steal c (firstSeed j s))
+idleChoice j s c = cond (ltb 0 (length (s .queues .ready))) (Take c) (Steal c (firstSeed j s))
 
 -- "a busy core steps"
 unfoldable pub choiceOf : Job → State → ℕ → Entry

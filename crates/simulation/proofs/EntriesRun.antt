@@ -37,7 +37,7 @@ use Rattle.simulation.proofs.StartPool.{rootSlots, start-pool, start-re
 
 -- thread numbers above 31 are free
 limited : (j : Job) (s : State) → Sound j s → (t : ℕ) → 31 < t → poolOf j s .cell t ≡ free
-limited j s ok t l = cell-free j (s .words) (threadAt s t)
+limited j s ok t l = cell-free j (s .store .words) (threadAt s t)
     (ap (λ h. statusNumber (h .status)) (List·getD-eq-default (s .threads) blankThread {n = t} (omega (arith, ok .sized .threads))))
 
 module _ (j : Job) (good : GoodJob j) (arguments memory : List ℕ) where
@@ -63,7 +63,7 @@ module _ (j : Job) (good : GoodJob j) (arguments memory : List ℕ) where
     pub last : ThreadState Window
     pub is-root : before .cell thread ≡ used last root
     pub returns : does windows window-tests (codeOf j good) 0 last ≡ ret result
-    pub words : before .words ≡ words-from 32 (s .memory)
+    pub words : before .words ≡ words-from 32 (s .store .memory)
     pub units : before .units + weightIn j (last .routine) (last .position) ≡ s .units
     pub paid : s .units ≤ j .allowance
 
@@ -143,10 +143,10 @@ module _ (j : Job) (good : GoodJob j) (arguments memory : List ℕ) where
 
     -- a finished machine's result, memory words and units are the serial run's
     pub entries-agree : (es : List Entry) (v : ℕ) → endOf es .outcome ≡ finished v
-        → serialRun ≡ done v (words-from 32 (endOf es .memory)) (endOf es .units)
+        → serialRun ≡ done v (words-from 32 (endOf es .store .memory)) (endOf es .units)
     entries-agree es v over = by (reached es)
       where
-        by : Reached (endOf es) → serialRun ≡ done v (words-from 32 (endOf es .memory)) (endOf es .units)
+        by : Reached (endOf es) → serialRun ≡ done v (words-from 32 (endOf es .store .memory)) (endOf es .units)
         by (still-open e run) = let z : _≡_ {A = ℕ} 0 1 = cc in absurd (omega arith)
         by (has-faulted f) = let e = f .over in let z : _≡_ {A = ℕ} 0 1 = cc in absurd (omega arith)
         by (has-finished f) =
@@ -160,12 +160,12 @@ module _ (j : Job) (good : GoodJob j) (arguments memory : List ℕ) where
 
     -- the same where the serial run is known by its memory words
     pub entries-same : (v u : ℕ) (ms : List ℕ) → length ms ≡ 992 → serialRun ≡ done v (words-from 32 ms) u
-        → (es : List Entry) (w : ℕ) → endOf es .outcome ≡ finished w → (w ≡ v) × (endOf es .memory ≡ ms) × (endOf es .units ≡ u)
+        → (es : List Entry) (w : ℕ) → endOf es .outcome ≡ finished w → (w ≡ v) × (endOf es .store .memory ≡ ms) × (endOf es .units ≡ u)
     entries-same v u ms many serial es w over =
         let a = sym (entries-agree es w over) ∙ serial in
-        let same : words-from 32 (endOf es .memory) ≡ words-from 32 ms = cc in
+        let same : words-from 32 (endOf es .store .memory) ≡ words-from 32 ms = cc in
         let size = run-sound j count arguments memory good some most all es .sized .memory in
-        (cc, words-eq 32 (endOf es .memory) ms (size ∙ sym many) same, cc)
+        (cc, words-eq 32 (endOf es .store .memory) ms (size ∙ sym many) same, cc)
 
     -- where the serial run ends by a number, no machine finishes
     pub entries-unfinished : (x u : ℕ) (ms : ℕ → ℕ) → serialRun ≡ stopped x ms u → (es : List Entry) (v : ℕ) → endOf es .outcome ≡ finished v → ⊥

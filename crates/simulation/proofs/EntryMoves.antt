@@ -67,7 +67,7 @@ module _ (j : Job) (good : GoodJob j) (s : State) where
     pub last : ThreadState Window
     pub is-root : poolOf j s .cell thread ≡ used last root
     pub returns : does windows window-tests (codeOf j good) 0 last ≡ ret result
-    pub memory : a .state .memory ≡ s .memory
+    pub memory : a .state .store .memory ≡ s .store .memory
     pub units : a .state .units ≡ s .units + weightIn j (last .routine) (last .position)
     pub paid : a .state .units ≤ j .allowance
 

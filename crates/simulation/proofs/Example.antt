@@ -74,7 +74,7 @@ abbrev end : State
 end = endOf job good [] (replicate 992 0) 2 (omega arith) (omega arith) refl (length-replicate {A = ℕ} 992 0) entries
 
 -- the machine's end, computed by the rules
-pub computed : (end .outcome ≡ finished 10) × (end .units ≡ 20) × (end .memory ≡ replicate 992 0)
+pub computed : (end .outcome ≡ finished 10) × (end .units ≡ 20) × (end .store .memory ≡ replicate 992 0)
 unfolding runFrom effectAt leaves goesAbove placeOf born forkOn forkWith forkOf stackletsWithout wakes statusAfter readyAfter returnToParent returnOf carriedOf turnOf stepOf takeInto takeOf isSeed stolenOf stealOf enableOf entryOf startState appended fitsOn pushedTops argumentsAt framed pushedWords run anyPending unlessPending provided forking effectOf isPending withPending mayStore mayLoad cutAt decoded
 computed = (refl, refl, refl)
 

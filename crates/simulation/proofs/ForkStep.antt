@@ -52,29 +52,29 @@ use Rattle.simulation.proofs.OwnSteps.{here, StepsTo, cell-here, thread
 pub record Room (j : Job) (s : State) (r n x : ℕ) : Type 0 where
   pub low : n < 32
   pub unused : statusAt s n ≡ 0
-  pub fits : fitsOn (s .tops) x (slotsOf (j .image) r) ≡ true
+  pub fits : fitsOn (s .store .tops) x (slotsOf (j .image) r) ≡ true
 
 -- above the parent's frame
-pub room-above : (j : Job) (s : State) → Sound j s → (kind : ForkKind) (h : Thread) (r n : ℕ) (ns : List ℕ) → s .freeThreads ≡ n ∷ ns
+pub room-above : (j : Job) (s : State) → Sound j s → (kind : ForkKind) (h : Thread) (r n : ℕ) (ns : List ℕ) → s .queues .freeThreads ≡ n ∷ ns
     → goesAbove j s kind h r ≡ true → Room j s r n (h .base / 64)
 unfolding goesAbove
 room-above j s ok kind h r n ns e above =
     let f : Every (λ m. (m < 32) × (statusAt s m ≡ 0)) (n ∷ ns) = subst (Every (λ m. (m < 32) × (statusAt s m ≡ 0))) e (ok .freeThreads .free) in
-    let top = isTopmost (s .tops) (h .base) (slotsOf (j .image) (h .routine)) in
-    let fit = fitsOn (s .tops) (h .base / 64) (slotsOf (j .image) r) in
+    let top = isTopmost (s .store .tops) (h .base) (slotsOf (j .image) (h .routine)) in
+    let fit = fitsOn (s .store .tops) (h .base / 64) (slotsOf (j .image) r) in
     let i = both top fit (both (isConnected kind) (top && fit) above .1) in
     record { low = f .0 .0; unused = f .0 .1; fits = i .1 }
 
 -- on a free stacklet
-pub room-free : (j : Job) (s : State) → GoodJob j → Sound j s → (r n x : ℕ) (ns xs : List ℕ) → s .freeThreads ≡ n ∷ ns → s .freeStacklets ≡ x ∷ xs
+pub room-free : (j : Job) (s : State) → GoodJob j → Sound j s → (r n x : ℕ) (ns xs : List ℕ) → s .queues .freeThreads ≡ n ∷ ns → s .queues .freeStacklets ≡ x ∷ xs
     → r < countOf (j .image) → Room j s r n x
 room-free j s good ok r n x ns xs e e' l =
     let f : Every (λ m. (m < 32) × (statusAt s m ≡ 0)) (n ∷ ns) = subst (Every (λ m. (m < 32) × (statusAt s m ≡ 0))) e (ok .freeThreads .free) in
-    let g : Every (λ y. (y < 16) × (topAt (s .tops) y ≡ 0) × Unused s y) (x ∷ xs) =
-    subst (Every (λ y. (y < 16) × (topAt (s .tops) y ≡ 0) × Unused s y)) e' (ok .freeStacklets .free) in
+    let g : Every (λ y. (y < 16) × (topAt (s .store .tops) y ≡ 0) × Unused s y) (x ∷ xs) =
+    subst (Every (λ y. (y < 16) × (topAt (s .store .tops) y ≡ 0) × Unused s y)) e' (ok .freeStacklets .free) in
     let i = slots-most (j .image) (accepted (j .image) (good .image)) r l in
     let top = g .0 .1 in
-    record { low = f .0 .0; unused = f .0 .1; fits = fits-yes (s .tops) x (slotsOf (j .image) r) (g .0 .0) (omega arith) }
+    record { low = f .0 .0; unused = f .0 .1; fits = fits-yes (s .store .tops) x (slotsOf (j .image) r) (g .0 .0) (omega arith) }
 
 -- where the child goes does not show in the pool
 child-goes-pool : (j : Job) (kind : ForkKind) (c n : ℕ) (s : State) → poolOf j (childGoes kind c n s) ≡ poolOf j s
@@ -116,20 +116,20 @@ module _ (j : Job) (good : GoodJob j) (s : State) (ok : Sound j s) (c t : ℕ) (
 
   -- the words with the child's frame
   abbrev ws : List ℕ
-  ws = pushedWords (s .tops) (s .words) x (slotsOf (j .image) r) (argumentsAt (s .words) (h .base + a) (argumentsOf (j .image) r))
+  ws = pushedWords (s .store .tops) (s .store .words) x (slotsOf (j .image) r) (argumentsAt (s .store .words) (h .base + a) (argumentsOf (j .image) r))
 
   abbrev parent : Thread
   parent = behindFork (parentStatus kind) (turnAt j s c t .next) d (restOf (h .window) e) h
 
   abbrev kid : Thread
-  kid = newThread (childStatus kind) (isConnected kind) r t d (baseOn (s .tops) x) (childOf (h .window) e)
+  kid = newThread (childStatus kind) (isConnected kind) r t d (baseOn (s .store .tops) x) (childOf (h .window) e)
 
   some-slots : 0 < slotsOf (j .image) r
   some-slots = let z = slots-some (j .image) (accepted (j .image) (good .image)) r (range .routine) in omega arith
 
-  kept : (u : ℕ) → Used s u → frame ws (threadAt s u .base) (sizeAt j s u) ≡ frame (s .words) (threadAt s u .base) (sizeAt j s u)
-  kept u k = frame-kept (s .tops) (s .words) x (slotsOf (j .image) r) (argumentsAt (s .words) (h .base + a) (argumentsOf (j .image) r))
-      (threadAt s u .base) (sizeAt j s u) (pushed-apart (s .tops) x (slotsOf (j .image) r) (room .fits) some-slots (threadAt s u .base) (sizeAt j s u)
+  kept : (u : ℕ) → Used s u → frame ws (threadAt s u .base) (sizeAt j s u) ≡ frame (s .store .words) (threadAt s u .base) (sizeAt j s u)
+  kept u k = frame-kept (s .store .tops) (s .store .words) x (slotsOf (j .image) r) (argumentsAt (s .store .words) (h .base + a) (argumentsOf (j .image) r))
+      (threadAt s u .base) (sizeAt j s u) (pushed-apart (s .store .tops) x (slotsOf (j .image) r) (room .fits) some-slots (threadAt s u .base) (sizeAt j s u)
       (ok .frames .under u k) (ok .frames .most (threadAt s u .base / 64)))
 
   parent-cell : cellOf j ws parent ≡ used (behind-fork (codeOf j good) l (l .slots) d (restOf (h .window) e)) (linkOf h)
@@ -150,32 +150,32 @@ module _ (j : Job) (good : GoodJob j) (s : State) (ok : Sound j s) (c t : ℕ) (
       ∙ (λ ι. used (record {
         routine = r;
         position = 0;
-        slots = frame-new (s .tops) (s .words) x (slotsOf (j .image) r) (h .base) (sizeAt j s t) a (argumentsOf (j .image) r) (room .fits)
+        slots = frame-new (s .store .tops) (s .store .words) x (slotsOf (j .image) r) (h .base) (sizeAt j s t) a (argumentsOf (j .image) r) (room .fits)
             (ok .sized .words) (range .arguments) (arguments-most (j .image) (accepted (j .image) (good .image)) r (range .routine)) ι;
         pending = none-pending ι;
         window = childOf (h .window) e;
       }) (cond (lt-leb none t thread-low ι) root (child t d)))
 
   born-cells : cellsOf j ws (set (set (s .threads) t parent) n kid)
-      ≡ update (update (cellsOf j (s .words) (s .threads)) t (used (behind-fork (codeOf j good) l (l .slots) d (restOf (h .window) e)) (linkOf h))) n
+      ≡ update (update (cellsOf j (s .store .words) (s .threads)) t (used (behind-fork (codeOf j good) l (l .slots) d (restOf (h .window) e)) (linkOf h))) n
       (used (started (codeOf j good) r (l .slots) a (childOf (h .window) e)) (child t d))
   born-cells =
       cells-set j ws (set (s .threads) t parent) n kid (omega (arith, length-set (s .threads) t parent, ok .sized .threads, room .low))
       ∙ ap (λ f. update f n (cellOf j ws kid)) (cells-set j ws (s .threads) t parent (thread-below j good s ok c t in-use))
-      ∙ ap (λ f. update (update f t (cellOf j ws parent)) n (cellOf j ws kid)) (cells-words j (s .words) ws (s .threads) kept)
-      ∙ ap (λ z. update (update (cellsOf j (s .words) (s .threads)) t z) n (cellOf j ws kid)) parent-cell
-      ∙ ap (update (update (cellsOf j (s .words) (s .threads)) t (used (behind-fork (codeOf j good) l (l .slots) d (restOf (h .window) e)) (linkOf h))) n)
+      ∙ ap (λ f. update (update f t (cellOf j ws parent)) n (cellOf j ws kid)) (cells-words j (s .store .words) ws (s .threads) kept)
+      ∙ ap (λ z. update (update (cellsOf j (s .store .words) (s .threads)) t z) n (cellOf j ws kid)) parent-cell
+      ∙ ap (update (update (cellsOf j (s .store .words) (s .threads)) t (used (behind-fork (codeOf j good) l (l .slots) d (restOf (h .window) e)) (linkOf h))) n)
       child-cell
 
   -- the pool after the fork
   born-pool : forked windows window-tests (codeOf j good) (poolOf j s) t l (linkOf h) (cell-here j good s ok c t in-use) r d a
       (childOf (h .window) e) (restOf (h .window) e) n ≡ poolOf j (born j s kind (turnAt j s c t) (asked r d a e) n ns x xs)
   unfolding born
-  born-pool = (λ ι. record { cell = sym born-cells ι; words = words-from 32 (s .memory); units = units-here j good s ok c t in-use ι })
+  born-pool = (λ ι. record { cell = sym born-cells ι; words = words-from 32 (s .store .memory); units = units-here j good s ok c t in-use ι })
       ∙ sym (child-goes-pool j kind c n _)
 
   unused-cell : poolOf j s .cell n ≡ free
-  unused-cell = cell-free j (s .words) (threadAt s n) (room .unused)
+  unused-cell = cell-free j (s .store .words) (threadAt s n) (room .unused)
 
   -- the parts of the cut
   parts : partsOf (cutAt (h .window) e) ≡ some (childOf (h .window) e, restOf (h .window) e)

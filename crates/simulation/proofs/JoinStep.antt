@@ -73,14 +73,14 @@ module _ (j : Job) (good : GoodJob j) (s : State) (ok : Sound j s) (c t : ℕ) (
 
   no-children : waits j h ≡ false → effectAt j s h ≡ Joins → (b : ℕ) (q : ThreadState Window) (d : ℕ) → poolOf j s .cell b ≡ used q (child t d) → ⊥
   no-children w met b q d e =
-      let (u, p) = cell-child j (s .words) (threadAt s b) q t d e in
+      let (u, p) = cell-child j (s .store .words) (threadAt s b) q t d e in
       let l = used-below (s .threads) b u in
       let many = ok .sized .threads in
       childless s t 32 (sym (ok .tree .counted t in-use) ∙ no-child-left j s t met w) b (omega arith) u p
 
-  join-cell : cellOf j (s .words) (joinedAt (turnAt j s c t .next) h)
+  join-cell : cellOf j (s .store .words) (joinedAt (turnAt j s c t .next) h)
       ≡ used (behind-join windows (codeOf j good) (here j good s ok c t in-use) (here j good s ok c t in-use .slots)) (linkOf h)
-  join-cell = cell-used j (s .words) (joinedAt (turnAt j s c t .next) h) in-use
+  join-cell = cell-used j (s .store .words) (joinedAt (turnAt j s c t .next) h) in-use
       ∙ (λ ι. used (record {
         routine = h .routine;
         position = sym (position-here j good s ok c t in-use) ι;
@@ -93,9 +93,9 @@ module _ (j : Job) (good : GoodJob j) (s : State) (ok : Sound j s) (c t : ℕ) (
   pub joins-goes : waits j h ≡ false → effectAt j s h ≡ Joins
       → StepsTo j good s ok c t in-use (done (turnAt j s c t) (joinedAt (turnAt j s c t .next) h) s)
   joins-goes w met = subst (ThreadStep windows window-tests (codeOf j good) t (poolOf j s)) (λ ι. record {
-    cell = own-cells j good s ok c t in-use (s .words) (joinedAt (turnAt j s c t .next) h)
+    cell = own-cells j good s ok c t in-use (s .store .words) (joinedAt (turnAt j s c t .next) h)
         (behind-join windows (codeOf j good) (here j good s ok c t in-use) (here j good s ok c t in-use .slots)) (λ u n k. refl) join-cell ι;
-    words = words-from 32 (s .memory);
+    words = words-from 32 (s .store .memory);
     units = units-here j good s ok c t in-use ι;
   }) (joins-step windows window-tests (codeOf j good) (poolOf j s) t (here j good s ok c t in-use) (linkOf h) (cell-here j good s ok c t in-use)
       (effect-met j good s ok c t in-use Joins met) (no-children w met))

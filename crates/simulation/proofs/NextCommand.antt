@@ -60,13 +60,13 @@ module _ (j : Job) (good : GoodJob j) (s : State) (placed : Placed j s) (t : ℕ
   next-here = ap (λ z. h .position + widthOf z) byte-here
 
   -- the effect
-  pub effect-here : effect windows window-tests (codeOf j good) (threadOf j (s .words) h) ≡ effectAt j s h
+  pub effect-here : effect windows window-tests (codeOf j good) (threadOf j (s .store .words) h) ≡ effectAt j s h
   unfolding effectAt
   effect-here =
-      ap (effectOf (argumentsOf (j .image)) (viewOf (frame (s .words) (h .base) (sizeAt j s t)) (isPending (h .pending)) (h .window)))
+      ap (effectOf (argumentsOf (j .image)) (viewOf (frame (s .store .words) (h .base) (sizeAt j s t)) (isPending (h .pending)) (h .window)))
       (fetch-is (j .image) (h .routine) (h .position) command-here)
-      ∙ effect-alike (j .image) (sizeAt j s t) (frame (s .words) (h .base) (sizeAt j s t)) (slotOf (s .words) (h .base))
-      (frame-slot (s .words) (h .base) (sizeAt j s t)) (isPending (h .pending)) (h .window)
+      ∙ effect-alike (j .image) (sizeAt j s t) (frame (s .store .words) (h .base) (sizeAt j s t)) (slotOf (s .store .words) (h .base))
+      (frame-slot (s .store .words) (h .base) (sizeAt j s t)) (isPending (h .pending)) (h .window)
       (decodedAt (j .image) (startOf (j .image) (h .routine) + h .position)) (stands-here .operands)
-      ∙ ap (λ z. effectOf (argumentsOf (j .image)) (viewOf (slotOf (s .words) (h .base)) (isPending (h .pending)) (h .window)) (decodedAt (j .image) z))
+      ∙ ap (λ z. effectOf (argumentsOf (j .image)) (viewOf (slotOf (s .store .words) (h .base)) (isPending (h .pending)) (h .window)) (decodedAt (j .image) z))
       (sym offset-here)

@@ -38,7 +38,7 @@ pub frame-apart : (ws : List ℕ) (b n d v b' n' : ℕ) → d < n → (b + n ≤
 frame-apart ws b n d v b' n' h a = frame-other ws (b + d) v b' n' (λ k l e. ⊎-elim (λ x. omega arith) (λ x. omega arith) a)
 
 -- a used thread's frame lies within the words
-pub frame-within : (j : Job) (s : State) → Sound j s → (t : ℕ) → Used s t → threadAt s t .base + sizeAt j s t ≤ length (s .words)
+pub frame-within : (j : Job) (s : State) → Sound j s → (t : ℕ) → Used s t → threadAt s t .base + sizeAt j s t ≤ length (s .store .words)
 frame-within j s ok t u =
     let a = ok .frames .under t u in
     let b = ok .frames .most (threadAt s t .base / 64) in
@@ -53,14 +53,14 @@ module _ (j : Job) (good : GoodJob j) (s : State) (ok : Sound j s) (c t : ℕ) (
 
   -- the thread to the theory
   abbrev pub here : ThreadState Window
-  here = threadOf j (s .words) h
+  here = threadOf j (s .store .words) h
 
   -- a step of thread t
   abbrev pub StepsTo : State → Type 0
   StepsTo s' = ThreadStep windows window-tests (codeOf j good) t (poolOf j s) (poolOf j s')
 
   pub cell-here : poolOf j s .cell t ≡ used here (linkOf h)
-  cell-here = cell-used j (s .words) h in-use
+  cell-here = cell-used j (s .store .words) h in-use
 
   pub thread-below : t < length (s .threads)
   thread-below = used-below (s .threads) t in-use
@@ -83,20 +83,20 @@ module _ (j : Job) (good : GoodJob j) (s : State) (ok : Sound j s) (c t : ℕ) (
 
   -- the pool in which thread t alone is another, by its record and words
   pub own-cells : (ws : List ℕ) (h' : Thread) (q : ThreadState Window)
-      → ((u : ℕ) → ¬ (u ≡ t) → Used s u → frame ws (threadAt s u .base) (sizeAt j s u) ≡ frame (s .words) (threadAt s u .base) (sizeAt j s u))
+      → ((u : ℕ) → ¬ (u ≡ t) → Used s u → frame ws (threadAt s u .base) (sizeAt j s u) ≡ frame (s .store .words) (threadAt s u .base) (sizeAt j s u))
       → cellOf j ws h' ≡ used q (linkOf h)
       → update (poolOf j s .cell) t (used q (linkOf h)) ≡ cellsOf j ws (set (s .threads) t h')
-  own-cells ws h' q others own = sym (cells-change j (s .words) ws (s .threads) t h' thread-below others ∙ ap (update (poolOf j s .cell) t) own)
+  own-cells ws h' q others own = sym (cells-change j (s .store .words) ws (s .threads) t h' thread-below others ∙ ap (update (poolOf j s .cell) t) own)
 
   -- slot d becomes v
   slot-cell : (d v : ℕ) → d < sizeAt j s t
-      → cellOf j (set (s .words) (h .base + d) v) (movedTo (turnAt j s c t .next) h)
+      → cellOf j (set (s .store .words) (h .base + d) v) (movedTo (turnAt j s c t .next) h)
       ≡ used (onward (codeOf j good) here (update (here .slots) d v)) (linkOf h)
-  slot-cell d v l = cell-used j (set (s .words) (h .base + d) v) (movedTo (turnAt j s c t .next) h) in-use
+  slot-cell d v l = cell-used j (set (s .store .words) (h .base + d) v) (movedTo (turnAt j s c t .next) h) in-use
       ∙ (λ ι. used (record {
         routine = h .routine;
         position = sym position-here ι;
-        slots = frame-own (s .words) (h .base) (sizeAt j s t) d v l (frame-within j s ok t in-use) ι;
+        slots = frame-own (s .store .words) (h .base) (sizeAt j s t) d v l (frame-within j s ok t in-use) ι;
         pending = isPending (h .pending);
         window = h .window;
       }) (linkOf h))
@@ -106,10 +106,10 @@ module _ (j : Job) (good : GoodJob j) (s : State) (ok : Sound j s) (c t : ℕ) (
       (moved windows window-tests (codeOf j good) (poolOf j s) t here (linkOf h) cell-here (onward (codeOf j good) here (update (here .slots) d v)))
       → StepsTo (goesOn (turnAt j s c t) (setSlot h d v s))
   slot-step d v l step = subst (ThreadStep windows window-tests (codeOf j good) t (poolOf j s)) (λ ι. record {
-    cell = own-cells (set (s .words) (h .base + d) v) (movedTo (turnAt j s c t .next) h) (onward (codeOf j good) here (update (here .slots) d v))
-        (λ u n k. frame-apart (s .words) (h .base) (sizeAt j s t) d v (threadAt s u .base) (sizeAt j s u) l
+    cell = own-cells (set (s .store .words) (h .base + d) v) (movedTo (turnAt j s c t .next) h) (onward (codeOf j good) here (update (here .slots) d v))
+        (λ u n k. frame-apart (s .store .words) (h .base) (sizeAt j s t) d v (threadAt s u .base) (sizeAt j s u) l
         (ok .frames .apart t u in-use k (λ e. n (sym e)))) (slot-cell d v l) ι;
-    words = words-from 32 (s .memory);
+    words = words-from 32 (s .store .memory);
     units = units-here ι;
   }) step
 
@@ -122,22 +122,22 @@ module _ (j : Job) (good : GoodJob j) (s : State) (ok : Sound j s) (c t : ℕ) (
   pub loads-goes : (d a : ℕ) → effectAt j s h ≡ Loads d a → StepsTo (goesOn (turnAt j s c t) (setSlot h d (wordAt j s a) s))
   loads-goes d a met = go (decLt a 32)
     where
-      word : (o : Dec (32 ≤ a)) → 32 ≤ a → ite o (getD (s .memory) (a - 32) 0) 0 ≡ getD (s .memory) (a - 32) 0
+      word : (o : Dec (32 ≤ a)) → 32 ≤ a → ite o (getD (s .store .memory) (a - 32) 0) 0 ≡ getD (s .store .memory) (a - 32) 0
       word (yes _) l = refl
       word (no x) l = absurd (x l)
 
       go : Dec (a < 32) → StepsTo (goesOn (turnAt j s c t) (setSlot h d (wordAt j s a) s))
       go (yes l) = rw (lt-ltb a 32 l) (slot-step d (getD (j .parameters) a 0) (effect-slots (Loads d a) met .0)
           (loads-parameter-step windows window-tests (codeOf j good) (poolOf j s) t here (linkOf h) cell-here d a (effect-met (Loads d a) met) l))
-      go (no l) = rw (le-ltb a 32 (omega arith)) (slot-step d (getD (s .memory) (a - 32) 0) (effect-slots (Loads d a) met .0)
+      go (no l) = rw (le-ltb a 32 (omega arith)) (slot-step d (getD (s .store .memory) (a - 32) 0) (effect-slots (Loads d a) met .0)
           (subst (λ v. ThreadStep windows window-tests (codeOf j good) t (poolOf j s)
           (moved windows window-tests (codeOf j good) (poolOf j s) t here (linkOf h) cell-here (onward (codeOf j good) here (update (here .slots) d v))))
           (word (decLe 32 a) (omega arith))
           (loads-step windows window-tests (codeOf j good) (poolOf j s) t here (linkOf h) cell-here d a (effect-met (Loads d a) met) (omega arith))))
 
   -- the thread goes on and its slots stay
-  onward-cell : cellOf j (s .words) (movedTo (turnAt j s c t .next) h) ≡ used (onward (codeOf j good) here (here .slots)) (linkOf h)
-  onward-cell = cell-used j (s .words) (movedTo (turnAt j s c t .next) h) in-use
+  onward-cell : cellOf j (s .store .words) (movedTo (turnAt j s c t .next) h) ≡ used (onward (codeOf j good) here (here .slots)) (linkOf h)
+  onward-cell = cell-used j (s .store .words) (movedTo (turnAt j s c t .next) h) in-use
       ∙ (λ ι. used (record {
         routine = h .routine;
         position = sym position-here ι;
@@ -150,8 +150,8 @@ module _ (j : Job) (good : GoodJob j) (s : State) (ok : Sound j s) (c t : ℕ) (
       (moved windows window-tests (codeOf j good) (poolOf j s) t here (linkOf h) cell-here (onward (codeOf j good) here (here .slots)))
       → StepsTo (goesOn (turnAt j s c t) s)
   onward-step step = subst (ThreadStep windows window-tests (codeOf j good) t (poolOf j s)) (λ ι. record {
-    cell = own-cells (s .words) (movedTo (turnAt j s c t .next) h) (onward (codeOf j good) here (here .slots)) (λ u n k. refl) onward-cell ι;
-    words = words-from 32 (s .memory);
+    cell = own-cells (s .store .words) (movedTo (turnAt j s c t .next) h) (onward (codeOf j good) here (here .slots)) (λ u n k. refl) onward-cell ι;
+    words = words-from 32 (s .store .memory);
     units = units-here ι;
   }) step
 
@@ -171,8 +171,8 @@ module _ (j : Job) (good : GoodJob j) (s : State) (ok : Sound j s) (c t : ℕ) (
   -- 05
   pub stores-goes : (a v : ℕ) → effectAt j s h ≡ Stores a v → StepsTo (goesOn (turnAt j s c t) (setMemory a v s))
   stores-goes a v met = subst (ThreadStep windows window-tests (codeOf j good) t (poolOf j s)) (λ ι. record {
-    cell = own-cells (s .words) (movedTo (turnAt j s c t .next) h) (onward (codeOf j good) here (here .slots)) (λ u n k. refl) onward-cell ι;
-    words = sym (words-set 32 (s .memory) a v (place .0) (omega (arith, place .1, ok .sized .memory))) ι;
+    cell = own-cells (s .store .words) (movedTo (turnAt j s c t .next) h) (onward (codeOf j good) here (here .slots)) (λ u n k. refl) onward-cell ι;
+    words = sym (words-set 32 (s .store .memory) a v (place .0) (omega (arith, place .1, ok .sized .memory))) ι;
     units = units-here ι;
   }) (stores-step windows window-tests (codeOf j good) (poolOf j s) t here (linkOf h) cell-here a v (effect-met (Stores a v) met))
     where
@@ -182,7 +182,7 @@ module _ (j : Job) (good : GoodJob j) (s : State) (ok : Sound j s) (c t : ℕ) (
   -- 07, and 06 where the slot is 0
   pub goes-goes : (p : ℕ) → effectAt j s h ≡ Goes p → StepsTo (done (turnAt j s c t) (movedTo p h) s)
   goes-goes p met = subst (ThreadStep windows window-tests (codeOf j good) t (poolOf j s)) (λ ι. record {
-    cell = own-cells (s .words) (movedTo p h) (at-target here p) (λ u n k. refl) (cell-used j (s .words) (movedTo p h) in-use) ι;
-    words = words-from 32 (s .memory);
+    cell = own-cells (s .store .words) (movedTo p h) (at-target here p) (λ u n k. refl) (cell-used j (s .store .words) (movedTo p h) in-use) ι;
+    words = words-from 32 (s .store .memory);
     units = units-here ι;
   }) (goes-step windows window-tests (codeOf j good) (poolOf j s) t here (linkOf h) cell-here p (effect-met (Goes p) met))

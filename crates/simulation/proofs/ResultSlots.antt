@@ -118,7 +118,7 @@ module _ (j : Job) (good : GoodJob j) (s : State) (ok : Sound j s) (results : Re
       parent = behindFork (parentStatus kind) (turnAt j s c t .next) d (restOf (threadAt s t .window) e) (threadAt s t)
 
       kid : Thread
-      kid = newThread (childStatus kind) (isConnected kind) r t d (baseOn (s .tops) x) (childOf (threadAt s t .window) e)
+      kid = newThread (childStatus kind) (isConnected kind) r t d (baseOn (s .store .tops) x) (childOf (threadAt s t .window) e)
 
       not-new : ¬ (t ≡ n)
       not-new z = let y = ap (statusAt s) z in omega arith
@@ -184,7 +184,7 @@ module _ (j : Job) (good : GoodJob j) (s : State) (ok : Sound j s) (results : Re
           (withoutChild (statusAfter (threadAt s t .connected) (threadAt s (threadAt s t .parent))) (threadAt s (threadAt s t .parent))) still
           (record { routine = ap (λ z. z .routine) (sym at); parent = ap (λ z. z .parent) (sym at); result = ap (λ z. z .result) (sym at) }) gone)
 
-  free-number : (n : ℕ) (ns : List ℕ) → s .freeThreads ≡ n ∷ ns → (n < 32) × (statusAt s n ≡ 0)
+  free-number : (n : ℕ) (ns : List ℕ) → s .queues .freeThreads ≡ n ∷ ns → (n < 32) × (statusAt s n ≡ 0)
   free-number n ns e =
       let f : Every (λ m. (m < 32) × (statusAt s m ≡ 0)) (n ∷ ns) = subst (Every (λ m. (m < 32) × (statusAt s m ≡ 0))) e (ok .freeThreads .free) in
       f .0

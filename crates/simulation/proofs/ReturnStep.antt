@@ -89,17 +89,17 @@ module _ (j : Job) (good : GoodJob j) (s : State) (ok : Sound j s) (results : Re
 
     -- the words with the value
     abbrev ws : List ℕ
-    ws = set (s .words) (q .base + h .result) v
+    ws = set (s .store .words) (q .base + h .result) v
 
     abbrev parent : Thread
     parent = withoutChild (statusAfter (h .connected) q) q
 
-    parent-cell : cellOf j ws parent ≡ used (deliver (threadOf j (s .words) q) (h .result) v) (linkOf q)
+    parent-cell : cellOf j ws parent ≡ used (deliver (threadOf j (s .store .words) q) (h .result) v) (linkOf q)
     parent-cell = cell-used j ws parent (woken-in-use (h .connected) q (above .used-parent))
         ∙ (λ ι. used (record {
           routine = q .routine;
           position = q .position;
-          slots = frame-own (s .words) (q .base) (sizeAt j s p) (h .result) v slot-inside (frame-within j s ok p (above .used-parent)) ι;
+          slots = frame-own (s .store .words) (q .base) (sizeAt j s p) (h .result) v slot-inside (frame-within j s ok p (above .used-parent)) ι;
           pending = isPending (q .pending);
           window = q .window;
         }) (linkOf q))
@@ -123,21 +123,21 @@ module _ (j : Job) (good : GoodJob j) (s : State) (ok : Sound j s) (results : Re
     kept : (u : ℕ) → ¬ (u ≡ p) → InUse (getD (set (s .threads) t blankThread) u blankThread)
         → frame ws (getD (set (s .threads) t blankThread) u blankThread .base)
         (slotsOf (j .image) (getD (set (s .threads) t blankThread) u blankThread .routine))
-        ≡ frame (s .words) (getD (set (s .threads) t blankThread) u blankThread .base)
+        ≡ frame (s .store .words) (getD (set (s .threads) t blankThread) u blankThread .base)
         (slotsOf (j .image) (getD (set (s .threads) t blankThread) u blankThread .routine))
     kept u n k =
         let (same, was) = still u k in
-        subst (λ g. frame ws (g .base) (slotsOf (j .image) (g .routine)) ≡ frame (s .words) (g .base) (slotsOf (j .image) (g .routine))) (sym same)
-        (frame-apart (s .words) (q .base) (sizeAt j s p) (h .result) v (threadAt s u .base) (sizeAt j s u) slot-inside
+        subst (λ g. frame ws (g .base) (slotsOf (j .image) (g .routine)) ≡ frame (s .store .words) (g .base) (slotsOf (j .image) (g .routine))) (sym same)
+        (frame-apart (s .store .words) (q .base) (sizeAt j s p) (h .result) v (threadAt s u .base) (sizeAt j s u) slot-inside
         (ok .frames .apart p u (above .used-parent) was (λ e. n (sym e))))
 
     return-cells : cellsOf j ws (set (set (s .threads) t blankThread) p parent)
-        ≡ update (update (cellsOf j (s .words) (s .threads)) t free) p (used (deliver (threadOf j (s .words) q) (h .result) v) (linkOf q))
+        ≡ update (update (cellsOf j (s .store .words) (s .threads)) t free) p (used (deliver (threadOf j (s .store .words) q) (h .result) v) (linkOf q))
     return-cells =
-        cells-change j (s .words) ws (set (s .threads) t blankThread) p parent
+        cells-change j (s .store .words) ws (set (s .threads) t blankThread) p parent
         (omega (arith, length-set (s .threads) t blankThread, used-below (s .threads) p (above .used-parent))) kept
-        ∙ ap (λ f. update f p (cellOf j ws parent)) (cells-set j (s .words) (s .threads) t blankThread (thread-below j good s ok c t in-use))
-        ∙ ap (update (update (cellsOf j (s .words) (s .threads)) t free) p) parent-cell
+        ∙ ap (λ f. update f p (cellOf j ws parent)) (cells-set j (s .store .words) (s .threads) t blankThread (thread-below j good s ok c t in-use))
+        ∙ ap (update (update (cellsOf j (s .store .words) (s .threads)) t free) p) parent-cell
 
     child-link : poolOf j s .cell t ≡ used l (child p (h .result))
     child-link = cell-here j good s ok c t in-use ∙ ap (λ b. used l (cond b root (child (h .parent) (h .result)))) not-root
@@ -145,9 +145,9 @@ module _ (j : Job) (good : GoodJob j) (s : State) (ok : Sound j s) (results : Re
     parent-goes : StepsTo j good s ok c t in-use (returnToParent s (turnAt j s c t) p q v)
     unfolding returnToParent
     parent-goes = subst (ThreadStep windows window-tests (codeOf j good) t (poolOf j s))
-        (λ ι. record { cell = sym return-cells ι; words = words-from 32 (s .memory); units = units-here j good s ok c t in-use ι })
-        (returns-step windows window-tests (codeOf j good) (poolOf j s) t l (threadOf j (s .words) q) (linkOf q) p (h .result) v child-link
-        (cell-used j (s .words) q (above .used-parent)) (effect-met j good s ok c t in-use (Returns v) met))
+        (λ ι. record { cell = sym return-cells ι; words = words-from 32 (s .store .memory); units = units-here j good s ok c t in-use ι })
+        (returns-step windows window-tests (codeOf j good) (poolOf j s) t l (threadOf j (s .store .words) q) (linkOf q) p (h .result) v child-link
+        (cell-used j (s .store .words) q (above .used-parent)) (effect-met j good s ok c t in-use (Returns v) met))
 
     pub returns-goes : StepsTo j good s ok c t in-use (returnOf s (turnAt j s c t) v)
     unfolding returnOf

@@ -45,7 +45,7 @@ alike-disconnected x h u k = record {
 }
 
 set-pool : (j : Job) (t : ℕ) (h : Thread) (s : State) → Alike (threadAt s t) h → poolOf j (setThread t h s) ≡ poolOf j s
-set-pool j t h s a = λ ι. record { cell = cells-alike j (s .words) (s .threads) t h a ι; words = words-from 32 (s .memory); units = s .units }
+set-pool j t h s a = λ ι. record { cell = cells-alike j (s .store .words) (s .threads) t h a ι; words = words-from 32 (s .store .memory); units = s .units }
 
 -- a thread in use stays so when a record in use is put in
 pub used-set : (s : State) (t : ℕ) (h : Thread) → t < length (s .threads) → InUse h → (u : ℕ) → Used s u → Used (setThread t h s) u

@@ -52,7 +52,7 @@ abbrev pub cellsOf : Job → List ℕ → List Thread → ℕ → Cell (ThreadSt
 cellsOf j ws ts t = cellOf j ws (getD ts t blankThread)
 
 abbrev pub poolOf : Job → State → Pool (ThreadState Window)
-poolOf j s = record { cell = cellsOf j (s .words) (s .threads); words = words-from 32 (s .memory); units = s .units }
+poolOf j s = record { cell = cellsOf j (s .store .words) (s .threads); words = words-from 32 (s .store .memory); units = s .units }
 
 -- a record in use
 abbrev pub InUse : Thread → Type 0

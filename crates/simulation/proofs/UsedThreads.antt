@@ -17,7 +17,7 @@ use Rattle.simulation.proofs.StatePool.{used-below}
 use Rattle.simulation.proofs.SamePool.{used-set}
 
 module _ (j : Job) (s : State) (ok : Sound j s) where
-  pub ready-used : (t : ℕ) (ts : List ℕ) → s .ready ≡ t ∷ ts → Used s t
+  pub ready-used : (t : ℕ) (ts : List ℕ) → s .queues .ready ≡ t ∷ ts → Used s t
   ready-used t ts e =
       let f : Every (λ u. statusAt s u ≡ 2) (t ∷ ts) = subst (Every (λ u. statusAt s u ≡ 2)) e (ok .turns .ready) in
       let z = f .0 in

@@ -39,12 +39,12 @@ pub record Waits (j : Job) (s : State) (c t : ℕ) : Type 0 where
 
 -- the stacklet x of a new frame, and the free stacklets xs that are left
 pub data Chosen (j : Job) (s : State) (kind : ForkKind) (h : Thread) (r x : ℕ) (xs : List ℕ) : Type 0 where
-  above : goesAbove j s kind h r ≡ true → x ≡ h .base / 64 → xs ≡ s .freeStacklets → Chosen j s kind h r x xs
-  onFree : goesAbove j s kind h r ≡ false → s .freeStacklets ≡ x ∷ xs → Chosen j s kind h r x xs
+  above : goesAbove j s kind h r ≡ true → x ≡ h .base / 64 → xs ≡ s .queues .freeStacklets → Chosen j s kind h r x xs
+  onFree : goesAbove j s kind h r ≡ false → s .queues .freeStacklets ≡ x ∷ xs → Chosen j s kind h r x xs
 
 -- a fork has the thread number n and the stacklet x for its child
 pub record Forked (j : Job) (s : State) (kind : ForkKind) (h : Thread) (r n : ℕ) (ns : List ℕ) (x : ℕ) (xs : List ℕ) : Type 0 where
-  pub number : s .freeThreads ≡ n ∷ ns
+  pub number : s .queues .freeThreads ≡ n ∷ ns
   pub place : Chosen j s kind h r x xs
 
 -- idle core c takes t, the head of the ready queue
@@ -52,7 +52,7 @@ pub record Taken (s : State) (c t : ℕ) (ts : List ℕ) : Type 0 where
   pub ongoing : s .outcome ≡ going
   pub core : c < s .count
   pub idle : none ≤ onCore s c
-  pub head : s .ready ≡ t ∷ ts
+  pub head : s .queues .ready ≡ t ∷ ts
 
 -- suspended thread t is enabled
 pub record Enabled (s : State) (t : ℕ) : Type 0 where
@@ -122,17 +122,17 @@ module _ (P : After → Type 0) (j : Job) (s : State) (cases : Cases P j s) wher
       → ((n : ℕ) (ns : List ℕ) (x : ℕ) (xs : List ℕ) → Forked j s kind (o .thread) (f .routine) n ns x xs → P (accepted (born j s kind o f n ns x xs)))
       → P (forkOf j s kind o f)
   unfolding forkOf forkWith forkOn placeOf
-  fork-by kind o f make = with-number (s .freeThreads) refl
+  fork-by kind o f make = with-number (s .queues .freeThreads) refl
     where
-      on-place : (n : ℕ) (ns : List ℕ) → s .freeThreads ≡ n ∷ ns → (b : Bool) → goesAbove j s kind (o .thread) (f .routine) ≡ b
-          → (ys : List ℕ) → s .freeStacklets ≡ ys → P (forkOn j s kind o f n ns (placeOf b (o .thread .base / 64) ys))
+      on-place : (n : ℕ) (ns : List ℕ) → s .queues .freeThreads ≡ n ∷ ns → (b : Bool) → goesAbove j s kind (o .thread) (f .routine) ≡ b
+          → (ys : List ℕ) → s .queues .freeStacklets ≡ ys → P (forkOn j s kind o f n ns (placeOf b (o .thread .base / 64) ys))
       on-place n ns e true g ys q = make n ns (o .thread .base / 64) ys (record { number = e; place = above g refl (sym q) })
       on-place n ns e false g [] q = cases .refuses 21 (omega arith) (omega arith)
       on-place n ns e false g (y ∷ ys) q = make n ns y ys (record { number = e; place = onFree g q })
 
-      with-number : (ns : List ℕ) → s .freeThreads ≡ ns → P (forkWith j s kind o f ns)
+      with-number : (ns : List ℕ) → s .queues .freeThreads ≡ ns → P (forkWith j s kind o f ns)
       with-number [] e = cases .refuses 20 (omega arith) (omega arith)
-      with-number (n ∷ ns) e = on-place n ns e (goesAbove j s kind (o .thread) (f .routine)) refl (s .freeStacklets) refl
+      with-number (n ∷ ns) e = on-place n ns e (goesAbove j s kind (o .thread) (f .routine)) refl (s .queues .freeStacklets) refl
 
   -- a step, by the effect of the command met
   carried-by : (c t : ℕ) → Stepped j s c t → (e : Effect) → effectAt j s (threadAt s t) ≡ e → P (carriedOf j s (turnAt j s c t) e)
@@ -187,16 +187,16 @@ module _ (P : After → Type 0) (j : Job) (s : State) (cases : Cases P j s) wher
   unfolding takeOf takeInto
   take-by c = go (isOver (s .outcome)) refl (leb (s .count) c) refl (isBusy s c) refl
     where
-      into : s .outcome ≡ going → c < s .count → none ≤ onCore s c → (ts : List ℕ) → s .ready ≡ ts → P (takeInto s c ts)
+      into : s .outcome ≡ going → c < s .count → none ≤ onCore s c → (ts : List ℕ) → s .queues .ready ≡ ts → P (takeInto s c ts)
       into o l i [] e = cases .refuses 16 (omega arith) (omega arith)
       into o l i (t ∷ ts) e = cases .takes c t ts (record { ongoing = o; core = l; idle = i; head = e })
 
       go : (x : Bool) → isOver (s .outcome) ≡ x → (y : Bool) → leb (s .count) c ≡ y → (z : Bool) → isBusy s c ≡ z
-          → P (cond x (refused 19 s) (cond y (refused 14 s) (cond z (refused 15 s) (takeInto s c (s .ready)))))
+          → P (cond x (refused 19 s) (cond y (refused 14 s) (cond z (refused 15 s) (takeInto s c (s .queues .ready)))))
       go true _ y _ z _ = cases .refuses 19 (omega arith) (omega arith)
       go false e true _ z _ = cases .refuses 14 (omega arith) (omega arith)
       go false e false f true _ = cases .refuses 15 (omega arith) (omega arith)
-      go false e false f false g = into (not-over _ e) (leb-false _ _ f) (ltb-false _ _ g) (s .ready) refl
+      go false e false f false g = into (not-over _ e) (leb-false _ _ f) (ltb-false _ _ g) (s .queues .ready) refl
 
   stolen-by : (c t : ℕ) → Seeded j s c t → (e : Effect) → effectAt j s (threadAt s t) ≡ e → P (stolenOf j s (turnAt j s c t) e)
   unfolding stolenOf

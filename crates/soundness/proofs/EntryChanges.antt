@@ -42,7 +42,7 @@ use Rattle.soundness.proofs.Parts.{return-childless, join-childless}
 use Rattle.soundness.proofs.ThreadsMet.{runner, waiter-used, taken-used, lent-used, parent-used, linked-parent, step-met, seed-met}
 
 -- CHANGES OF STATUS AND PLACE: threads that leave a core, run, or go on
-liking : (j : Job) (s s' : State) → ((u : ℕ) → Like (threadAt s u) (threadAt s' u)) → s' .tops ≡ s .tops → s' .freeStacklets ≡ s .freeStacklets → Change j s s'
+liking : (j : Job) (s s' : State) → ((u : ℕ) → Like (threadAt s u) (threadAt s' u)) → s' .store .tops ≡ s .store .tops → s' .queues .freeStacklets ≡ s .queues .freeStacklets → Change j s s'
 liking j s s' like tops free = steady (record {
   stays = λ u. like u .stays;
   lo = λ u. ap (λ w. w .lo) (like u .window);
@@ -72,20 +72,20 @@ like-leaves s c t status h k p u = go (threadAt s t .connected) p
     go true p = like-trans (off u) (like-status s1 (threadAt s t .parent) Running (off (threadAt s t .parent) .stays .still (p refl)) (omega arith) u)
     go false p = off u
 
-leaves-tops : (c t : ℕ) (status : Status) (s : State) → leaves c t status s .tops ≡ s .tops
+leaves-tops : (c t : ℕ) (status : Status) (s : State) → leaves c t status s .store .tops ≡ s .store .tops
 unfolding leaves
 leaves-tops c t status s = go (threadAt s t .connected)
   where
-    go : (b : Bool) → cond b (runs c (threadAt s t .parent) (setThread t (disconnected status (threadAt s t)) s)) (setCore c none (setThread t (disconnected status (threadAt s t)) s)) .tops ≡ s .tops
+    go : (b : Bool) → cond b (runs c (threadAt s t .parent) (setThread t (disconnected status (threadAt s t)) s)) (setCore c none (setThread t (disconnected status (threadAt s t)) s)) .store .tops ≡ s .store .tops
     go true = refl
     go false = refl
 
-leaves-free : (c t : ℕ) (status : Status) (s : State) → leaves c t status s .freeStacklets ≡ s .freeStacklets
+leaves-free : (c t : ℕ) (status : Status) (s : State) → leaves c t status s .queues .freeStacklets ≡ s .queues .freeStacklets
 unfolding leaves
 leaves-free c t status s = go (threadAt s t .connected)
   where
-    go : (b : Bool) → cond b (runs c (threadAt s t .parent) (setThread t (disconnected status (threadAt s t)) s)) (setCore c none (setThread t (disconnected status (threadAt s t)) s)) .freeStacklets
-        ≡ s .freeStacklets
+    go : (b : Bool) → cond b (runs c (threadAt s t .parent) (setThread t (disconnected status (threadAt s t)) s)) (setCore c none (setThread t (disconnected status (threadAt s t)) s)) .queues .freeStacklets
+        ≡ s .queues .freeStacklets
     go true = refl
     go false = refl
 
@@ -140,17 +140,17 @@ module _ (j : Job) (s : State) (ok : Sound j s) where
 
   -- what goes above its parent's frame finds it topmost, and fits
   goes-above : (kind : ForkKind) (t r : ℕ) → goesAbove j s kind (threadAt s t) r ≡ true
-      → (isTopmost (s .tops) (threadAt s t .base) (sizeAt j s t) ≡ true) × (fitsOn (s .tops) (threadAt s t .base / 64) (slotsOf (j .image) r) ≡ true)
+      → (isTopmost (s .store .tops) (threadAt s t .base) (sizeAt j s t) ≡ true) × (fitsOn (s .store .tops) (threadAt s t .base / 64) (slotsOf (j .image) r) ≡ true)
   unfolding goesAbove
   goes-above kind t r g =
-      both _ _ (both (isConnected kind) (isTopmost (s .tops) (threadAt s t .base) (sizeAt j s t) && fitsOn (s .tops) (threadAt s t .base / 64) (slotsOf (j .image) r)) g .1)
+      both _ _ (both (isConnected kind) (isTopmost (s .store .tops) (threadAt s t .base) (sizeAt j s t) && fitsOn (s .store .tops) (threadAt s t .base / 64) (slotsOf (j .image) r)) g .1)
 
   -- a fork of any kind: s' is the state with the child
   fork-change : (kind : ForkKind) (c t r d a e n : ℕ) (ns : List ℕ) (x : ℕ) (xs : List ℕ) (s' : State) → s .outcome ≡ going → Used s t
       → MetAt j s t (Lforks r d a e) → Forked j s kind (threadAt s t) r n ns x xs
       → s' .threads ≡ set (set (s .threads) t (behindFork (parentStatus kind) (turnAt j s c t .next) d (restOf (threadAt s t .window) e) (threadAt s t)))
-      n (newThread (childStatus kind) (isConnected kind) r t d (baseOn (s .tops) x) (childOf (threadAt s t .window) e))
-      → s' .tops ≡ pushedTops (s .tops) x (slotsOf (j .image) r) → s' .freeStacklets ≡ xs → Change j s s'
+      n (newThread (childStatus kind) (isConnected kind) r t d (baseOn (s .store .tops) x) (childOf (threadAt s t .window) e))
+      → s' .store .tops ≡ pushedTops (s .store .tops) x (slotsOf (j .image) r) → s' .queues .freeStacklets ≡ xs → Change j s s'
   fork-change kind c t r d a e n ns x xs s' ongoing h m f threads tops free = birth t n r d x e (record {
     parent-used = h;
     number = number;
@@ -175,7 +175,7 @@ module _ (j : Job) (s : State) (ok : Sound j s) where
       p = behindFork (parentStatus kind) (turnAt j s c t .next) d (restOf (threadAt s t .window) e) (threadAt s t)
 
       q : Thread
-      q = newThread (childStatus kind) (isConnected kind) r t d (baseOn (s .tops) x) (childOf (threadAt s t .window) e)
+      q = newThread (childStatus kind) (isConnected kind) r t d (baseOn (s .store .tops) x) (childOf (threadAt s t .window) e)
 
       head : (n < 32) × (statusAt s n ≡ 0)
       head = let all : Every (λ y. (y < 32) × (statusAt s y ≡ 0)) (n ∷ ns) = rw (f .number) at (ok .freeThreads .free) in all .0
@@ -195,21 +195,21 @@ module _ (j : Job) (s : State) (ok : Sound j s) where
       parent : threadAt s' t ≡ p
       parent = rw threads (getD-set-other (set (s .threads) t p) n t q blankThread other ∙ getD-set-same (s .threads) t p blankThread (used-below s t h))
 
-      spot : (fitsOn (s .tops) x (slotsOf (j .image) r) ≡ true) × NewPlace j s s' t x
+      spot : (fitsOn (s .store .tops) x (slotsOf (j .image) r) ≡ true) × NewPlace j s s' t x
       spot = go (f .place)
         where
           good : Accepts (j .image)
           good = accepted (j .image) (ok .job .image)
 
-          go : Chosen j s kind (threadAt s t) r x xs → (fitsOn (s .tops) x (slotsOf (j .image) r) ≡ true) × NewPlace j s s' t x
+          go : Chosen j s kind (threadAt s t) r x xs → (fitsOn (s .store .tops) x (slotsOf (j .image) r) ≡ true) × NewPlace j s s' t x
           go (above g e l) =
               let w = goes-above kind t r g in
-              (rw e (w .1), aboveParent (rw e (topmost-base (s .tops) (threadAt s t .base) (sizeAt j s t) (w .0))) e (free ∙ l))
+              (rw e (w .1), aboveParent (rw e (topmost-base (s .store .tops) (threadAt s t .base) (sizeAt j s t) (w .0))) e (free ∙ l))
           go (onFree g l) =
-              let all : Every (λ y. (y < 16) × (topAt (s .tops) y ≡ 0) × Unused s y) (x ∷ xs) = rw l at (ok .freeStacklets .free) in
+              let all : Every (λ y. (y < 16) × (topAt (s .store .tops) y ≡ 0) × Unused s y) (x ∷ xs) = rw l at (ok .freeStacklets .free) in
               let w = slots-most (j .image) good r (m .0 .routine) in
               let v = all .0 .1 in
-              (fits-yes (s .tops) x (slotsOf (j .image) r) (all .0 .0) (omega arith), onNew (all .0 .1) (rw free l))
+              (fits-yes (s .store .tops) x (slotsOf (j .image) r) (all .0 .0) (omega arith), onNew (all .0 .1) (rw free l))
 
   -- a parent is in use after its child's return as before
   after-used : (b : Bool) (q : Thread) → 0 < statusNumber (q .status) → 0 < statusNumber (statusAfter b q)
@@ -273,15 +273,15 @@ module _ (j : Job) (s : State) (ok : Sound j s) where
         free = refl;
       })
 
-  same-change : (s' : State) → s' .threads ≡ s .threads → s' .tops ≡ s .tops → s' .freeStacklets ≡ s .freeStacklets → Change j s s'
+  same-change : (s' : State) → s' .threads ≡ s .threads → s' .store .tops ≡ s .store .tops → s' .queues .freeStacklets ≡ s .queues .freeStacklets → Change j s s'
   same-change s' threads tops free = liking j s s' (λ u. like-same (ap (λ ts. getD ts u blankThread) threads)) tops free
 
   -- a thread that stands somewhere else
-  moved-change : (t p : ℕ) (s' : State) → s' .threads ≡ set (s .threads) t (movedTo p (threadAt s t)) → s' .tops ≡ s .tops → s' .freeStacklets ≡ s .freeStacklets → Change j s s'
+  moved-change : (t p : ℕ) (s' : State) → s' .threads ≡ set (s .threads) t (movedTo p (threadAt s t)) → s' .store .tops ≡ s .store .tops → s' .queues .freeStacklets ≡ s .queues .freeStacklets → Change j s s'
   moved-change t p s' threads tops free = liking j s s' (λ u. rw threads (like-moved t p u)) tops free
 
   status-change : (t : ℕ) (status : Status) (s' : State) → Used s t → 0 < statusNumber status → s' .threads ≡ set (s .threads) t (withStatus status (threadAt s t))
-      → s' .tops ≡ s .tops → s' .freeStacklets ≡ s .freeStacklets → Change j s s'
+      → s' .store .tops ≡ s .store .tops → s' .queues .freeStacklets ≡ s .queues .freeStacklets → Change j s s'
   status-change t status s' h k threads tops free = liking j s s' (λ u. rw threads (like-status s t status h k u)) tops free
 
   -- ALL CHANGES

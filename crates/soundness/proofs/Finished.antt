@@ -14,11 +14,11 @@ module _ (j : Job) (s : State) (ok : Sound j s) (v : ℕ) (over : s .outcome ≡
   pub finished-free : (t : ℕ) → statusAt s t ≡ 0
   finished-free = ok .tree .over v over
 
-  pub finished-numbers : (t : ℕ) → t < 32 → Member t (s .freeThreads)
+  pub finished-numbers : (t : ℕ) → t < 32 → Member t (s .queues .freeThreads)
   finished-numbers t l = ok .freeThreads .stands t l (finished-free t)
 
-  pub finished-all : length (s .freeThreads) ≡ 32
+  pub finished-all : length (s .queues .freeThreads) ≡ 32
   finished-all =
-      let a = at-most 32 (s .freeThreads) (ok .freeThreads .once) (every-map (λ n h. h .0) (s .freeThreads) (ok .freeThreads .free)) in
-      let b = at-least 32 (s .freeThreads) finished-numbers in
+      let a = at-most 32 (s .queues .freeThreads) (ok .freeThreads .once) (every-map (λ n h. h .0) (s .queues .freeThreads) (ok .freeThreads .free)) in
+      let b = at-least 32 (s .queues .freeThreads) finished-numbers in
       omega arith

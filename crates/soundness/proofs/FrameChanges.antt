@@ -73,13 +73,13 @@ pub record Steady (s s' : State) : Type 0 where
   pub lo : (u : ℕ) → threadAt s' u .window .lo ≡ threadAt s u .window .lo
   pub hi : (u : ℕ) → threadAt s' u .window .hi ≡ threadAt s u .window .hi
   pub mark : (u : ℕ) → (threadAt s' u .window .mark ≡ threadAt s u .window .mark) ⊎ ((threadAt s' u .window .mark ≡ threadAt s u .window .lo) × Childless s u)
-  pub tops : s' .tops ≡ s .tops
-  pub free : s' .freeStacklets ≡ s .freeStacklets
+  pub tops : s' .store .tops ≡ s .store .tops
+  pub free : s' .queues .freeStacklets ≡ s .queues .freeStacklets
 
 -- where the new frame of routine r goes: above the parent's frame, or at the first word of a free stacklet
 pub data NewPlace (j : Job) (s s' : State) (t x : ℕ) : Type 0 where
-  aboveParent : baseOn (s .tops) x ≡ threadAt s t .base + sizeAt j s t → x ≡ threadAt s t .base / 64 → s' .freeStacklets ≡ s .freeStacklets → NewPlace j s s' t x
-  onNew : topAt (s .tops) x ≡ 0 → s .freeStacklets ≡ x ∷ s' .freeStacklets → NewPlace j s s' t x
+  aboveParent : baseOn (s .store .tops) x ≡ threadAt s t .base + sizeAt j s t → x ≡ threadAt s t .base / 64 → s' .queues .freeStacklets ≡ s .queues .freeStacklets → NewPlace j s s' t x
+  onNew : topAt (s .store .tops) x ≡ 0 → s .queues .freeStacklets ≡ x ∷ s' .queues .freeStacklets → NewPlace j s s' t x
 
 -- A FORK by thread t makes thread n, of routine r, on stacklet x, with the window up to a cut
 pub record Birth (j : Job) (s s' : State) (t n r d x cut : ℕ) : Type 0 where
@@ -90,13 +90,13 @@ pub record Birth (j : Job) (s s' : State) (t n r d x cut : ℕ) : Type 0 where
   pub routine : r < countOf (j .image)
   pub low : threadAt s t .window .mark ≤ cut
   pub high : cut ≤ threadAt s t .window .hi
-  pub fit : fitsOn (s .tops) x (slotsOf (j .image) r) ≡ true
+  pub fit : fitsOn (s .store .tops) x (slotsOf (j .image) r) ≡ true
   pub place : NewPlace j s s' t x
-  pub tops : s' .tops ≡ pushedTops (s .tops) x (slotsOf (j .image) r)
+  pub tops : s' .store .tops ≡ pushedTops (s .store .tops) x (slotsOf (j .image) r)
   pub status : Status
   pub connected : Bool
   pub used : 0 < statusNumber status
-  pub child : threadAt s' n ≡ newThread status connected r t d (baseOn (s .tops) x) (childOf (threadAt s t .window) cut)
+  pub child : threadAt s' n ≡ newThread status connected r t d (baseOn (s .store .tops) x) (childOf (threadAt s t .window) cut)
   pub parent : Stays (threadAt s t) (threadAt s' t)
   pub rest : threadAt s' t .window ≡ restOf (threadAt s t .window) cut
   pub others : (u : ℕ) → (u ≡ t → ⊥) → (u ≡ n → ⊥) → threadAt s' u ≡ threadAt s u
@@ -107,8 +107,8 @@ pub record Ending (s s' : State) (t : ℕ) : Type 0 where
   pub childless : Childless s t
   pub gone : threadAt s' t ≡ blankThread
   pub others : (u : ℕ) → (u ≡ t → ⊥) → Like (threadAt s u) (threadAt s' u)
-  pub tops : s' .tops ≡ poppedTops (s .tops) (threadAt s t .base)
-  pub free : s' .freeStacklets ≡ stackletsWithout (threadAt s t .base) (s .freeStacklets)
+  pub tops : s' .store .tops ≡ poppedTops (s .store .tops) (threadAt s t .base)
+  pub free : s' .queues .freeStacklets ≡ stackletsWithout (threadAt s t .base) (s .queues .freeStacklets)
 
 pub data Change (j : Job) (s s' : State) : Type 0 where
   steady : Steady s s' → Change j s s'
@@ -122,7 +122,7 @@ pub data Family (s s' : State) (n : ℕ) (child : Thread) (u : ℕ) : Type 0 whe
 
 module _ {j : Job} {s s' : State} {t n r d x cut : ℕ} (b : Birth j s s' t n r d x cut) where
   abbrev pub childOfBirth : Thread
-  childOfBirth = newThread (b .status) (b .connected) r t d (baseOn (s .tops) x) (childOf (threadAt s t .window) cut)
+  childOfBirth = newThread (b .status) (b .connected) r t d (baseOn (s .store .tops) x) (childOf (threadAt s t .window) cut)
 
   pub family : (u : ℕ) → Family s s' n childOfBirth u
   family u = go (ℕ-discrete u n) (ℕ-discrete u t)

@@ -56,9 +56,9 @@ same-free h h' k = record { to = stays-free h h' k; from = λ e. go e (decLt 0 (
     go e (no n) = omega arith
 
 -- no thread starts or ends
-pub held-living : (s s' : State) → Held s → length (s' .threads) ≡ 32 → s' .count ≤ length (s' .cores) → s' .freeThreads ≡ s .freeThreads
+pub held-living : (s s' : State) → Held s → length (s' .threads) ≡ 32 → s' .count ≤ length (s' .cores) → s' .queues .freeThreads ≡ s .queues .freeThreads
     → Unfinished s → Unfinished s'
-    → Seats s' → Links s' → (ready : List ℕ) → s' .ready ≡ ready → Lined 2 s' ready → ((u : ℕ) → Lives s u (threadAt s u) (threadAt s' u)) → Held s'
+    → Seats s' → Links s' → (ready : List ℕ) → s' .queues .ready ≡ ready → Lined 2 s' ready → ((u : ℕ) → Lives s u (threadAt s u) (threadAt s' u)) → Held s'
 held-living s s' ok many wide free over over' seats links ready line lined view = record {
   many = many;
   wide = wide;
@@ -67,6 +67,6 @@ held-living s s' ok many wide free over over' seats links ready line lined view 
   turns = lined-turns s' many ready line lined;
   tree = tree-same s s' (ok .tree) (λ o. over) (λ v e. absurd (over' v e)) (λ u. view u .stays) (λ u. view u .children);
   results = results-living s s' (ok .results) (λ u h. view u .stays) (λ u. view u .pends);
-  freeThreads = lined-free s' (s .freeThreads) free (lined-same 0 s s' (s .freeThreads) (free-lined s (ok .freeThreads))
+  freeThreads = lined-free s' (s .queues .freeThreads) free (lined-same 0 s s' (s .queues .freeThreads) (free-lined s (ok .freeThreads))
       (λ u. same-free (threadAt s u) (threadAt s' u) (view u .stays)));
 }

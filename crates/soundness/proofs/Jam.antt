@@ -21,7 +21,7 @@ use Rattle.soundness.proofs.Logs.{StepLog, stepOver, stepNoCore, stepId
 
 -- Where no core runs anything, nothing is ready and nothing is suspended, each thread in use waits or is lent, so it has a child in use,
 -- of a higher rank; ranks are bounded
-module _ (j : Job) (s : State) (ok : Sound j s) (idle : (c : ℕ) → c < s .count → none ≤ onCore s c) (empty : s .ready ≡ [])
+module _ (j : Job) (s : State) (ok : Sound j s) (idle : (c : ℕ) → c < s .count → none ≤ onCore s c) (empty : s .queues .ready ≡ [])
     (awake : (t : ℕ) → ¬ (statusAt s t ≡ 3)) where
   number : (t : ℕ) → Used s t → t < 32
   number = used-low s (ok .sized .threads)
@@ -97,7 +97,7 @@ busy-lacks j s c o l b n (stepFewStacklets e d x y z w v u) k = inr (inl e)
 busy-lacks j s c o l b n (stepAccepted e) k = absurd (let y = k .0 in omega arith)
 
 -- an idle core's take is refused where the ready queue is empty only
-idle-empty : (s : State) (c : ℕ) → s .outcome ≡ going → c < s .count → none ≤ onCore s c → (n : ℕ) → TakeLog s c n → Refused n → s .ready ≡ []
+idle-empty : (s : State) (c : ℕ) → s .outcome ≡ going → c < s .count → none ≤ onCore s c → (n : ℕ) → TakeLog s c n → Refused n → s .queues .ready ≡ []
 idle-empty s c o l i n (takeOver e f) k = absurd (not-both (isOver (s .outcome)) f (ap isOver o))
 idle-empty s c o l i n (takeNoCore e f g) k = absurd (omega arith)
 idle-empty s c o l i n (takeBusy e f g h) k = absurd (omega arith)
@@ -121,7 +121,7 @@ jam j s ok bad = go (isOver (s .outcome)) refl (search (λ t. statusAt s t ≡ 3
         first : 0 < s .count
         first = ok .sized .some
 
-        empty : s .ready ≡ []
+        empty : s .queues .ready ≡ []
         empty = idle-empty s 0 (not-over _ e) first (let z = idle 0 first in omega arith) _ (take-log s 0) (bad 0 first .1)
 
         awake : (t : ℕ) → ¬ (statusAt s t ≡ 3)

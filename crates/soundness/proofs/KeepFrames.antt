@@ -74,35 +74,35 @@ module _ (j : Job) (s : State) (ok : Sound j s) where
     small : 0 < size
     small = slots-some (j .image) (accepted (j .image) (ok .job .image)) r (b .routine)
 
-    room : x < length (s .tops)
-    room = let z = fits-means (s .tops) x size (b .fit) .0 in let y = ok .sized .tops in omega arith
+    room : x < length (s .store .tops)
+    room = let z = fits-means (s .store .tops) x size (b .fit) .0 in let y = ok .sized .tops in omega arith
 
     -- the new frame overlaps none
-    new-apart : (u : ℕ) → Used s u → Apart (threadAt s u .base) (sizeAt j s u) (baseOn (s .tops) x) size
-    new-apart u h = pushed-apart (s .tops) x size (b .fit) small (threadAt s u .base) (sizeAt j s u) (ok .frames .under u h)
+    new-apart : (u : ℕ) → Used s u → Apart (threadAt s u .base) (sizeAt j s u) (baseOn (s .store .tops) x) size
+    new-apart u h = pushed-apart (s .store .tops) x size (b .fit) small (threadAt s u .base) (sizeAt j s u) (ok .frames .under u h)
         (ok .frames .most (threadAt s u .base / 64))
 
     birth-frames : Frames j s'
     birth-frames = record {
       bounded = λ u h. bounded u h (family b u);
-      most = λ y. rw (b .tops) (pushed-most (s .tops) x size (b .fit) small y (ok .frames .most y));
+      most = λ y. rw (b .tops) (pushed-most (s .store .tops) x size (b .fit) small y (ok .frames .most y));
       under = λ u h. rw (b .tops) (under u h (family b u));
       apart = λ u v h k m. apart u v h k m (family b u) (family b v);
       stacked = λ u h. stacked u h (family b u);
     }
       where
         bounded : (u : ℕ) → Used s' u → Family s s' n (childOfBirth b) u → threadAt s' u .base < 1024
-        bounded u h (newborn _ e) = rw e (let z = base-below (s .tops) x size (b .fit) small in let y = small in omega arith)
+        bounded u h (newborn _ e) = rw e (let z = base-below (s .store .tops) x size (b .fit) small in let y = small in omega arith)
         bounded u h (elder _ k) = rw (k .base) (ok .frames .bounded u (k .was h))
 
-        under : (u : ℕ) → Used s' u → Family s s' n (childOfBirth b) u → Under (pushedTops (s .tops) x size) (threadAt s' u .base) (sizeAt j s' u)
+        under : (u : ℕ) → Used s' u → Family s s' n (childOfBirth b) u → Under (pushedTops (s .store .tops) x size) (threadAt s' u .base) (sizeAt j s' u)
         under u h (newborn _ e) = rw (
           e,
-          base-stacklet (s .tops) x size (b .fit) small,
-          base-place (s .tops) x size (b .fit) small,
-          pushed-top (s .tops) x size (b .fit) small room,
+          base-stacklet (s .store .tops) x size (b .fit) small,
+          base-place (s .store .tops) x size (b .fit) small,
+          pushed-top (s .store .tops) x size (b .fit) small room,
         ) (omega arith)
-        under u h (elder _ k) = rw (k .base, k .routine) (pushed-under (s .tops) x size (b .fit) small (threadAt s u .base) (sizeAt j s u) (ok .frames .under u (k .was h)))
+        under u h (elder _ k) = rw (k .base, k .routine) (pushed-under (s .store .tops) x size (b .fit) small (threadAt s u .base) (sizeAt j s u) (ok .frames .under u (k .was h)))
 
         apart : (u v : ℕ) → Used s' u → Used s' v → (u ≡ v → ⊥) → Family s s' n (childOfBirth b) u → Family s s' n (childOfBirth b) v
             → Apart (threadAt s' u .base) (sizeAt j s' u) (threadAt s' v .base) (sizeAt j s' v)
@@ -111,9 +111,9 @@ module _ (j : Job) (s : State) (ok : Sound j s) where
         apart u v h k m (elder _ f) (newborn _ e) = rw (e, f .base, f .routine) (new-apart u (f .was h))
         apart u v h k m (elder _ f) (elder _ g) = rw (f .base, f .routine, g .base, g .routine) (ok .frames .apart u v (f .was h) (g .was k) m)
 
-        on-place : NewPlace j s s' t x → (baseOn (s .tops) x % 64 ≡ 0) ⊎ (threadAt s t .base + sizeAt j s t ≡ baseOn (s .tops) x)
+        on-place : NewPlace j s s' t x → (baseOn (s .store .tops) x % 64 ≡ 0) ⊎ (threadAt s t .base + sizeAt j s t ≡ baseOn (s .store .tops) x)
         on-place (aboveParent e _ _) = inr (sym e)
-        on-place (onNew e _) = inl (base-place (s .tops) x size (b .fit) small ∙ e)
+        on-place (onNew e _) = inl (base-place (s .store .tops) x size (b .fit) small ∙ e)
 
         stacked : (u : ℕ) → Used s' u → Family s s' n (childOfBirth b) u → (threadAt s' u .base % 64 ≡ 0)
             ⊎ (Used s' (threadAt s' u .parent) × (threadAt s' (threadAt s' u .parent) .base + sizeAt j s' (threadAt s' u .parent) ≡ threadAt s' u .base))
@@ -124,13 +124,13 @@ module _ (j : Job) (s : State) (ok : Sound j s) where
 
   -- a return
   module _ (s' : State) (t : ℕ) (f : Ending s s' t) where
-    low-here : topAt (poppedTops (s .tops) (threadAt s t .base)) (threadAt s t .base / 64) ≡ threadAt s t .base % 64
-    low-here = popped-top (s .tops) (threadAt s t .base) (let z = ok .frames .bounded t (f .used) in let y = ok .sized .tops in omega arith)
+    low-here : topAt (poppedTops (s .store .tops) (threadAt s t .base)) (threadAt s t .base / 64) ≡ threadAt s t .base % 64
+    low-here = popped-top (s .store .tops) (threadAt s t .base) (let z = ok .frames .bounded t (f .used) in let y = ok .sized .tops in omega arith)
 
     under-after : (u : ℕ) → Used s u → (u ≡ t → ⊥) → Dec (threadAt s u .base / 64 ≡ threadAt s t .base / 64)
-        → Under (poppedTops (s .tops) (threadAt s t .base)) (threadAt s u .base) (sizeAt j s u)
+        → Under (poppedTops (s .store .tops) (threadAt s t .base)) (threadAt s u .base) (sizeAt j s u)
     under-after u h n (yes e) = rw (e, low-here) (below-childless t (f .used) (f .childless) (suc (threadAt s u .base)) u (omega arith) h n e)
-    under-after u h n (no e) = rw (popped-other (s .tops) (threadAt s t .base) (threadAt s u .base / 64) e) (ok .frames .under u h)
+    under-after u h n (no e) = rw (popped-other (s .store .tops) (threadAt s t .base) (threadAt s u .base / 64) e) (ok .frames .under u h)
 
     -- the parent of a thread that stays was no other than one that stays
     parent-stays : (u : ℕ) → Used s u → Like (threadAt s (threadAt s u .parent)) (threadAt s' (threadAt s u .parent))
@@ -139,7 +139,7 @@ module _ (j : Job) (s : State) (ok : Sound j s) where
     ending-frames : Frames j s'
     ending-frames = record {
       bounded = λ u h. let w = survivor s s' t f u h .1 .stays in rw (w .base) (ok .frames .bounded u (w .was h));
-      most = λ x. rw (f .tops) (popped-most (s .tops) (threadAt s t .base) x (ok .frames .most x));
+      most = λ x. rw (f .tops) (popped-most (s .store .tops) (threadAt s t .base) x (ok .frames .most x));
       under = λ u h. let w = survivor s s' t f u h .1 .stays in
           rw (f .tops, w .base, w .routine) (under-after u (w .was h) (survivor s s' t f u h .0) (ℕ-discrete (threadAt s u .base / 64) (threadAt s t .base / 64)));
       apart = λ u v h k n. let w = survivor s s' t f u h .1 .stays in let y = survivor s s' t f v k .1 .stays in

@@ -153,7 +153,7 @@ module _ (j : Job) (s : State) (ok : Sound j s) where
   fork-placed : (kind : ForkKind) (t r d a e n x next : ℕ) (s' : State) → Used s t → MetAt j s t (Lforks r d a e)
       → isStart (commandsOf (codeOf (j .image) (threadAt s t .routine))) next ≡ true
       → s' .threads ≡ set (set (s .threads) t (behindFork (parentStatus kind) next d (restOf (threadAt s t .window) e) (threadAt s t)))
-      n (newThread (childStatus kind) (isConnected kind) r t d (baseOn (s .tops) x) (childOf (threadAt s t .window) e))
+      n (newThread (childStatus kind) (isConnected kind) r t d (baseOn (s .store .tops) x) (childOf (threadAt s t .window) e))
       → Placed j s'
   fork-placed kind t r d a e n x next s' h m st threads = good-placed j s' (λ u. rw threads
       (good-replaced j (set (s .threads) t p) (good-replaced j (s .threads) all t p (λ _. parent)) n q (λ _. child) u))
@@ -162,7 +162,7 @@ module _ (j : Job) (s : State) (ok : Sound j s) where
       p = behindFork (parentStatus kind) next d (restOf (threadAt s t .window) e) (threadAt s t)
 
       q : Thread
-      q = newThread (childStatus kind) (isConnected kind) r t d (baseOn (s .tops) x) (childOf (threadAt s t .window) e)
+      q = newThread (childStatus kind) (isConnected kind) r t d (baseOn (s .store .tops) x) (childOf (threadAt s t .window) e)
 
       good : Accepts (j .image)
       good = accepted (j .image) (ok .job .image)

@@ -31,9 +31,9 @@ use Rattle.soundness.proofs.Entries.{Kept, entry-by}
 pub record SameSizes (s s' : State) : Type 0 where
   pub threads : length (s' .threads) ≡ length (s .threads)
   pub cores : length (s' .cores) ≡ length (s .cores)
-  pub tops : length (s' .tops) ≡ length (s .tops)
-  pub words : length (s' .words) ≡ length (s .words)
-  pub memory : length (s' .memory) ≡ length (s .memory)
+  pub tops : length (s' .store .tops) ≡ length (s .store .tops)
+  pub words : length (s' .store .words) ≡ length (s .store .words)
+  pub memory : length (s' .store .memory) ≡ length (s .store .memory)
   pub count : s' .count ≡ s .count
 
 resized : (j : Job) (s s' : State) → Sized j s → SameSizes s s' → s' .units ≤ j .allowance → Sized j s'
@@ -80,11 +80,11 @@ born-sizes j s kind o f n ns x xs = go kind
     size : ℕ
     size = slotsOf (j .image) (f .routine)
 
-    tops : length (pushedTops (s .tops) x size) ≡ length (s .tops)
-    tops = pushed-length (s .tops) x size
+    tops : length (pushedTops (s .store .tops) x size) ≡ length (s .store .tops)
+    tops = pushed-length (s .store .tops) x size
 
-    words : length (pushedWords (s .tops) (s .words) x size (argumentsAt (s .words) (o .thread .base + f .first) (argumentsOf (j .image) (f .routine)))) ≡ length (s .words)
-    words = length-pushed (s .tops) (s .words) x size (argumentsAt (s .words) (o .thread .base + f .first) (argumentsOf (j .image) (f .routine)))
+    words : length (pushedWords (s .store .tops) (s .store .words) x size (argumentsAt (s .store .words) (o .thread .base + f .first) (argumentsOf (j .image) (f .routine)))) ≡ length (s .store .words)
+    words = length-pushed (s .store .tops) (s .store .words) x size (argumentsAt (s .store .words) (o .thread .base + f .first) (argumentsOf (j .image) (f .routine)))
 
     go : (kind : ForkKind) → SameSizes s (born j s kind o f n ns x xs) × (born j s kind o f n ns x xs .units ≡ s .units + o .weight)
     go Called = (record { threads = simp length-set; cores = simp length-set; tops = tops; words = words; memory = refl; count = refl }, refl)
@@ -100,8 +100,8 @@ return-sizes s o v = go (isRoot (o .thread))
 
     go : (b : Bool) → SameSizes s (cond b (setOutcome (finished v) (setCore (o .core) none (freed o s))) (returnToParent s o p (threadAt s p) v))
         × (cond b (setOutcome (finished v) (setCore (o .core) none (freed o s))) (returnToParent s o p (threadAt s p) v) .units ≡ s .units + o .weight)
-    go true = (record { threads = simp length-set; cores = simp length-set; tops = popped-length (s .tops) (o .thread .base); words = refl; memory = refl; count = refl }, refl)
-    go false = (record { threads = simp length-set; cores = simp length-set; tops = popped-length (s .tops) (o .thread .base); words = simp length-set; memory = refl; count = refl }, refl)
+    go true = (record { threads = simp length-set; cores = simp length-set; tops = popped-length (s .store .tops) (o .thread .base); words = refl; memory = refl; count = refl }, refl)
+    go false = (record { threads = simp length-set; cores = simp length-set; tops = popped-length (s .store .tops) (o .thread .base); words = simp length-set; memory = refl; count = refl }, refl)
 
 module _ (j : Job) (s : State) (ok : Sound j s) where
   -- nothing is charged, or a weight that the allowance has room for

@@ -29,17 +29,17 @@ use Rattle.soundness.proofs.KeepFrames.{size-some, below-childless}
 
 -- a free stacklet of a state
 abbrev Vacant : State → ℕ → Type 0
-Vacant s x = (x < 16) × (topAt (s .tops) x ≡ 0) × Unused s x
+Vacant s x = (x < 16) × (topAt (s .store .tops) x ≡ 0) × Unused s x
 
 module _ (j : Job) (s : State) (ok : Sound j s) where
   -- a stacklet in the queue carries no frame
-  not-free : (t : ℕ) → Used s t → Member (threadAt s t .base / 64) (s .freeStacklets) → ⊥
-  not-free t h m = every-member (Vacant s) (s .freeStacklets) (ok .freeStacklets .free) (threadAt s t .base / 64) m .2 t h refl
+  not-free : (t : ℕ) → Used s t → Member (threadAt s t .base / 64) (s .queues .freeStacklets) → ⊥
+  not-free t h m = every-member (Vacant s) (s .queues .freeStacklets) (ok .freeStacklets .free) (threadAt s t .base / 64) m .2 t h refl
 
   steady-stacklets : (s' : State) → Steady s s' → FreeStacklets s'
   steady-stacklets s' f = record {
     free = rw (f .free) (every-map (λ x h. (h .0, rw (f .tops) (h .1), λ t u e. h .2 t (f .stays t .was u) (sym (ap (λ b. b / 64) (f .stays t .base)) ∙ e)))
-        (s .freeStacklets) (ok .freeStacklets .free));
+        (s .queues .freeStacklets) (ok .freeStacklets .free));
     once = rw (f .free) (ok .freeStacklets .once);
     stands = λ x l u. rw (f .free) (ok .freeStacklets .stands x l (λ t h e. u t (f .stays t .still h) (ap (λ b. b / 64) (f .stays t .base) ∙ e)));
   }
@@ -56,10 +56,10 @@ module _ (j : Job) (s : State) (ok : Sound j s) where
     -- another stacklet stays free, or in use
     stays-vacant : (y : ℕ) → (y ≡ x → ⊥) → Vacant s y → Vacant s' y
     stays-vacant y other h =
-        (h .0, rw (b .tops) (pushed-other (s .tops) x size (b .fit) small y other ∙ h .1), λ u k e. clear u k e (family b u))
+        (h .0, rw (b .tops) (pushed-other (s .store .tops) x size (b .fit) small y other ∙ h .1), λ u k e. clear u k e (family b u))
       where
         clear : (u : ℕ) → Used s' u → threadAt s' u .base / 64 ≡ y → Family s s' n (childOfBirth b) u → ⊥
-        clear u k e (newborn _ q) = other (sym e ∙ ap (λ h. h .base / 64) q ∙ base-stacklet (s .tops) x size (b .fit) small)
+        clear u k e (newborn _ q) = other (sym e ∙ ap (λ h. h .base / 64) q ∙ base-stacklet (s .store .tops) x size (b .fit) small)
         clear u k e (elder _ f) = h .2 u (f .was k) (sym (ap (λ b. b / 64) (f .base)) ∙ e)
 
     was-unused : (y : ℕ) → Unused s' y → Unused s y
@@ -67,31 +67,31 @@ module _ (j : Job) (s : State) (ok : Sound j s) where
 
     -- the new frame's own is in use
     now-used : Unused s' x → ⊥
-    now-used f = f n (rw (b .child) (b .used)) (ap (λ h. h .base / 64) (b .child) ∙ base-stacklet (s .tops) x size (b .fit) small)
+    now-used f = f n (rw (b .child) (b .used)) (ap (λ h. h .base / 64) (b .child) ∙ base-stacklet (s .store .tops) x size (b .fit) small)
 
     birth-stacklets : FreeStacklets s'
     birth-stacklets = go (b .place)
       where
         go : NewPlace j s s' t x → FreeStacklets s'
         go (aboveParent _ here same) = record {
-          free = rw same (member-every (s .freeStacklets) (λ y m. stays-vacant y (λ e. not-free t (b .parent-used) (rw (e ∙ here) at m))
-              (every-member (Vacant s) (s .freeStacklets) (ok .freeStacklets .free) y m)));
+          free = rw same (member-every (s .queues .freeStacklets) (λ y m. stays-vacant y (λ e. not-free t (b .parent-used) (rw (e ∙ here) at m))
+              (every-member (Vacant s) (s .queues .freeStacklets) (ok .freeStacklets .free) y m)));
           once = rw same (ok .freeStacklets .once);
           stands = λ y l f. rw same (ok .freeStacklets .stands y l (was-unused y f));
         }
         go (onNew _ taken) = record {
-          free = member-every (s' .freeStacklets) (λ y m. stays-vacant y (λ e. once .0 (rw e at m)) (every-member (Vacant s) (s' .freeStacklets) (all .1) y m));
+          free = member-every (s' .queues .freeStacklets) (λ y m. stays-vacant y (λ e. once .0 (rw e at m)) (every-member (Vacant s) (s' .queues .freeStacklets) (all .1) y m));
           once = once .1;
           stands = λ y l f. stands y l f (rw taken at (ok .freeStacklets .stands y l (was-unused y f)));
         }
           where
-            once : Distinct (x ∷ s' .freeStacklets)
+            once : Distinct (x ∷ s' .queues .freeStacklets)
             once = rw taken at (ok .freeStacklets .once)
 
-            all : Every (Vacant s) (x ∷ s' .freeStacklets)
+            all : Every (Vacant s) (x ∷ s' .queues .freeStacklets)
             all = rw taken at (ok .freeStacklets .free)
 
-            stands : (y : ℕ) → y < 16 → Unused s' y → Member y (x ∷ s' .freeStacklets) → Member y (s' .freeStacklets)
+            stands : (y : ℕ) → y < 16 → Unused s' y → Member y (x ∷ s' .queues .freeStacklets) → Member y (s' .queues .freeStacklets)
             stands y l f (inl e) = absurd (now-used (rw e at f))
             stands y l f (inr m) = m
 
@@ -100,15 +100,15 @@ module _ (j : Job) (s : State) (ok : Sound j s) where
     below : threadAt s t .base / 64 < 16
     below = let z = ok .frames .bounded t (f .used) in omega arith
 
-    absent : Member (threadAt s t .base / 64) (s .freeStacklets) → ⊥
+    absent : Member (threadAt s t .base / 64) (s .queues .freeStacklets) → ⊥
     absent = not-free t (f .used)
 
     -- a free stacklet is another one, and stays free
-    stays-free : (y : ℕ) → Member y (s .freeStacklets) → Vacant s' y
+    stays-free : (y : ℕ) → Member y (s .queues .freeStacklets) → Vacant s' y
     stays-free y m =
-        let h = every-member (Vacant s) (s .freeStacklets) (ok .freeStacklets .free) y m in (
+        let h = every-member (Vacant s) (s .queues .freeStacklets) (ok .freeStacklets .free) y m in (
           h .0,
-          rw (f .tops) (popped-other (s .tops) (threadAt s t .base) y (λ e. absent (rw e at m)) ∙ h .1),
+          rw (f .tops) (popped-other (s .store .tops) (threadAt s t .base) y (λ e. absent (rw e at m)) ∙ h .1),
           λ u k e. let w = survivor s s' t f u k .1 .stays in h .2 u (w .was k) (sym (ap (λ b. b / 64) (w .base)) ∙ e),
         )
 
@@ -121,7 +121,7 @@ module _ (j : Job) (s : State) (ok : Sound j s) where
     -- where the frame stood lowest, none is left
     emptied : threadAt s t .base % 64 ≡ 0 → Vacant s' (threadAt s t .base / 64)
     emptied z =
-        (below, rw (f .tops) (popped-top (s .tops) (threadAt s t .base) (let l = below in let y = ok .sized .tops in omega arith) ∙ z), λ u k e. clear u k e)
+        (below, rw (f .tops) (popped-top (s .store .tops) (threadAt s t .base) (let l = below in let y = ok .sized .tops in omega arith) ∙ z), λ u k e. clear u k e)
       where
         clear : (u : ℕ) → Used s' u → threadAt s' u .base / 64 ≡ threadAt s t .base / 64 → ⊥
         clear u k e =
@@ -152,21 +152,21 @@ module _ (j : Job) (s : State) (ok : Sound j s) where
     unfolding stackletsWithout
     ending-stacklets = go (eqb (threadAt s t .base % 64) 0) refl (f .free)
       where
-        kept : Every (Vacant s') (s .freeStacklets)
-        kept = member-every (s .freeStacklets) stays-free
+        kept : Every (Vacant s') (s .queues .freeStacklets)
+        kept = member-every (s .queues .freeStacklets) stays-free
 
-        back : s' .freeStacklets ≡ s .freeStacklets ++ (threadAt s t .base / 64 ∷ []) → threadAt s t .base % 64 ≡ 0 → FreeStacklets s'
+        back : s' .queues .freeStacklets ≡ s .queues .freeStacklets ++ (threadAt s t .base / 64 ∷ []) → threadAt s t .base % 64 ≡ 0 → FreeStacklets s'
         back q z = record {
-          free = rw q (every-last (Vacant s') (s .freeStacklets) (threadAt s t .base / 64) kept (emptied z));
-          once = rw q (distinct-last (s .freeStacklets) (threadAt s t .base / 64) (ok .freeStacklets .once) absent);
+          free = rw q (every-last (Vacant s') (s .queues .freeStacklets) (threadAt s t .base / 64) kept (emptied z));
+          once = rw q (distinct-last (s .queues .freeStacklets) (threadAt s t .base / 64) (ok .freeStacklets .once) absent);
           stands = λ y l u. rw q (stands y l u (ℕ-discrete y (threadAt s t .base / 64)));
         }
           where
-            stands : (y : ℕ) → y < 16 → Unused s' y → Dec (y ≡ threadAt s t .base / 64) → Member y (s .freeStacklets ++ (threadAt s t .base / 64 ∷ []))
-            stands y l u (yes e) = rw e (member-last (threadAt s t .base / 64) (s .freeStacklets))
-            stands y l u (no n) = member-left y (s .freeStacklets) (threadAt s t .base / 64 ∷ []) (ok .freeStacklets .stands y l (was-unused-else y n u))
+            stands : (y : ℕ) → y < 16 → Unused s' y → Dec (y ≡ threadAt s t .base / 64) → Member y (s .queues .freeStacklets ++ (threadAt s t .base / 64 ∷ []))
+            stands y l u (yes e) = rw e (member-last (threadAt s t .base / 64) (s .queues .freeStacklets))
+            stands y l u (no n) = member-left y (s .queues .freeStacklets) (threadAt s t .base / 64 ∷ []) (ok .freeStacklets .stands y l (was-unused-else y n u))
 
-        stay : s' .freeStacklets ≡ s .freeStacklets → (threadAt s t .base % 64 ≡ 0 → ⊥) → FreeStacklets s'
+        stay : s' .queues .freeStacklets ≡ s .queues .freeStacklets → (threadAt s t .base % 64 ≡ 0 → ⊥) → FreeStacklets s'
         stay q n = record {
           free = rw q kept;
           once = rw q (ok .freeStacklets .once);
@@ -174,9 +174,9 @@ module _ (j : Job) (s : State) (ok : Sound j s) where
         }
 
         go : (b : Bool) → eqb (threadAt s t .base % 64) 0 ≡ b
-            → s' .freeStacklets ≡ cond b (appended capacity (s .freeStacklets) (threadAt s t .base / 64)) (s .freeStacklets) → FreeStacklets s'
-        go true e q = back (q ∙ appended-new (s .freeStacklets) (threadAt s t .base / 64) (ok .freeStacklets .once)
-            (every-map (λ x h. let l = h .0 in omega arith) (s .freeStacklets) (ok .freeStacklets .free)) (let l = below in omega arith) absent) (eqb-true _ _ e)
+            → s' .queues .freeStacklets ≡ cond b (appended capacity (s .queues .freeStacklets) (threadAt s t .base / 64)) (s .queues .freeStacklets) → FreeStacklets s'
+        go true e q = back (q ∙ appended-new (s .queues .freeStacklets) (threadAt s t .base / 64) (ok .freeStacklets .once)
+            (every-map (λ x h. let l = h .0 in omega arith) (s .queues .freeStacklets) (ok .freeStacklets .free)) (let l = below in omega arith) absent) (eqb-true _ _ e)
         go false e q = stay q (eqb-false _ _ e)
 
   change-stacklets : (s' : State) → Change j s s' → FreeStacklets s'
@@ -190,14 +190,14 @@ module _ (j : Job) (s : State) (ok : Sound j s) where
 
   -- "a finished machine has .. all stacklets .. free": all 16 stand in the queue, each once
   pub finished-stacklets : (v : ℕ) → s .outcome ≡ finished v
-      → (length (s .freeStacklets) ≡ 16) × ((x : ℕ) → x < 16 → Member x (s .freeStacklets)) × Distinct (s .freeStacklets)
+      → (length (s .queues .freeStacklets) ≡ 16) × ((x : ℕ) → x < 16 → Member x (s .queues .freeStacklets)) × Distinct (s .queues .freeStacklets)
   finished-stacklets v e = (both, all, ok .freeStacklets .once)
     where
-      all : (x : ℕ) → x < 16 → Member x (s .freeStacklets)
+      all : (x : ℕ) → x < 16 → Member x (s .queues .freeStacklets)
       all x l = ok .freeStacklets .stands x l (λ t h q. let z = ok .tree .over v e t in omega arith)
 
-      both : length (s .freeStacklets) ≡ 16
+      both : length (s .queues .freeStacklets) ≡ 16
       both =
-          let a = at-least 16 (s .freeStacklets) all in
-          let b = at-most 16 (s .freeStacklets) (ok .freeStacklets .once) (every-map (λ x h. h .0) (s .freeStacklets) (ok .freeStacklets .free)) in
+          let a = at-least 16 (s .queues .freeStacklets) all in
+          let b = at-most 16 (s .queues .freeStacklets) (ok .freeStacklets .once) (every-map (λ x h. h .0) (s .queues .freeStacklets) (ok .freeStacklets .free)) in
           omega arith

@@ -48,9 +48,9 @@ pub record Birth (s s' : State) (kind : ForkKind) (t n d : ℕ) : Type 0 where
   pub rest : Window
   pub part : Window
   pub used : Used s t
-  pub head : s .freeThreads ≡ n ∷ left
+  pub head : s .queues .freeThreads ≡ n ∷ left
   pub clear : isPending (pendingAt s t) d ≡ false
-  pub free : s' .freeThreads ≡ left
+  pub free : s' .queues .freeThreads ≡ left
   pub count : s' .count ≡ s .count
   pub over : Unfinished s
   pub over' : Unfinished s'
@@ -110,7 +110,7 @@ module _ (s s' : State) (ok : Held s) (kind : ForkKind) (t n d : ℕ) (b : Birth
   many-now = rw (b .threads, length-set, length-set) (ok .many)
 
   -- seats, links and the ready queue are left to each kind
-  held-forked : Seats s' → Links s' → s' .count ≤ length (s' .cores) → (ready : List ℕ) → s' .ready ≡ ready → Lined 2 s' ready → Held s'
+  held-forked : Seats s' → Links s' → s' .count ≤ length (s' .cores) → (ready : List ℕ) → s' .queues .ready ≡ ready → Lined 2 s' ready → Held s'
   held-forked seats links wide ready line turns = record {
     many = many-now;
     wide = wide;
@@ -137,8 +137,8 @@ module _ (s s' : State) (ok : Held s) (kind : ForkKind) (t n d : ℕ) (b : Birth
       child-awake = ⊎-elim (λ e f. let z = child-standing in omega arith) (λ e f. let z = child-standing in omega arith)
 
   -- where the ready queue stays
-  still-lined : ¬ (statusAt s t ≡ 2) → ¬ (statusNumber (parentStatus kind) ≡ 2) → ¬ (statusNumber (childStatus kind) ≡ 2) → Lined 2 s' (s .ready)
-  still-lined x y z = lined-same 2 s s' (s .ready) (turns-lined s (ok .many) (ok .turns))
+  still-lined : ¬ (statusAt s t ≡ 2) → ¬ (statusNumber (parentStatus kind) ≡ 2) → ¬ (statusNumber (childStatus kind) ≡ 2) → Lined 2 s' (s .queues .ready)
+  still-lined x y z = lined-same 2 s s' (s .queues .ready) (turns-lined s (ok .many) (ok .turns))
       (changed (λ u h h'. Same 2 h h') (λ u k m. same-refl 2 (threadAt s u)) (neither 2 (threadAt s t) _ x y)
       (let k = was-free in neither 2 (threadAt s n) _ (λ e. omega arith) z))
 
@@ -167,7 +167,7 @@ module _ (s s' : State) (ok : Held s) (kind : ForkKind) (t n d : ℕ) (b : Birth
 
 -- AN LFORK by a step: "the child runs on this core, connected; the parent is lent"
 held-called : (s s' : State) → Held s → (c t n d : ℕ) → Birth s s' Called t n d → c < s .count → onCore s c ≡ t → statusAt s t ≡ 1
-    → s' .cores ≡ set (s .cores) c n → s' .ready ≡ s .ready → Held s'
+    → s' .cores ≡ set (s .cores) c n → s' .queues .ready ≡ s .queues .ready → Held s'
 held-called s s' ok c t n d b l seat running cores ready = held-forked s s' ok Called t n d b
     (seats-move s s' (ok .seats) (ok .wide) c n l cores (b .count)
     (every (λ u h h'. Seat (onCore s c) n u h h') (λ u x y. sits (λ e f. x (f ∙ seat)) (same-refl 1 (threadAt s u)))
@@ -176,7 +176,7 @@ held-called s s' ok c t n d b l seat running cores ready = held-forked s s' ok C
     (links-made s s' (ok .links) t n running (was-free s s' ok Called t n d b)
     (every (λ u h h'. Made t n u h h') (λ u x y. remains y x (bound-refl s (ok .links) u)) (lends refl refl refl refl)
     (fresh refl refl refl refl)))
-    (rw (b .count, cores, length-set) (ok .wide)) (s .ready) ready
+    (rw (b .count, cores, length-set) (ok .wide)) (s .queues .ready) ready
     (still-lined s s' ok Called t n d b (λ e. omega arith) (λ e. omega arith) (λ e. omega arith))
   where
     every : (Q : ℕ → Thread → Thread → Type 0) → ((u : ℕ) → ¬ (u ≡ t) → ¬ (u ≡ n) → Q u (threadAt s u) (threadAt s u))
@@ -186,14 +186,14 @@ held-called s s' ok c t n d b l seat running cores ready = held-forked s s' ok C
 
 -- A STEAL: "its child independent and running on idle core c, .. t staying lent"
 held-stolen : (s s' : State) → Held s → (c t n d : ℕ) → Birth s s' Stolen t n d → c < s .count → none ≤ onCore s c → statusAt s t ≡ 5
-    → s' .cores ≡ set (s .cores) c n → s' .ready ≡ s .ready → Held s'
+    → s' .cores ≡ set (s .cores) c n → s' .queues .ready ≡ s .queues .ready → Held s'
 held-stolen s s' ok c t n d b l idle lent cores ready = held-forked s s' ok Stolen t n d b
     (seats-move s s' (ok .seats) (ok .wide) c n l cores (b .count)
     (changed s s' ok Stolen t n d b (λ u h h'. Seat (onCore s c) n u h h') (λ u x y. sits (not-idle u) (same-refl 1 (threadAt s u)))
     (sits (λ e. absurd (omega arith)) (neither 1 (threadAt s t) _ (λ e. omega arith) (λ e. omega arith))) (came refl))
     (λ m. child-standing s s' ok Stolen t n d b) (λ m e. let z = was-free s s' ok Stolen t n d b in omega arith))
     (loose-links s s' ok Stolen t n d b (sym lent) refl (λ e. omega arith))
-    (rw (b .count, cores, length-set) (ok .wide)) (s .ready) ready
+    (rw (b .count, cores, length-set) (ok .wide)) (s .queues .ready) ready
     (still-lined s s' ok Stolen t n d b (λ e. omega arith) (λ e. omega arith) (λ e. omega arith))
   where
     not-idle : (u : ℕ) → statusAt s u ≡ 1 → ¬ (u ≡ onCore s c)
@@ -201,14 +201,14 @@ held-stolen s s' ok c t n d b l idle lent cores ready = held-forked s s' ok Stol
 
 -- A FORK by a step: "the child is independent, joins the ready line's tail; the parent runs on"
 held-queued : (s s' : State) → Held s → (t n d : ℕ) → Birth s s' Queued t n d → statusAt s t ≡ 1
-    → s' .cores ≡ s .cores → s' .ready ≡ appended capacity (s .ready) n → Held s'
+    → s' .cores ≡ s .cores → s' .queues .ready ≡ appended capacity (s .queues .ready) n → Held s'
 held-queued s s' ok t n d b running cores ready = held-forked s s' ok Queued t n d b
     (seats-same s s' (ok .seats) cores (b .count)
     (changed s s' ok Queued t n d b (λ u h h'. Same 1 h h') (λ u x y. same-refl 1 (threadAt s u)) (record { to = λ e. refl; from = λ e. running })
     (neither 1 (threadAt s n) _ (λ e. let z = n-free in omega arith) (λ e. omega arith))))
     (loose-links s s' ok Queued t n d b (sym running) refl (λ e. omega arith))
-    (rw (b .count, cores) (ok .wide)) (appended capacity (s .ready) n) ready
-    (lined-gave 2 s s' n (s .ready) (turns-lined s (ok .many) (ok .turns)) (low s s' ok Queued t n d b)
+    (rw (b .count, cores) (ok .wide)) (appended capacity (s .queues .ready) n) ready
+    (lined-gave 2 s s' n (s .queues .ready) (turns-lined s (ok .many) (ok .turns)) (low s s' ok Queued t n d b)
     (λ e. let z = n-free in omega arith) (child-standing s s' ok Queued t n d b)
     (changed s s' ok Queued t n d b (λ u h h'. ¬ (u ≡ n) → Same 2 h h') (λ u x y m. same-refl 2 (threadAt s u))
     (λ m. neither 2 (threadAt s t) _ (λ e. omega arith) (λ e. omega arith)) (λ m. absurd (m refl))))
@@ -218,22 +218,22 @@ held-queued s s' ok t n d b running cores ready = held-forked s s' ok Queued t n
 
 -- THE RULES
 module _ (j : Job) (s : State) (ok : Held s) (c t r d a e n : ℕ) (ns : List ℕ) (x : ℕ) (xs : List ℕ) (over : Unfinished s)
-    (head : s .freeThreads ≡ n ∷ ns) (clear : isPending (pendingAt s t) d ≡ false) where
+    (head : s .queues .freeThreads ≡ n ∷ ns) (clear : isPending (pendingAt s t) d ≡ false) where
   -- what a fork of any kind does
   birth : (kind : ForkKind) → Used s t → Birth s (born j s kind (turnAt j s c t) (asked r d a e) n ns x xs) kind t n d
   unfolding born
   birth kind used = go kind
     where
-      whole : (k : ForkKind) (s' : State) → s' .freeThreads ≡ ns → s' .count ≡ s .count → s' .outcome ≡ s .outcome
+      whole : (k : ForkKind) (s' : State) → s' .queues .freeThreads ≡ ns → s' .count ≡ s .count → s' .outcome ≡ s .outcome
           → s' .threads ≡ set (set (s .threads) t (behindFork (parentStatus k) (turnAt j s c t .next) d (restOf (threadAt s t .window) e)
           (threadAt s t))) n
-          (newThread (childStatus k) (isConnected k) r t d (baseOn (s .tops) x) (childOf (threadAt s t .window) e))
+          (newThread (childStatus k) (isConnected k) r t d (baseOn (s .store .tops) x) (childOf (threadAt s t .window) e))
           → Birth s s' k t n d
       whole k s' free count outcome threads = record {
         left = ns;
         next = turnAt j s c t .next;
         routine = r;
-        base = baseOn (s .tops) x;
+        base = baseOn (s .store .tops) x;
         rest = restOf (threadAt s t .window) e;
         part = childOf (threadAt s t .window) e;
         used = used;

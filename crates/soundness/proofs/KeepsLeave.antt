@@ -26,11 +26,11 @@ use Rattle.soundness.proofs.Held.{Held, Lives, lives-refl, held-living}
 
 -- the ready queue once thread t has the status k: a ready thread has joined its tail
 abbrev pub JoinsLine : State → State → ℕ → ℕ → Type 0
-JoinsLine s s' t k = ((k ≡ 2 → ⊥) × (s' .ready ≡ s .ready)) ⊎ ((k ≡ 2) × (s' .ready ≡ appended capacity (s .ready) t))
+JoinsLine s s' t k = ((k ≡ 2 → ⊥) × (s' .queues .ready ≡ s .queues .ready)) ⊎ ((k ≡ 2) × (s' .queues .ready ≡ appended capacity (s .queues .ready) t))
 
 module _ (s s' : State) (ok : Held s) (c t : ℕ) (status : Status) (l : c < s .count) (seat : onCore s c ≡ t) (low : t < 32)
     (from2 : 2 ≤ statusNumber status) (to4 : statusNumber status ≤ 4) (wait : statusNumber status ≡ 4 → 0 < childrenAt s t)
-    (count : s' .count ≡ s .count) (free : s' .freeThreads ≡ s .freeThreads) (ready : JoinsLine s s' t (statusNumber status))
+    (count : s' .count ≡ s .count) (free : s' .queues .freeThreads ≡ s .queues .freeThreads) (ready : JoinsLine s s' t (statusNumber status))
     (over : Unfinished s) (over' : Unfinished s') where
   was-running : statusAt s t ≡ 1
   was-running = rw seat at (ok .seats .runs c l (rw seat low))
@@ -43,25 +43,25 @@ module _ (s s' : State) (ok : Held s) (c t : ℕ) (status : Status) (l : c < s .
   left = let y = was-running in record { parent = refl; result = refl; to = λ h. omega arith; from = λ h. omega arith; waits = wait }
 
   line : ((u : ℕ) → ¬ (u ≡ t) → Same 2 (threadAt s u) (threadAt s' u)) → statusAt s' t ≡ statusNumber status
-      → (xs : List ℕ) × (s' .ready ≡ xs) × Lined 2 s' xs
+      → (xs : List ℕ) × (s' .queues .ready ≡ xs) × Lined 2 s' xs
   line others own = ⊎-elim stay join ready
     where
-      before : Lined 2 s (s .ready)
+      before : Lined 2 s (s .queues .ready)
       before = turns-lined s (ok .many) (ok .turns)
 
-      stay : (statusNumber status ≡ 2 → ⊥) × (s' .ready ≡ s .ready) → (xs : List ℕ) × (s' .ready ≡ xs) × Lined 2 s' xs
-      stay z = (s .ready, z .1, lined-same 2 s s' (s .ready) before (λ u. go u (ℕ-discrete u t)))
+      stay : (statusNumber status ≡ 2 → ⊥) × (s' .queues .ready ≡ s .queues .ready) → (xs : List ℕ) × (s' .queues .ready ≡ xs) × Lined 2 s' xs
+      stay z = (s .queues .ready, z .1, lined-same 2 s s' (s .queues .ready) before (λ u. go u (ℕ-discrete u t)))
         where
           go : (u : ℕ) → Dec (u ≡ t) → Same 2 (threadAt s u) (threadAt s' u)
           go u (yes e) = let y = was-running in let f = ap (statusAt s) e in let g = ap (statusAt s') e in
               neither 2 (threadAt s u) (threadAt s' u) (λ q. omega arith) (λ q. z .0 (sym own ∙ sym g ∙ q))
           go u (no n) = others u n
 
-      join : (statusNumber status ≡ 2) × (s' .ready ≡ appended capacity (s .ready) t) → (xs : List ℕ) × (s' .ready ≡ xs) × Lined 2 s' xs
+      join : (statusNumber status ≡ 2) × (s' .queues .ready ≡ appended capacity (s .queues .ready) t) → (xs : List ℕ) × (s' .queues .ready ≡ xs) × Lined 2 s' xs
       join z = (
-        appended capacity (s .ready) t,
+        appended capacity (s .queues .ready) t,
         z .1,
-        lined-gave 2 s s' t (s .ready) before low (λ e. let y = was-running in omega arith) (own ∙ z .0) others,
+        lined-gave 2 s s' t (s .queues .ready) before low (λ e. let y = was-running in omega arith) (own ∙ z .0) others,
       )
 
   -- an unconnected thread leaves the core idle
@@ -77,7 +77,7 @@ module _ (s s' : State) (ok : Held s) (c t : ℕ) (status : Status) (l : c < s .
         (queue .0) (queue .1) (queue .2)
         (one-changed s s' (Lives s) t _ below threads (λ u n. lives-refl s ok u) (record { stays = left; children = refl; pends = inr (λ k e. e) }))
       where
-        queue : (xs : List ℕ) × (s' .ready ≡ xs) × Lined 2 s' xs
+        queue : (xs : List ℕ) × (s' .queues .ready ≡ xs) × Lined 2 s' xs
         queue = line (one-changed s s' (λ u h h'. ¬ (u ≡ t) → Same 2 h h') t _ below threads (λ u n m. same-refl 2 (threadAt s u))
             (λ m. absurd (m refl)))
             (one-changed s s' (λ u h h'. u ≡ t → standing h' ≡ statusNumber status) t _ below threads (λ u n e. absurd (n e)) (λ e. refl) t refl)
@@ -118,7 +118,7 @@ module _ (s s' : State) (ok : Held s) (c t : ℕ) (status : Status) (l : c < s .
         (two-changed s s' (Lives s) t _ p _ below p-below apart threads (λ u n m. lives-refl s ok u)
         (record { stays = left; children = refl; pends = inr (λ k e. e) }) (record { stays = back; children = refl; pends = inr (λ k e. e) }))
       where
-        queue : (xs : List ℕ) × (s' .ready ≡ xs) × Lined 2 s' xs
+        queue : (xs : List ℕ) × (s' .queues .ready ≡ xs) × Lined 2 s' xs
         queue = line (two-changed s s' (λ u h h'. ¬ (u ≡ t) → Same 2 h h') t _ p _ below p-below apart threads
             (λ u n m k. same-refl 2 (threadAt s u)) (λ m. absurd (m refl))
             (λ m. let y = p-lent in neither 2 (threadAt s p) _ (λ e. omega arith) (λ e. omega arith)))

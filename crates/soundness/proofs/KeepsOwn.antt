@@ -17,21 +17,21 @@ use Rattle.soundness.proofs.ResultSlots.{Pends}
 use Rattle.soundness.proofs.Held.{Held, Lives, lives-refl, held-living}
 
 -- no record, core or queue changes
-pub held-same : (s s' : State) → Held s → s' .threads ≡ s .threads → s' .cores ≡ s .cores → s' .count ≡ s .count → s' .ready ≡ s .ready
-    → s' .freeThreads ≡ s .freeThreads → Unfinished s → Unfinished s' → Held s'
+pub held-same : (s s' : State) → Held s → s' .threads ≡ s .threads → s' .cores ≡ s .cores → s' .count ≡ s .count → s' .queues .ready ≡ s .queues .ready
+    → s' .queues .freeThreads ≡ s .queues .freeThreads → Unfinished s → Unfinished s' → Held s'
 held-same s s' ok threads cores count ready free over over' =
     held-living s s' ok (rw threads (ok .many)) (rw (count, cores) (ok .wide)) free over over'
     (seats-same s s' (ok .seats) cores count (none-changed s s' (λ u h h'. Same 1 h h') threads (λ u. same-refl 1 (threadAt s u))))
     (links-same s s' (ok .links) (none-changed s s' (λ u h h'. Bound h h') threads (λ u. bound-refl s (ok .links) u)))
-    (s .ready) ready
-    (lined-same 2 s s' (s .ready) (turns-lined s (ok .many) (ok .turns))
+    (s .queues .ready) ready
+    (lined-same 2 s s' (s .queues .ready) (turns-lined s (ok .many) (ok .turns))
     (none-changed s s' (λ u h h'. Same 2 h h') threads (λ u. same-refl 2 (threadAt s u))))
     (none-changed s s' (Lives s) threads (lives-refl s ok))
 
 -- thread t's record becomes H, which is about the same as before
 module _ (s s' : State) (ok : Held s) (t : ℕ) (H : Thread) (low : t < 32) (threads : s' .threads ≡ set (s .threads) t H)
     (cores : s' .cores ≡ s .cores)
-    (count : s' .count ≡ s .count) (ready : s' .ready ≡ s .ready) (free : s' .freeThreads ≡ s .freeThreads) (over : Unfinished s)
+    (count : s' .count ≡ s .count) (ready : s' .queues .ready ≡ s .queues .ready) (free : s' .queues .freeThreads ≡ s .queues .freeThreads) (over : Unfinished s)
     (over' : Unfinished s')
     (status : standing H ≡ statusAt s t) (connected : H .connected ≡ threadAt s t .connected) (parent : H .parent ≡ threadAt s t .parent)
     (result : H .result ≡ threadAt s t .result) (children : H .children ≡ threadAt s t .children)
@@ -47,8 +47,8 @@ module _ (s s' : State) (ok : Held s) (t : ℕ) (H : Thread) (low : t < 32) (thr
   held-own = held-living s s' ok (rw (threads, length-set) (ok .many)) (rw (count, cores) (ok .wide)) free over over'
       (seats-same s s' (ok .seats) cores count (same 1))
       (links-same s s' (ok .links) (one-changed s s' (λ u h h'. Bound h h') t H below threads (λ u n. bound-refl s (ok .links) u) bound))
-      (s .ready) ready
-      (lined-same 2 s s' (s .ready) (turns-lined s (ok .many) (ok .turns)) (same 2))
+      (s .queues .ready) ready
+      (lined-same 2 s s' (s .queues .ready) (turns-lined s (ok .many) (ok .turns)) (same 2))
       (one-changed s s' (Lives s) t H below threads (λ u n. lives-refl s ok u) (record { stays = stays; children = children; pends = pends }))
     where
       bound : Bound (threadAt s t) H

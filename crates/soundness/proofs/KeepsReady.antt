@@ -20,10 +20,10 @@ use Rattle.soundness.proofs.ForkTree.{Unfinished, Stays}
 use Rattle.soundness.proofs.Held.{Held, Lives, lives-refl, held-living}
 
 -- TAKE
-module _ (s s' : State) (ok : Held s) (c t : ℕ) (ts : List ℕ) (l : c < s .count) (idle : none ≤ onCore s c) (head : s .ready ≡ t ∷ ts)
+module _ (s s' : State) (ok : Held s) (c t : ℕ) (ts : List ℕ) (l : c < s .count) (idle : none ≤ onCore s c) (head : s .queues .ready ≡ t ∷ ts)
     (threads : s' .threads ≡ set (s .threads) t (withStatus Running (threadAt s t))) (cores : s' .cores ≡ set (s .cores) c t)
     (count : s' .count ≡ s .count)
-    (ready : s' .ready ≡ ts) (free : s' .freeThreads ≡ s .freeThreads) (over : Unfinished s) (over' : Unfinished s') where
+    (ready : s' .queues .ready ≡ ts) (free : s' .queues .freeThreads ≡ s .queues .freeThreads) (over : Unfinished s) (over' : Unfinished s') where
   lined : Lined 2 s (t ∷ ts)
   lined = subst (λ xs. Lined 2 s xs) head (turns-lined s (ok .many) (ok .turns))
 
@@ -72,7 +72,7 @@ module _ (s s' : State) (ok : Held s) (c t : ℕ) (ts : List ℕ) (l : c < s .co
 -- ENABLE
 module _ (s s' : State) (ok : Held s) (t : ℕ) (suspended : statusAt s t ≡ 3)
     (threads : s' .threads ≡ set (s .threads) t (withStatus Ready (threadAt s t))) (cores : s' .cores ≡ s .cores) (count : s' .count ≡ s .count)
-    (ready : s' .ready ≡ appended capacity (s .ready) t) (free : s' .freeThreads ≡ s .freeThreads) (over : Unfinished s)
+    (ready : s' .queues .ready ≡ appended capacity (s .queues .ready) t) (free : s' .queues .freeThreads ≡ s .queues .freeThreads) (over : Unfinished s)
     (over' : Unfinished s') where
   low : t < 32
   low = used-low s (ok .many) t (omega arith)
@@ -89,8 +89,8 @@ module _ (s s' : State) (ok : Held s) (t : ℕ) (suspended : statusAt s t ≡ 3)
       (one-changed s s' (λ u h h'. Same 1 h h') t _ inside threads (λ u n. same-refl 1 (threadAt s u))
       (neither 1 (threadAt s t) _ (λ e. omega arith) (λ e. omega arith))))
       (links-same s s' (ok .links) (one-changed s s' (λ u h h'. Bound h h') t _ inside threads (λ u n. bound-refl s (ok .links) u) bound))
-      (appended capacity (s .ready) t) ready
-      (lined-gave 2 s s' t (s .ready) (turns-lined s (ok .many) (ok .turns)) low (λ e. omega arith) stands
+      (appended capacity (s .queues .ready) t) ready
+      (lined-gave 2 s s' t (s .queues .ready) (turns-lined s (ok .many) (ok .turns)) low (λ e. omega arith) stands
       (one-changed s s' (λ u h h'. ¬ (u ≡ t) → Same 2 h h') t _ inside threads (λ u n m. same-refl 2 (threadAt s u)) (λ m. absurd (m refl))))
       (one-changed s s' (Lives s) t _ inside threads (λ u n. lives-refl s ok u) (record { stays = stays; children = refl; pends = inr (λ k e. e) }))
     where

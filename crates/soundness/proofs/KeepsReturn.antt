@@ -32,7 +32,7 @@ use Rattle.soundness.proofs.Held.{Held, same-free}
 module _ (s s' : State) (ok : Held s) (c t p : ℕ) (status : Status) (l : c < s .count) (seat : onCore s c ≡ t) (low : t < 32)
     (parent : parentAt s t ≡ p) (used-p : Used s p)
     (childless : Childless s t) (over : Unfinished s) (over' : Unfinished s') (count : s' .count ≡ s .count)
-    (free : s' .freeThreads ≡ appended capacity (s .freeThreads) t)
+    (free : s' .queues .freeThreads ≡ appended capacity (s .queues .freeThreads) t)
     (threads : s' .threads ≡ set (set (s .threads) t blankThread) p (withoutChild status (threadAt s p)))
     (active : 0 < statusNumber status) (wait : statusNumber status ≡ 4 → 1 < childrenAt s p) where
   was-running : statusAt s t ≡ 1
@@ -68,7 +68,7 @@ module _ (s s' : State) (ok : Held s) (c t p : ℕ) (status : Status) (l : c < s
   old-stays = changed (λ u h h'. ¬ (u ≡ t) → Stays h h') (λ u a b m. stays-refl s (ok .tree) u) (λ m. absurd (m refl))
       (λ m. record { parent = refl; result = refl; to = λ h. active; from = λ h. used-p; waits = λ e. let z = wait e in omega arith })
 
-  pub held-ends : Seats s' → Links s' → s' .count ≤ length (s' .cores) → (ready : List ℕ) → s' .ready ≡ ready → Lined 2 s' ready → Held s'
+  pub held-ends : Seats s' → Links s' → s' .count ≤ length (s' .cores) → (ready : List ℕ) → s' .queues .ready ≡ ready → Lined 2 s' ready → Held s'
   held-ends seats links wide ready line turns = record {
     many = rw (threads, length-set, length-set) (ok .many);
     wide = wide;
@@ -81,19 +81,19 @@ module _ (s s' : State) (ok : Held s) (c t p : ℕ) (status : Status) (l : c < s
         gone;
     results = results-living s s' (ok .results) (λ u h. old-stays u (λ e. let z = ap (statusAt s') e in let y = gone in omega arith))
         (changed (λ u h h'. Childless s u ⊎ Pends h h') (λ u a b. inr (λ k e. e)) (inl childless) (inr (λ k e. e)));
-    freeThreads = lined-free s' (appended capacity (s .freeThreads) t) free
-        (lined-gave 0 s s' t (s .freeThreads) (free-lined s (ok .freeThreads)) low (λ e. let z = was-running in omega arith) gone
+    freeThreads = lined-free s' (appended capacity (s .queues .freeThreads) t) free
+        (lined-gave 0 s s' t (s .queues .freeThreads) (free-lined s (ok .freeThreads)) low (λ e. let z = was-running in omega arith) gone
         (λ u m. same-free (threadAt s u) (threadAt s' u) (old-stays u m)));
   }
 
   -- the ready queue, where the parent was not ready and is not now
-  still-lined : ¬ (statusAt s p ≡ 2) → ¬ (statusNumber status ≡ 2) → Lined 2 s' (s .ready)
-  still-lined a b = lined-same 2 s s' (s .ready) (turns-lined s (ok .many) (ok .turns))
+  still-lined : ¬ (statusAt s p ≡ 2) → ¬ (statusNumber status ≡ 2) → Lined 2 s' (s .queues .ready)
+  still-lined a b = lined-same 2 s s' (s .queues .ready) (turns-lined s (ok .many) (ok .turns))
       (changed (λ u h h'. Same 2 h h') (λ u x y. same-refl 2 (threadAt s u))
       (let z = was-running in neither 2 (threadAt s t) _ (λ e. omega arith) (λ e. omega arith)) (neither 2 (threadAt s p) _ a b))
 
   -- "A connected child's parent runs on"
-  pub held-back : connectedAt s t ≡ true → statusNumber status ≡ 1 → s' .cores ≡ set (s .cores) c p → s' .ready ≡ s .ready → Held s'
+  pub held-back : connectedAt s t ≡ true → statusNumber status ≡ 1 → s' .cores ≡ set (s .cores) c p → s' .queues .ready ≡ s .queues .ready → Held s'
   held-back tied runs cores ready = held-ends
       (seats-move s s' (ok .seats) (ok .wide) c p l cores count
       (changed (λ u h h'. Seat (onCore s c) p u h h') (λ u a b. sits (λ e f. a (f ∙ seat)) (same-refl 1 (threadAt s u)))
@@ -102,7 +102,7 @@ module _ (s s' : State) (ok : Held s) (c t p : ℕ) (status : Status) (l : c < s
       (links-cut s s' (ok .links) t p was-running tied parent
       (changed (λ u h h'. Cut t p u h h') (λ u a b. stays a b (bound-refl s (ok .links) u)) (off refl refl (λ e. omega arith))
       (again refl runs refl refl)))
-      (rw (count, cores, length-set) (ok .wide)) (s .ready) ready
+      (rw (count, cores, length-set) (ok .wide)) (s .queues .ready) ready
       (still-lined (λ e. let z = p-lent in omega arith) (λ e. omega arith))
     where
       p-lent : statusAt s p ≡ 5
@@ -135,18 +135,18 @@ module _ (s s' : State) (ok : Held s) (c t p : ℕ) (status : Status) (l : c < s
         }))
 
     -- the parent keeps its status
-    pub held-ended : statusNumber status ≡ statusAt s p → s' .ready ≡ s .ready → Held s'
-    held-ended same ready = held-ends idle-seats idle-links (rw (count, cores, length-set) (ok .wide)) (s .ready) ready
-        (lined-same 2 s s' (s .ready) (turns-lined s (ok .many) (ok .turns))
+    pub held-ended : statusNumber status ≡ statusAt s p → s' .queues .ready ≡ s .queues .ready → Held s'
+    held-ended same ready = held-ends idle-seats idle-links (rw (count, cores, length-set) (ok .wide)) (s .queues .ready) ready
+        (lined-same 2 s s' (s .queues .ready) (turns-lined s (ok .many) (ok .turns))
         (changed (λ u h h'. Same 2 h h') (λ u x y. same-refl 2 (threadAt s u))
         (let z = was-running in neither 2 (threadAt s t) _ (λ e. omega arith) (λ e. omega arith))
         (record { to = λ e. same ∙ e; from = λ e. sym same ∙ e })))
 
     -- "a waiting parent whose children have all ended joins the ready line and is ready"
-    pub held-woken : statusAt s p ≡ 4 → statusNumber status ≡ 2 → s' .ready ≡ appended capacity (s .ready) p → Held s'
+    pub held-woken : statusAt s p ≡ 4 → statusNumber status ≡ 2 → s' .queues .ready ≡ appended capacity (s .queues .ready) p → Held s'
     held-woken waited woken ready = held-ends idle-seats idle-links (rw (count, cores, length-set) (ok .wide))
-        (appended capacity (s .ready) p) ready
-        (lined-gave 2 s s' p (s .ready) (turns-lined s (ok .many) (ok .turns)) (used-low s (ok .many) p used-p) (λ e. omega arith)
+        (appended capacity (s .queues .ready) p) ready
+        (lined-gave 2 s s' p (s .queues .ready) (turns-lined s (ok .many) (ok .turns)) (used-low s (ok .many) p used-p) (λ e. omega arith)
         (ap standing parent-record ∙ woken)
         (changed (λ u h h'. ¬ (u ≡ p) → Same 2 h h') (λ u x y m. same-refl 2 (threadAt s u))
         (λ m. let z = was-running in neither 2 (threadAt s t) _ (λ e. omega arith) (λ e. omega arith))
@@ -155,9 +155,9 @@ module _ (s s' : State) (ok : Held s) (c t p : ℕ) (status : Status) (l : c < s
 -- THE ROOT'S: "gives the result and finishes the machine"
 module _ (s s' : State) (ok : Held s) (c v : ℕ) (l : c < s .count) (seat : onCore s c ≡ 0) (childless : Childless s 0)
     (over' : s' .outcome ≡ finished v) (count : s' .count ≡ s .count)
-    (free : s' .freeThreads ≡ appended capacity (s .freeThreads) 0) (threads : s' .threads ≡ set (s .threads) 0 blankThread)
+    (free : s' .queues .freeThreads ≡ appended capacity (s .queues .freeThreads) 0) (threads : s' .threads ≡ set (s .threads) 0 blankThread)
     (cores : s' .cores ≡ set (s .cores) c none)
-    (ready : s' .ready ≡ s .ready) where
+    (ready : s' .queues .ready ≡ s .queues .ready) where
   root-running : statusAt s 0 ≡ 1
   root-running = rw seat at (ok .seats .runs c l (rw seat (omega arith)))
 
@@ -186,8 +186,8 @@ module _ (s s' : State) (ok : Held s) (c v : ℕ) (l : c < s .count) (seat : onC
       linked = λ u e. absurd (no-tie u e);
       only = λ u w e. absurd (no-tie u e);
     };
-    turns = lined-turns s' (rw (threads, length-set) (ok .many)) (s .ready) ready
-        (lined-same 2 s s' (s .ready) (turns-lined s (ok .many) (ok .turns))
+    turns = lined-turns s' (rw (threads, length-set) (ok .many)) (s .queues .ready) ready
+        (lined-same 2 s s' (s .queues .ready) (turns-lined s (ok .many) (ok .turns))
         (one-changed s s' (λ u h h'. Same 2 h h') 0 _ root-below threads (λ u n. same-refl 2 (threadAt s u))
         (let z = root-running in neither 2 (threadAt s 0) _ (λ e. omega arith) (λ e. omega arith))));
     tree = tree-end s s' (ok .tree) v over' childless root-gone others;
@@ -195,8 +195,8 @@ module _ (s s' : State) (ok : Held s) (c v : ℕ) (l : c < s .count) (seat : onC
       pending = λ u h. absurd (let z = nothing-left u in omega arith);
       distinct = λ u w h. absurd (let z = nothing-left u in omega arith);
     };
-    freeThreads = lined-free s' (appended capacity (s .freeThreads) 0) free
-        (lined-gave 0 s s' 0 (s .freeThreads) (free-lined s (ok .freeThreads)) (omega arith) (λ e. let z = root-running in omega arith) root-gone
+    freeThreads = lined-free s' (appended capacity (s .queues .freeThreads) 0) free
+        (lined-gave 0 s s' 0 (s .queues .freeThreads) (free-lined s (ok .freeThreads)) (omega arith) (λ e. let z = root-running in omega arith) root-gone
         (one-changed s s' (λ u h h'. ¬ (u ≡ 0) → Same 0 h h') 0 _ root-below threads (λ u n m. same-refl 0 (threadAt s u)) (λ m. absurd (m refl))));
   }
     where
@@ -240,7 +240,7 @@ held-returns j s ok c t v l seat low over childless = ⊎-elim at-root inside (o
 
         go : (b : Bool) → connectedAt s t ≡ b → (w : Bool) →
             (threadAt s (parentAt s t) .status is Waiting && eqb (childrenAt s (parentAt s t)) 1) ≡ w
-            → Held (setCore c (cond b (parentAt s t) none) (setReady (cond (not b && w) (appended capacity (s .ready) (parentAt s t)) (s .ready))
+            → Held (setCore c (cond b (parentAt s t) none) (setReady (cond (not b && w) (appended capacity (s .queues .ready) (parentAt s t)) (s .queues .ready))
             (setThread (parentAt s t) (withoutChild (cond b Running (cond (not b && w) Ready (threadAt s (parentAt s t) .status)))
             (threadAt s (parentAt s t)))
             (setSlot (threadAt s (parentAt s t)) (threadAt s t .result) v (freed (turnAt j s c t) s)))))

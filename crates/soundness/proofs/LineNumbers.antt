@@ -69,14 +69,14 @@ lined-gave k s s' n xs ok low was is view = subst (λ ys. Lined k s' ys) (sym (l
     stands u l e (no m) = member-left u xs (n ∷ []) (ok .stands u l (view u m .from e))
 
 -- TURNS: the ready queue, status 2
-pub turns-lined : (s : State) → length (s .threads) ≡ 32 → Turns s → Lined 2 s (s .ready)
+pub turns-lined : (s : State) → length (s .threads) ≡ 32 → Turns s → Lined 2 s (s .queues .ready)
 turns-lined s many ok = record {
-  only = every-map (λ t e. (used-low s many t (omega arith), e)) (s .ready) (ok .ready);
+  only = every-map (λ t e. (used-low s many t (omega arith), e)) (s .queues .ready) (ok .ready);
   once = ok .once;
   stands = λ t l e. ok .stands t e;
 }
 
-pub lined-turns : (s : State) → length (s .threads) ≡ 32 → (xs : List ℕ) → s .ready ≡ xs → Lined 2 s xs → Turns s
+pub lined-turns : (s : State) → length (s .threads) ≡ 32 → (xs : List ℕ) → s .queues .ready ≡ xs → Lined 2 s xs → Turns s
 lined-turns s many xs e ok = record {
   ready = rw e (every-map (λ t h. h .1) xs (ok .only));
   once = rw e (ok .once);
@@ -84,17 +84,17 @@ lined-turns s many xs e ok = record {
 }
 
 -- FREE THREADS: the free-thread queue, status 0
-pub free-lined : (s : State) → FreeThreads s → Lined 0 s (s .freeThreads)
+pub free-lined : (s : State) → FreeThreads s → Lined 0 s (s .queues .freeThreads)
 free-lined s ok = record { only = ok .free; once = ok .once; stands = ok .stands }
 
-pub lined-free : (s : State) (xs : List ℕ) → s .freeThreads ≡ xs → Lined 0 s xs → FreeThreads s
+pub lined-free : (s : State) (xs : List ℕ) → s .queues .freeThreads ≡ xs → Lined 0 s xs → FreeThreads s
 lined-free s xs e ok = record { free = rw e (ok .only); once = rw e (ok .once); stands = rw e (ok .stands) }
 
 -- NO QUEUE REFUSES A NUMBER: a thread that is not ready has room in the ready queue, one in use has room in the free-thread queue
 pub ready-room : (s : State) → length (s .threads) ≡ 32 → Turns s → (t : ℕ) → t < 32 → ¬ (statusAt s t ≡ 2)
-    → appended capacity (s .ready) t ≡ s .ready ++ (t ∷ [])
-ready-room s many ok t l n = lined-room 2 s t (s .ready) (turns-lined s many ok) l n
+    → appended capacity (s .queues .ready) t ≡ s .queues .ready ++ (t ∷ [])
+ready-room s many ok t l n = lined-room 2 s t (s .queues .ready) (turns-lined s many ok) l n
 
 pub free-room : (s : State) → FreeThreads s → (t : ℕ) → t < 32 → ¬ (statusAt s t ≡ 0)
-    → appended capacity (s .freeThreads) t ≡ s .freeThreads ++ (t ∷ [])
-free-room s ok t l n = lined-room 0 s t (s .freeThreads) (free-lined s ok) l n
+    → appended capacity (s .queues .freeThreads) t ≡ s .queues .freeThreads ++ (t ∷ [])
+free-room s ok t l n = lined-room 0 s t (s .queues .freeThreads) (free-lined s ok) l n

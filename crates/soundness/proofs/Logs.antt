@@ -29,24 +29,24 @@ use Rattle.soundness.proofs.Tested.{SeedEffect, seed-effect}
 
 -- why a fork is logged n
 pub data ForkLog (j : Job) (s : State) (kind : ForkKind) (h : Thread) (r n : ℕ) : Type 0 where
-  fewThreads : n ≡ 20 → s .freeThreads ≡ [] → ForkLog j s kind h r n
-  fewStacklets : n ≡ 21 → ¬ (s .freeThreads ≡ []) → goesAbove j s kind h r ≡ false → s .freeStacklets ≡ [] → ForkLog j s kind h r n
+  fewThreads : n ≡ 20 → s .queues .freeThreads ≡ [] → ForkLog j s kind h r n
+  fewStacklets : n ≡ 21 → ¬ (s .queues .freeThreads ≡ []) → goesAbove j s kind h r ≡ false → s .queues .freeStacklets ≡ [] → ForkLog j s kind h r n
   hasBoth : n ≡ 0 → ForkLog j s kind h r n
 
 pub fork-log : (j : Job) (s : State) (kind : ForkKind) (o : Turn) (f : Asked) → ForkLog j s kind (o .thread) (f .routine) (forkOf j s kind o f .log)
 unfolding forkOf forkWith forkOn placeOf
-fork-log j s kind o f = with-number (s .freeThreads) refl
+fork-log j s kind o f = with-number (s .queues .freeThreads) refl
   where
-    on-place : (n : ℕ) (ns : List ℕ) → s .freeThreads ≡ n ∷ ns → (b : Bool) → goesAbove j s kind (o .thread) (f .routine) ≡ b
-        → (ys : List ℕ) → s .freeStacklets ≡ ys → ForkLog j s kind (o .thread) (f .routine)
+    on-place : (n : ℕ) (ns : List ℕ) → s .queues .freeThreads ≡ n ∷ ns → (b : Bool) → goesAbove j s kind (o .thread) (f .routine) ≡ b
+        → (ys : List ℕ) → s .queues .freeStacklets ≡ ys → ForkLog j s kind (o .thread) (f .routine)
         (forkOn j s kind o f n ns (placeOf b (o .thread .base / 64) ys) .log)
     on-place n ns e true g ys q = hasBoth refl
     on-place n ns e false g [] q = fewStacklets refl (λ z. let y : _≡_ {A = ℕ} 0 1 = cc in omega arith) g q
     on-place n ns e false g (y ∷ ys) q = hasBoth refl
 
-    with-number : (ns : List ℕ) → s .freeThreads ≡ ns → ForkLog j s kind (o .thread) (f .routine) (forkWith j s kind o f ns .log)
+    with-number : (ns : List ℕ) → s .queues .freeThreads ≡ ns → ForkLog j s kind (o .thread) (f .routine) (forkWith j s kind o f ns .log)
     with-number [] e = fewThreads refl e
-    with-number (n ∷ ns) e = on-place n ns e (goesAbove j s kind (o .thread) (f .routine)) refl (s .freeStacklets) refl
+    with-number (n ∷ ns) e = on-place n ns e (goesAbove j s kind (o .thread) (f .routine)) refl (s .queues .freeStacklets) refl
 
 -- STEP. Why a step of core c is logged n
 pub data StepLog (j : Job) (s : State) (c n : ℕ) : Type 0 where
@@ -55,10 +55,10 @@ pub data StepLog (j : Job) (s : State) (c n : ℕ) : Type 0 where
   stepIdle : n ≡ 15 → s .outcome ≡ going → c < s .count → none ≤ onCore s c → StepLog j s c n
   stepDear : n ≡ 22 → Dear j s c (onCore s c) → StepLog j s c n
   stepFaults : Stepped j s c (onCore s c) → effectAt j s (threadAt s (onCore s c)) ≡ Faults n → StepLog j s c n
-  stepFewThreads : n ≡ 20 → Stepped j s c (onCore s c) → (kind : ForkKind) (r : ℕ) → StepForks j s (onCore s c) kind r → s .freeThreads ≡ []
+  stepFewThreads : n ≡ 20 → Stepped j s c (onCore s c) → (kind : ForkKind) (r : ℕ) → StepForks j s (onCore s c) kind r → s .queues .freeThreads ≡ []
       → StepLog j s c n
-  stepFewStacklets : n ≡ 21 → Stepped j s c (onCore s c) → (kind : ForkKind) (r : ℕ) → StepForks j s (onCore s c) kind r → ¬ (s .freeThreads ≡ [])
-      → goesAbove j s kind (threadAt s (onCore s c)) r ≡ false → s .freeStacklets ≡ [] → StepLog j s c n
+  stepFewStacklets : n ≡ 21 → Stepped j s c (onCore s c) → (kind : ForkKind) (r : ℕ) → StepForks j s (onCore s c) kind r → ¬ (s .queues .freeThreads ≡ [])
+      → goesAbove j s kind (threadAt s (onCore s c)) r ≡ false → s .queues .freeStacklets ≡ [] → StepLog j s c n
   stepAccepted : n ≡ 0 → StepLog j s c n
 
 carried-log : (j : Job) (s : State) (c : ℕ) → Stepped j s c (onCore s c) → (e : Effect) → effectAt j s (threadAt s (onCore s c)) ≡ e
@@ -125,23 +125,23 @@ pub data TakeLog (s : State) (c n : ℕ) : Type 0 where
   takeOver : n ≡ 19 → isOver (s .outcome) ≡ true → TakeLog s c n
   takeNoCore : n ≡ 14 → s .outcome ≡ going → s .count ≤ c → TakeLog s c n
   takeBusy : n ≡ 15 → s .outcome ≡ going → c < s .count → onCore s c < none → TakeLog s c n
-  takeEmpty : n ≡ 16 → s .outcome ≡ going → c < s .count → none ≤ onCore s c → s .ready ≡ [] → TakeLog s c n
+  takeEmpty : n ≡ 16 → s .outcome ≡ going → c < s .count → none ≤ onCore s c → s .queues .ready ≡ [] → TakeLog s c n
   takeAccepted : n ≡ 0 → TakeLog s c n
 
 pub take-log : (s : State) (c : ℕ) → TakeLog s c (takeOf s c .log)
 unfolding takeOf takeInto
 take-log s c = go (isOver (s .outcome)) refl (leb (s .count) c) refl (isBusy s c) refl
   where
-    into : s .outcome ≡ going → c < s .count → none ≤ onCore s c → (ts : List ℕ) → s .ready ≡ ts → TakeLog s c (takeInto s c ts .log)
+    into : s .outcome ≡ going → c < s .count → none ≤ onCore s c → (ts : List ℕ) → s .queues .ready ≡ ts → TakeLog s c (takeInto s c ts .log)
     into o l i [] e = takeEmpty refl o l i e
     into o l i (t ∷ ts) e = takeAccepted refl
 
     go : (x : Bool) → isOver (s .outcome) ≡ x → (y : Bool) → leb (s .count) c ≡ y → (z : Bool) → isBusy s c ≡ z
-        → TakeLog s c (cond x (refused 19 s) (cond y (refused 14 s) (cond z (refused 15 s) (takeInto s c (s .ready)))) .log)
+        → TakeLog s c (cond x (refused 19 s) (cond y (refused 14 s) (cond z (refused 15 s) (takeInto s c (s .queues .ready)))) .log)
     go true e y _ z _ = takeOver refl e
     go false e true f z _ = takeNoCore refl (not-over _ e) (leb-true _ _ f)
     go false e false f true g = takeBusy refl (not-over _ e) (leb-false _ _ f) (ltb-true _ _ g)
-    go false e false f false g = into (not-over _ e) (leb-false _ _ f) (ltb-false _ _ g) (s .ready) refl
+    go false e false f false g = into (not-over _ e) (leb-false _ _ f) (ltb-false _ _ g) (s .queues .ready) refl
 
 -- STEAL. Why a steal of thread t for core c is logged n
 pub data StealLog (j : Job) (s : State) (c t n : ℕ) : Type 0 where
@@ -151,8 +151,8 @@ pub data StealLog (j : Job) (s : State) (c t n : ℕ) : Type 0 where
   stealNoSeed : n ≡ 18 → s .outcome ≡ going → c < s .count → none ≤ onCore s c → ¬ (Seed j s t) → StealLog j s c t n
   stealDear : n ≡ 22 → DearSeed j s c t → StealLog j s c t n
   stealFaults : Seeded j s c t → effectAt j s (threadAt s t) ≡ Faults n → StealLog j s c t n
-  stealFewThreads : n ≡ 20 → Seeded j s c t → (r : ℕ) → SeedForks j s t r → s .freeThreads ≡ [] → StealLog j s c t n
-  stealFewStacklets : n ≡ 21 → Seeded j s c t → (r : ℕ) → SeedForks j s t r → ¬ (s .freeThreads ≡ []) → s .freeStacklets ≡ [] → StealLog j s c t n
+  stealFewThreads : n ≡ 20 → Seeded j s c t → (r : ℕ) → SeedForks j s t r → s .queues .freeThreads ≡ [] → StealLog j s c t n
+  stealFewStacklets : n ≡ 21 → Seeded j s c t → (r : ℕ) → SeedForks j s t r → ¬ (s .queues .freeThreads ≡ []) → s .queues .freeStacklets ≡ [] → StealLog j s c t n
   stealAccepted : n ≡ 0 → StealLog j s c t n
 
 stolen-log : (j : Job) (s : State) (c t : ℕ) → Seeded j s c t → (e : Effect) → effectAt j s (threadAt s t) ≡ e → SeedEffect e

@@ -60,7 +60,7 @@ module _ (j : Job) (s : State) (sound : Sound j s) where
   -- a command after which the thread goes to p
   moved : (c t p : ℕ) → Stepped j s c t → (s' : State) → s' .threads ≡ set (s .threads) t (movedTo p (threadAt s t)) → s' .cores ≡ s .cores
       → s' .count ≡ s .count
-      → s' .ready ≡ s .ready → s' .freeThreads ≡ s .freeThreads → s' .outcome ≡ s .outcome → Held s'
+      → s' .queues .ready ≡ s .queues .ready → s' .queues .freeThreads ≡ s .queues .freeThreads → s' .outcome ≡ s .outcome → Held s'
   moved c t p k s' threads cores count ready free outcome =
       held-own s s' held t (movedTo p (threadAt s t)) (k .low) threads cores count ready free (going-unfinished s (k .ongoing))
       (going-unfinished s' (outcome ∙ k .ongoing))

@@ -22,7 +22,7 @@ module _ (s : State) (c : ℕ) where
     number19 : n ≡ 19 → isOver (s .outcome) ≡ true
     number14 : n ≡ 14 → (s .outcome ≡ going) × (s .count ≤ c)
     number15 : n ≡ 15 → (s .outcome ≡ going) × (c < s .count) × (onCore s c < none)
-    number16 : n ≡ 16 → (s .outcome ≡ going) × (c < s .count) × (none ≤ onCore s c) × (s .ready ≡ [])
+    number16 : n ≡ 16 → (s .outcome ≡ going) × (c < s .count) × (none ≤ onCore s c) × (s .queues .ready ≡ [])
 
   take-means : {n : ℕ} → TakeLog s c n → TakeMeans n
   take-means (takeOver x o) = record {
@@ -73,7 +73,7 @@ module _ (s : State) (c : ℕ) where
   take-15 = (taken .number15, λ z. rw (ap isOver (z .0), lt-leb (s .count) c (z .1), lt-ltb (onCore s c) none (z .2)))
 
   -- "16 line empty"
-  pub take-16 : Exactly (takeOf s c .log ≡ 16) ((s .outcome ≡ going) × (c < s .count) × (none ≤ onCore s c) × (s .ready ≡ []))
+  pub take-16 : Exactly (takeOf s c .log ≡ 16) ((s .outcome ≡ going) × (c < s .count) × (none ≤ onCore s c) × (s .queues .ready ≡ []))
   unfolding takeOf takeInto
   take-16 = (
     taken .number16,

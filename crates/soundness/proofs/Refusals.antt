@@ -26,20 +26,20 @@ use Rattle.soundness.proofs.ThreadsMet.{runner}
 use Rattle.soundness.proofs.Logs.{Dear, StepForks, isLfork, isFork, StepLog, stepOver, stepNoCore, stepIdle, stepDear, stepFaults, stepFewThreads, stepFewStacklets, stepAccepted, step-log}
 
 -- FORKS of any kind, as they are computed
-pub few-threads : (j : Job) (s : State) (kind : ForkKind) (o : Turn) (f : Asked) → s .freeThreads ≡ [] → forkOf j s kind o f .log ≡ 20
+pub few-threads : (j : Job) (s : State) (kind : ForkKind) (o : Turn) (f : Asked) → s .queues .freeThreads ≡ [] → forkOf j s kind o f .log ≡ 20
 unfolding forkOf forkWith
 few-threads j s kind o f e = ap (λ ns. forkWith j s kind o f ns .log) e
 
-pub few-stacklets : (j : Job) (s : State) (kind : ForkKind) (o : Turn) (f : Asked) → ¬ (s .freeThreads ≡ [])
+pub few-stacklets : (j : Job) (s : State) (kind : ForkKind) (o : Turn) (f : Asked) → ¬ (s .queues .freeThreads ≡ [])
     → goesAbove j s kind (o .thread) (f .routine) ≡ false
-    → s .freeStacklets ≡ [] → forkOf j s kind o f .log ≡ 21
+    → s .queues .freeStacklets ≡ [] → forkOf j s kind o f .log ≡ 21
 unfolding forkOf forkWith forkOn placeOf
-few-stacklets j s kind o f some above none = go (s .freeThreads) some
+few-stacklets j s kind o f some above none = go (s .queues .freeThreads) some
   where
     go : (ns : List ℕ) → ¬ (ns ≡ []) → forkWith j s kind o f ns .log ≡ 21
     go [] k = absurd (k refl)
     go (n ∷ ns) k =
-        ap (λ b. forkOn j s kind o f n ns (placeOf b (o .thread .base / 64) (s .freeStacklets)) .log) above
+        ap (λ b. forkOn j s kind o f n ns (placeOf b (o .thread .base / 64) (s .queues .freeStacklets)) .log) above
         ∙ ap (λ ys. forkOn j s kind o f n ns (placeOf false (o .thread .base / 64) ys) .log) none
 
 -- STEP

@@ -188,7 +188,7 @@ module _ (j : Job) (count : ℕ) (arguments memory : List ℕ) where
     unfolding startState
     start-free-stacklets = record {
       free = ascending-every
-          (λ x. (x < 16) × (topAt (start .tops) x ≡ 0) × Unused start x) 1 15 (λ x l m. (
+          (λ x. (x < 16) × (topAt (start .store .tops) x ≡ 0) × Unused start x) 1 15 (λ x l m. (
             m,
             pushed-other (replicate 16 0) 0 size fit (slots-some (j .image) a 0 (a .some)) x (λ e. omega arith) ∙ alike {A = ℕ} 16 x 0,
             λ t u e. let z : _≡_ {A = ℕ} 0 x = rw (used-root t u) at e in omega arith,

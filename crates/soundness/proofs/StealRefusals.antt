@@ -45,8 +45,8 @@ module _ (j : Job) (s : State) (sound : Sound j s) (c t : ℕ) where
     number18 : n ≡ 18 → (s .outcome ≡ going) × (c < s .count) × (none ≤ onCore s c) × (¬ (Seed j s t))
     number22 : n ≡ 22 → DearSeed j s c t
     fault : 9 ≤ n → n ≤ 12 → Seeded j s c t × (effectAt j s (threadAt s t) ≡ Faults n)
-    number20 : n ≡ 20 → Seeded j s c t × (r : ℕ) × SeedForks j s t r × (s .freeThreads ≡ [])
-    number21 : n ≡ 21 → Seeded j s c t × (r : ℕ) × SeedForks j s t r × (¬ (s .freeThreads ≡ [])) × (s .freeStacklets ≡ [])
+    number20 : n ≡ 20 → Seeded j s c t × (r : ℕ) × SeedForks j s t r × (s .queues .freeThreads ≡ [])
+    number21 : n ≡ 21 → Seeded j s c t × (r : ℕ) × SeedForks j s t r × (¬ (s .queues .freeThreads ≡ [])) × (s .queues .freeStacklets ≡ [])
 
   steal-means : {n : ℕ} → StealLog j s c t n → StealMeans n
   steal-means (stealOver x o) = record {
@@ -213,15 +213,15 @@ module _ (j : Job) (s : State) (sound : Sound j s) (c t : ℕ) where
       ⊎-elim (λ z. ap (λ x. stolenOf j s (turnAt j s c t) x .log) z ∙ make (asked r d a e))
       (λ z. ap (λ x. stolenOf j s (turnAt j s c t) x .log) z ∙ make (asked r d a e)) q
 
-  pub steal-20 : Exactly (stealOf j s c t .log ≡ 20) (Seeded j s c t × (r : ℕ) × SeedForks j s t r × (s .freeThreads ≡ []))
+  pub steal-20 : Exactly (stealOf j s c t .log ≡ 20) (Seeded j s c t × (r : ℕ) × SeedForks j s t r × (s .queues .freeThreads ≡ []))
   steal-20 = (
     stolen .number20,
     λ (k, r, f, u).
         ap (λ a. a .log) (steal-carried k) ∙ seed-at r f 20 (λ g. few-threads j s Stolen (turnAt j s c t) g u),
   )
 
-  pub steal-21 : Exactly (stealOf j s c t .log ≡ 21) (Seeded j s c t × (r : ℕ) × SeedForks j s t r × (¬ (s .freeThreads ≡ [])) ×
-      (s .freeStacklets ≡ []))
+  pub steal-21 : Exactly (stealOf j s c t .log ≡ 21) (Seeded j s c t × (r : ℕ) × SeedForks j s t r × (¬ (s .queues .freeThreads ≡ [])) ×
+      (s .queues .freeStacklets ≡ []))
   steal-21 = (
     stolen .number21,
     λ (k, r, f, u, w).

@@ -47,15 +47,15 @@ pub data StepForks (j : Job) (s : State) (t : ℕ) (kind : ForkKind) (r : ℕ) :
 
 -- core c's thread forks, and no thread number is free
 abbrev pub FewThreads : Job → State → ℕ → Type 0
-FewThreads j s c = Stepped j s c (onCore s c) × (kind : ForkKind) × (r : ℕ) × StepForks j s (onCore s c) kind r × (s .freeThreads ≡ [])
+FewThreads j s c = Stepped j s c (onCore s c) × (kind : ForkKind) × (r : ℕ) × StepForks j s (onCore s c) kind r × (s .queues .freeThreads ≡ [])
 
 -- thread t's frame "is topmost there": it ends, within its stacklet of 64 words, where that stacklet's frames end
 abbrev pub IsTopmost : Job → State → ℕ → Type 0
-IsTopmost j s t = threadAt s t .base % 64 + slotsOf (j .image) (threadAt s t .routine) ≡ topAt (s .tops) (threadAt s t .base / 64)
+IsTopmost j s t = threadAt s t .base % 64 + slotsOf (j .image) (threadAt s t .routine) ≡ topAt (s .store .tops) (threadAt s t .base / 64)
 
 -- "and it fits": a frame of routine r, "as many words as the routine has slots", above those on thread t's stacklet; "16 stacklets of 64 words"
 abbrev pub FitsAbove : Job → State → ℕ → ℕ → Type 0
-FitsAbove j s t r = topAt (s .tops) (threadAt s t .base / 64) + slotsOf (j .image) r ≤ 64
+FitsAbove j s t r = topAt (s .store .tops) (threadAt s t .base / 64) + slotsOf (j .image) r ≤ 64
 
 -- "a stacklet is needed" for a child of thread t, of routine r, by the kind of its fork; the rule's own test is not cited
 abbrev pub NeedsStacklet : Job → State → ℕ → ForkKind → ℕ → Type 0
@@ -69,8 +69,8 @@ NeedsStacklet j s t Stolen r = Unit {0}
 -- core c's thread forks, its child's frame needs a stacklet, and none is free
 abbrev pub FewStacklets : Job → State → ℕ → Type 0
 FewStacklets j s c =
-    Stepped j s c (onCore s c) × (kind : ForkKind) × (r : ℕ) × StepForks j s (onCore s c) kind r × (¬ (s .freeThreads ≡ []))
-    × NeedsStacklet j s (onCore s c) kind r × (s .freeStacklets ≡ [])
+    Stepped j s c (onCore s c) × (kind : ForkKind) × (r : ℕ) × StepForks j s (onCore s c) kind r × (¬ (s .queues .freeThreads ≡ []))
+    × NeedsStacklet j s (onCore s c) kind r × (s .queues .freeStacklets ≡ [])
 
 -- a step of core c
 pub record StepNumbers (j : Job) (s : State) (c : ℕ) : Type 0 where
@@ -105,7 +105,7 @@ pub record TakeNumbers (s : State) (c : ℕ) : Type 0 where
   -- "15 .. take or steal for a busy one"
   pub number15 : Exactly (takeOf s c .log ≡ 15) ((s .outcome ≡ going) × (c < s .count) × (onCore s c < none))
   -- "16 line empty"
-  pub number16 : Exactly (takeOf s c .log ≡ 16) ((s .outcome ≡ going) × (c < s .count) × (none ≤ onCore s c) × (s .ready ≡ []))
+  pub number16 : Exactly (takeOf s c .log ≡ 16) ((s .outcome ≡ going) × (c < s .count) × (none ≤ onCore s c) × (s .queues .ready ≡ []))
   pub others : (takeOf s c .log ≡ 0) ⊎ (((14 ≤ takeOf s c .log) × (takeOf s c .log ≤ 16)) ⊎ (takeOf s c .log ≡ 19))
 
 -- thread t's next command is a seed: it is lent, and the command is an 08 or 09
@@ -146,10 +146,10 @@ pub record StealNumbers (j : Job) (s : State) (c t : ℕ) : Type 0 where
   pub number9 : Exactly (stealOf j s c t .log ≡ 9) (Seeded j s c t × Next j s t Condition9)
   pub number10 : Exactly (stealOf j s c t .log ≡ 10) (Seeded j s c t × Next j s t Condition10)
   pub number11 : Exactly (stealOf j s c t .log ≡ 11) (Seeded j s c t × Next j s t Condition11)
-  pub number20 : Exactly (stealOf j s c t .log ≡ 20) (Seeded j s c t × (r : ℕ) × SeedForks j s t r × (s .freeThreads ≡ []))
+  pub number20 : Exactly (stealOf j s c t .log ≡ 20) (Seeded j s c t × (r : ℕ) × SeedForks j s t r × (s .queues .freeThreads ≡ []))
   -- a seed's child always needs a free stacklet
-  pub number21 : Exactly (stealOf j s c t .log ≡ 21) (Seeded j s c t × (r : ℕ) × SeedForks j s t r × (¬ (s .freeThreads ≡ [])) ×
-      (s .freeStacklets ≡ []))
+  pub number21 : Exactly (stealOf j s c t .log ≡ 21) (Seeded j s c t × (r : ℕ) × SeedForks j s t r × (¬ (s .queues .freeThreads ≡ [])) ×
+      (s .queues .freeStacklets ≡ []))
   pub others : (stealOf j s c t .log ≡ 0) ⊎ (((9 ≤ stealOf j s c t .log) × (stealOf j s c t .log ≤ 12))
       ⊎ (((14 ≤ stealOf j s c t .log) × (stealOf j s c t .log ≤ 15)) ⊎ ((18 ≤ stealOf j s c t .log) × (stealOf j s c t .log ≤ 22))))
 

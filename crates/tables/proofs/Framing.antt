@@ -15,13 +15,13 @@ use Rattle.tables.specs.Change.{Reads, Becomes, Pushes, setTop, pushes}
 
 module _ (xs : List ℕ) (x slots : ℕ) (l : length xs ≡ size) where
   -- where it fits
-  module _ (fit : Reads xs true (λ s. fitsOn (s .tops) x slots) false) where
-    pub room : (top : ℕ) → Reads xs top (λ s. topAt (s .tops) x) 0 → top + slots ≤ 64
+  module _ (fit : Reads xs true (λ s. fitsOn (s .store .tops) x slots) false) where
+    pub room : (top : ℕ) → Reads xs top (λ s. topAt (s .store .tops) x) 0 → top + slots ≤ 64
     unfolding fitsOn
     room top t =
-        rw (t .means l [] []) (leb-true (topAt (meaning xs [] [] .tops) x + slots) 64 (both (ltb x 16) (leb (topAt (meaning xs [] [] .tops) x + slots) 64) (sym (fit .means l [] [])) .1))
+        rw (t .means l [] []) (leb-true (topAt (meaning xs [] [] .store .tops) x + slots) 64 (both (ltb x 16) (leb (topAt (meaning xs [] [] .store .tops) x + slots) 64) (sym (fit .means l [] [])) .1))
 
-    pub pushed : (ys : List ℕ) (top : ℕ) → Reads xs top (λ s. topAt (s .tops) x) 0 → Becomes xs ys (setTop x (top + slots)) → Becomes xs ys (pushes x slots)
+    pub pushed : (ys : List ℕ) (top : ℕ) → Reads xs top (λ s. topAt (s .store .tops) x) 0 → Becomes xs ys (setTop x (top + slots)) → Becomes xs ys (pushes x slots)
     unfolding pushedTops
     pushed ys top t b = record {
       means = λ k words memory. b .means k words memory
@@ -30,7 +30,7 @@ module _ (xs : List ℕ) (x slots : ℕ) (l : length xs ≡ size) where
       other = b .other;
     }
 
-    pub laid : (before after arguments : List ℕ) (base : ℕ) → Reads xs base (λ s. baseOn (s .tops) x) 0 → after ≡ framed before base slots arguments
+    pub laid : (before after arguments : List ℕ) (base : ℕ) → Reads xs base (λ s. baseOn (s .store .tops) x) 0 → after ≡ framed before base slots arguments
         → Pushes xs x slots arguments before after
     unfolding pushedWords
     laid before after arguments base b e = record {
@@ -39,7 +39,7 @@ module _ (xs : List ℕ) (x slots : ℕ) (l : length xs ≡ size) where
     }
 
   -- where it does not
-  module _ (full : Reads xs false (λ s. fitsOn (s .tops) x slots) false) where
+  module _ (full : Reads xs false (λ s. fitsOn (s .store .tops) x slots) false) where
     pub not-pushed : Becomes xs xs (pushes x slots)
     unfolding pushedTops
     not-pushed = record { means = λ k words memory. rw (← full .means l words memory); sized = refl; other = λ _. refl }

@@ -191,7 +191,7 @@ module _ (xs words memory : List ℕ) (l : length xs ≡ 712) where
       filled xs (take 16 (drop 594 xs)) 594 16 (simp (length-take, length-drop) (omega arith))
       (λ k h. getD-take 16 (drop 594 xs) k 0 h ∙ getD-drop 594 xs k 0)
 
-  pub tops-are : topsOf (stackletsOf (take 16 (drop 594 xs))) ≡ meaning xs words memory .tops
+  pub tops-are : topsOf (stackletsOf (take 16 (drop 594 xs))) ≡ meaning xs words memory .store .tops
   unfolding meaning stackletsIn
   tops-are = ap (λ (tops : List ℕ). topsOf (stackletsOf tops)) part-tops
 

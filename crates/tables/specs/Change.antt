@@ -35,51 +35,29 @@ movesOn t p s = setThread t (movedTo p (threadAt s t)) s
 
 -- the top of stacklet x
 abbrev pub setTop : ℕ → ℕ → State → State
-setTop x top s = setTops (set (s .tops) x top) s
+setTop x top s = setTops (set (s .store .tops) x top) s
 
 -- a new frame of so many words on stacklet x, and the end of the one at a base
 abbrev pub pushes : ℕ → ℕ → State → State
-pushes x slots s = setTops (pushedTops (s .tops) x slots) s
+pushes x slots s = setTops (pushedTops (s .store .tops) x slots) s
 
 abbrev pub pops : ℕ → State → State
-pops base s = setTops (poppedTops (s .tops) base) s
+pops base s = setTops (poppedTops (s .store .tops) base) s
 
 -- what a new frame does to the words
 pub record Pushes (xs : List ℕ) (x slots : ℕ) (arguments before after : List ℕ) : Type 0 where
-  pub means : length xs ≡ size → (words memory : List ℕ) → after ≡ pushedWords (meaning xs words memory .tops) before x slots arguments
+  pub means : length xs ≡ size → (words memory : List ℕ) → after ≡ pushedWords (meaning xs words memory .store .tops) before x slots arguments
   pub other : (length xs ≡ size → ⊥) → after ≡ before
 
 -- the number of cores
 abbrev pub setCount : ℕ → State → State
-setCount n s = record {
-  threads = s .threads;
-  cores = s .cores;
-  count = n;
-  tops = s .tops;
-  freeThreads = s .freeThreads;
-  freeStacklets = s .freeStacklets;
-  ready = s .ready;
-  units = s .units;
-  outcome = s .outcome;
-  words = s .words;
-  memory = s .memory;
-}
+setCount n s =
+    record { threads = s .threads; cores = s .cores; count = n; queues = s .queues; store = s .store; units = s .units; outcome = s .outcome }
 
 -- the units
 abbrev pub setUnits : ℕ → State → State
-setUnits n s = record {
-  threads = s .threads;
-  cores = s .cores;
-  count = s .count;
-  tops = s .tops;
-  freeThreads = s .freeThreads;
-  freeStacklets = s .freeStacklets;
-  ready = s .ready;
-  units = n;
-  outcome = s .outcome;
-  words = s .words;
-  memory = s .memory;
-}
+setUnits n s =
+    record { threads = s .threads; cores = s .cores; count = s .count; queues = s .queues; store = s .store; units = n; outcome = s .outcome }
 
 -- a weight is charged, modulo 2^32: a sound state has room for it
 abbrev pub charges : ℕ → State → State

@@ -48,12 +48,12 @@ meaning xs words memory = record {
   threads = threadsIn xs;
   cores = coresIn xs;
   count = getD xs 584 0;
-  tops = topsOf (stackletsIn xs);
-  freeThreads = contents (queueIn xs 610);
-  freeStacklets = contents (queueIn xs 644);
-  ready = contents (queueIn xs 678);
+  queues = record {
+    freeThreads = contents (queueIn xs 610);
+    freeStacklets = contents (queueIn xs 644);
+    ready = contents (queueIn xs 678);
+  };
+  store = record { tops = topsOf (stackletsIn xs); words = words; memory = memory };
   units = unitsIn xs;
   outcome = outcomeIn xs;
-  words = words;
-  memory = memory;
 }

@@ -11,7 +11,7 @@ ghost use Rattle.tables.specs.Change.{Reads, Becomes, Pushes, pushes, po
 
 // Where the next frame on a stacklet starts.
 pub fn next_base(tables: &[u8], x: u8) -> u16
-    ensures { λ r. ⌜ Reads (now (tables .entry)) r (λ s. baseOn (s .tops) (x % 16)) 0 ⌝ }
+    ensures { λ r. ⌜ Reads (now (tables .entry)) r (λ s. baseOn (s .store .tops) (x % 16)) 0 ⌝ }
 {
     if tables.len() != SIZE {
         return 0;
@@ -21,7 +21,7 @@ pub fn next_base(tables: &[u8], x: u8) -> u16
 
 // Does a frame of so many words fit above the top of a stacklet?
 pub fn fits(tables: &[u8], x: u8, slots: u8) -> bool
-    ensures { λ r. ⌜ Reads (now (tables .entry)) r (λ s. fitsOn (s .tops) (x % 16) slots) false ⌝ }
+    ensures { λ r. ⌜ Reads (now (tables .entry)) r (λ s. fitsOn (s .store .tops) (x % 16) slots) false ⌝ }
 {
     if tables.len() != SIZE {
         return false;
@@ -31,7 +31,7 @@ pub fn fits(tables: &[u8], x: u8, slots: u8) -> bool
 
 // Does the frame at a base, of so many words, end at its stacklet's top? There are 1,024 bases.
 pub fn is_topmost(tables: &[u8], base: u16, slots: u8) -> bool
-    ensures { λ r. ⌜ Reads (now (tables .entry)) r (λ s. isTopmost (s .tops) (base % 1024) slots) false ⌝ }
+    ensures { λ r. ⌜ Reads (now (tables .entry)) r (λ s. isTopmost (s .store .tops) (base % 1024) slots) false ⌝ }
 {
     if tables.len() != SIZE {
         return false;

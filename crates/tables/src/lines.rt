@@ -76,7 +76,7 @@ fn put_queue(tables: &mut [u8], at: usize, q: Queue)
 
 // The free thread numbers.
 pub fn free_threads(tables: &[u8]) -> Queue
-    ensures { λ r. ⌜ Reads (now (tables .entry)) (contents r) (λ s. s .freeThreads) [] ⌝ }
+    ensures { λ r. ⌜ Reads (now (tables .entry)) (contents r) (λ s. s .queues .freeThreads) [] ⌝ }
 {
     if tables.len() != SIZE {
         return Queue::new();
@@ -95,7 +95,7 @@ pub fn put_free_threads(tables: &mut [u8], q: Queue)
 
 // The free stacklets.
 pub fn free_stacklets(tables: &[u8]) -> Queue
-    ensures { λ r. ⌜ Reads (now (tables .entry)) (contents r) (λ s. s .freeStacklets) [] ⌝ }
+    ensures { λ r. ⌜ Reads (now (tables .entry)) (contents r) (λ s. s .queues .freeStacklets) [] ⌝ }
 {
     if tables.len() != SIZE {
         return Queue::new();
@@ -114,7 +114,7 @@ pub fn put_free_stacklets(tables: &mut [u8], q: Queue)
 
 // The ready threads.
 pub fn ready(tables: &[u8]) -> Queue
-    ensures { λ r. ⌜ Reads (now (tables .entry)) (contents r) (λ s. s .ready) [] ⌝ }
+    ensures { λ r. ⌜ Reads (now (tables .entry)) (contents r) (λ s. s .queues .ready) [] ⌝ }
 {
     if tables.len() != SIZE {
         return Queue::new();
@@ -144,7 +144,7 @@ pub fn put_stacklets(tables: &mut [u8], s: Stacklets)
 
 // A stacklet's top.
 pub fn top_at(tables: &[u8], x: u8) -> u8
-    ensures { λ r. ⌜ Reads (now (tables .entry)) r (λ s. topAt (s .tops) (x % 16)) 0 ⌝ }
+    ensures { λ r. ⌜ Reads (now (tables .entry)) r (λ s. topAt (s .store .tops) (x % 16)) 0 ⌝ }
 {
     if tables.len() != SIZE {
         return 0;

@@ -35,7 +35,7 @@ module _ (j : Job) (s : State) (c : ℕ) where
   -- a core that steps is busy
   idle-not : isStep (idleChoice j s c) ≡ true → ⊥
   unfolding idleChoice
-  idle-not h = by (ltb 0 (length (s .ready))) h
+  idle-not h = by (ltb 0 (length (s .queues .ready))) h
     where
       by : (b : Bool) → isStep (cond b (Take c) (Steal c (firstSeed j s))) ≡ true → ⊥
       by true e = false-not e

@@ -114,7 +114,7 @@ returns-5 c =
     let put-thread' = c .before .before .before .before .before .before .put-thread in
     let low : args' .c < 4 = (omega (arith, if2' .left, count' .ensures .means (pre' .sized) (pre' .words) (pre' .memory), pre' .sound .sized .most)) in
     let t = first' .given .0 .0 in
-    let small : t < 32 = head-below (meaning (args' .tables .now) (pre' .words) (pre' .memory) .ready) 32 t (ready-first (pre' .job) _ (pre' .sound)) (sym (first-of _ _ _ (ready' .ensures .means (pre' .sized) (pre' .words) (pre' .memory)) (dequeue' .ensures)) ∙ first' .given .1) in
+    let small : t < 32 = head-below (meaning (args' .tables .now) (pre' .words) (pre' .memory) .queues .ready) 32 t (ready-first (pre' .job) _ (pre' .sound)) (sym (first-of _ _ _ (ready' .ensures .means (pre' .sized) (pre' .words) (pre' .memory)) (dequeue' .ensures)) ∙ first' .given .1) in
     λ words memory.
     let l = pre' .sized in
     let l1 = put-ready' .ensures .sized ∙ l in

@@ -82,7 +82,7 @@ returns-2 c =
     let ws = args' .words .now in
     λ starts parameters memory allowance offset.
     ap (refused 21) (find-place' .ensures .1 .1 (c .enum-told2 .given .1) .means l ws memory)
-    ∙ no-stacklet (jobOf (args' .image .now) starts parameters allowance) (meaning (args' .tables .now) ws memory) (turnWith (args' .c) (args' .t) th (args' .weight) (args' .next) offset) (asked (args' .r) (args' .d) (args' .a) (args' .e)) (args' .kind) _ _ _ (goes-above' .result) (c .before .before .before .before .before .before .before .before .before .before .before .before .before .before .before .dequeue .result .first) (find-place' .result) (meaning (args' .tables .now) ws memory .tops)
+    ∙ no-stacklet (jobOf (args' .image .now) starts parameters allowance) (meaning (args' .tables .now) ws memory) (turnWith (args' .c) (args' .t) th (args' .weight) (args' .next) offset) (asked (args' .r) (args' .d) (args' .a) (args' .e)) (args' .kind) _ _ _ (goes-above' .result) (c .before .before .before .before .before .before .before .before .before .before .before .before .before .before .before .dequeue .result .first) (find-place' .result) (meaning (args' .tables .now) ws memory .store .tops)
     (first-of _ _ _ (c .before .before .before .before .before .before .before .before .before .before .before .before .before .before .before .before .free-threads .ensures .means l ws memory) (c .before .before .before .before .before .before .before .before .before .before .before .before .before .before .before .dequeue .ensures)) (c .before .before .before .before .before .before .before .before .before .before .before .before .before .first .given .1) (c .before .before .before .before .before .before .before .slots-of2 .ensures) (c .before .before .before .before .before .before .before .before .before .slots-of .ensures) refl
     (goes-above' .ensures ws memory) (find-place' .ensures .1 .0 .means l ws memory) (c .enum-told2 .given .1)
     ∙ ap (λ (h : Thread). forkOf (jobOf (args' .image .now) starts parameters allowance) (meaning (args' .tables .now) ws memory) (args' .kind) (turnWith (args' .c) (args' .t) h (args' .weight) (args' .next) offset) (asked (args' .r) (args' .d) (args' .a) (args' .e))) same
@@ -101,7 +101,7 @@ put-records-requires c κs =
     let same : thread-at' .result ≡ recordIn (args' .tables .now) (args' .t) = thread-seen (pre' .seated .sized) [] [] (args' .t) (thread-at' .result) (pre' .seated .number) (thread-at' .ensures) in
     record {
       parent = pre' .seated .number;
-      child = head-below (meaning (args' .tables .now) [] [] .freeThreads) 32 _ (pre' .numbers) (sym (first-of _ _ _ (c .before .before .before .before .before .before .before .before .before .before .before .before .before .before .before .before .before .before .before .before .before .before .before .before .free-threads .ensures .means (pre' .seated .sized) [] []) (c .before .before .before .before .before .before .before .before .before .before .before .before .before .before .before .before .before .before .before .before .before .before .before .dequeue .ensures)) ∙ c .before .before .before .before .before .before .before .before .before .before .before .before .before .before .before .before .before .before .before .before .before .first .given .1);
+      child = head-below (meaning (args' .tables .now) [] [] .queues .freeThreads) 32 _ (pre' .numbers) (sym (first-of _ _ _ (c .before .before .before .before .before .before .before .before .before .before .before .before .before .before .before .before .before .before .before .before .before .before .before .before .free-threads .ensures .means (pre' .seated .sized) [] []) (c .before .before .before .before .before .before .before .before .before .before .before .before .before .before .before .before .before .before .before .before .before .before .before .dequeue .ensures)) ∙ c .before .before .before .before .before .before .before .before .before .before .before .before .before .before .before .before .before .before .before .before .before .first .given .1);
       children = rw same (pre' .children);
       result = pre' .result;
       low = rw same (pre' .low);
@@ -164,7 +164,7 @@ returns-3 c =
     let vs = push-frame' .last .1 .0 in
     let n = c .before .before .before .before .before .before .before .before .before .before .before .before .before .before .before .before .before .before .before .before .before .before .before .before .before .before .before .before .before .before .before .before .before .before .before .before .before .before .before .before .first .given .0 .0 in
     let x = spot' .given .0 .0 in
-    let low : x < 16 = spot-low (goes-above' .result) (th .base / 64) x (meaning (args' .tables .now) [] [] .freeStacklets) _ (let b : th .base < 1024 = rw same (pre' .seated .base) in omega arith) (pre' .stacklets) (find-place' .ensures .1 .0 .means l [] []) (spot' .given .1) in
+    let low : x < 16 = spot-low (goes-above' .result) (th .base / 64) x (meaning (args' .tables .now) [] [] .queues .freeStacklets) _ (let b : th .base < 1024 = rw same (pre' .seated .base) in omega arith) (pre' .stacklets) (find-place' .ensures .1 .0 .means l [] []) (spot' .given .1) in
     let l1 = find-place' .ensures .0 .sized ∙ l in
     let l2 = hand-out-number' .ensures .sized ∙ l1 in
     let l3 = put-records' .ensures .sized ∙ l2 in
@@ -172,7 +172,7 @@ returns-3 c =
     let l5 = push-frame' .ensures .0 .sized ∙ l4 in
     let room = room-kept (goes-above' .result) (args' .kind) (args' .t) n (args' .next) (next-base' .result) (args' .weight) (2 ^ 32) th (asked (args' .r) (args' .d) 0 (args' .e)) _ _ _ _ (find-place' .ensures .0 .means l [] []) (hand-out-number' .ensures .means l1 [] []) (put-records' .ensures .means l2 [] []) (pre' .seated .units) in
     λ starts parameters memory allowance offset.
-    born-by (jobOf (args' .image .now) starts parameters allowance) (meaning (args' .tables .now) ws memory) (turnWith (args' .c) (args' .t) th (args' .weight) (args' .next) offset) (asked (args' .r) (args' .d) (args' .a) (args' .e)) (args' .kind) _ _ _ (goes-above' .result) (c .before .before .before .before .before .before .before .before .before .before .before .before .before .before .before .before .before .before .before .before .before .before .before .before .before .before .before .before .before .before .before .before .before .before .before .before .before .before .before .before .before .before .dequeue .result .first) (find-place' .result) (meaning (args' .tables .now) ws memory .tops)
+    born-by (jobOf (args' .image .now) starts parameters allowance) (meaning (args' .tables .now) ws memory) (turnWith (args' .c) (args' .t) th (args' .weight) (args' .next) offset) (asked (args' .r) (args' .d) (args' .a) (args' .e)) (args' .kind) _ _ _ (goes-above' .result) (c .before .before .before .before .before .before .before .before .before .before .before .before .before .before .before .before .before .before .before .before .before .before .before .before .before .before .before .before .before .before .before .before .before .before .before .before .before .before .before .before .before .before .dequeue .result .first) (find-place' .result) (meaning (args' .tables .now) ws memory .store .tops)
     (first-of _ _ _ (c .before .before .before .before .before .before .before .before .before .before .before .before .before .before .before .before .before .before .before .before .before .before .before .before .before .before .before .before .before .before .before .before .before .before .before .before .before .before .before .before .before .before .before .free-threads .ensures .means l ws memory) (c .before .before .before .before .before .before .before .before .before .before .before .before .before .before .before .before .before .before .before .before .before .before .before .before .before .before .before .before .before .before .before .before .before .before .before .before .before .before .before .before .before .before .dequeue .ensures)) (c .before .before .before .before .before .before .before .before .before .before .before .before .before .before .before .before .before .before .before .before .before .before .before .before .before .before .before .before .before .before .before .before .before .before .before .before .before .before .before .before .first .given .1) (c .before .before .before .before .before .before .before .before .before .before .before .before .before .before .before .before .before .before .before .before .before .before .before .before .before .before .before .before .before .before .before .before .before .before .slots-of2 .ensures) (c .before .before .before .before .before .before .before .before .before .before .before .before .before .before .before .before .before .before .before .before .before .before .before .before .before .before .before .before .before .before .before .before .before .before .before .before .slots-of .ensures) refl
     (goes-above' .ensures ws memory) (find-place' .ensures .1 .0 .means l ws memory) x (spot' .given .1) _ _ _ _ _ _ _ vs (next-base' .result) (c .before .before .before .before .before .before .before .before .before .before .before .arguments-of .result)
     (with-words (args' .tables .now) ws vs memory) (find-place' .ensures .0 .means l vs memory) (hand-out-number' .ensures .means l1 vs memory)

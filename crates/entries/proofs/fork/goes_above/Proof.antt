@@ -24,7 +24,7 @@ returns-2 : tie.Need-returns-2
 returns-2 c =
     let args' = c .before .before .before .before .before .args in
     let pre' = c .before .before .before .before .before .pre in
-    λ words memory. rw (sym (c .before .before .before .is-connected .ensures) ∙ not-false _ (c .before .before .if1 .left), sym (c .before .is-topmost .ensures .means (pre' .0) words memory ∙ ap (λ (k : ℕ). isTopmost (meaning (args' .tables .now) words memory .tops) k (args' .slots)) (mod-eq-of-lt (pre' .1))) ∙ not-true _ (c .if2 .taken))
+    λ words memory. rw (sym (c .before .before .before .is-connected .ensures) ∙ not-false _ (c .before .before .if1 .left), sym (c .before .is-topmost .ensures .means (pre' .0) words memory ∙ ap (λ (k : ℕ). isTopmost (meaning (args' .tables .now) words memory .store .tops) k (args' .slots)) (mod-eq-of-lt (pre' .1))) ∙ not-true _ (c .if2 .taken))
 
 cast-fits : tie.Need-cast-fits
 cast-fits c = search needs
@@ -36,8 +36,8 @@ returns-3 : tie.Need-returns-3
 returns-3 c =
     let args' = c .before .before .before .before .before .before .args in
     let pre' = c .before .before .before .before .before .before .pre in
-    λ words memory. rw (sym (c .before .before .before .before .is-connected .ensures) ∙ not-false _ (c .before .before .before .if1 .left), sym (c .before .before .is-topmost .ensures .means (pre' .0) words memory ∙ ap (λ (k : ℕ). isTopmost (meaning (args' .tables .now) words memory .tops) k (args' .slots)) (mod-eq-of-lt (pre' .1))) ∙ not-false _ (c .before .if2 .left))
-    (c .fits2 .ensures .means (pre' .0) words memory ∙ ap (λ (k : ℕ). fitsOn (meaning (args' .tables .now) words memory .tops) k (args' .wide)) (omega arith))
+    λ words memory. rw (sym (c .before .before .before .before .is-connected .ensures) ∙ not-false _ (c .before .before .before .if1 .left), sym (c .before .before .is-topmost .ensures .means (pre' .0) words memory ∙ ap (λ (k : ℕ). isTopmost (meaning (args' .tables .now) words memory .store .tops) k (args' .slots)) (mod-eq-of-lt (pre' .1))) ∙ not-false _ (c .before .if2 .left))
+    (c .fits2 .ensures .means (pre' .0) words memory ∙ ap (λ (k : ℕ). fitsOn (meaning (args' .tables .now) words memory .store .tops) k (args' .wide)) (omega arith))
 
 pub goes-above-spec : {M : Type 1} → statement M
 goes-above-spec =

@@ -12,7 +12,7 @@ use Rattle.tables.proofs.frames.fits.Tie as tie
 
 returns : tie.Need-returns
 returns c =
-    unread (c .before .before .args .tables .now) (λ s. fitsOn (s .tops) (c .before .before .args .x % 16) (c .before .before .args .slots)) false (c .if1 .taken)
+    unread (c .before .before .args .tables .now) (λ s. fitsOn (s .store .tops) (c .before .before .args .x % 16) (c .before .before .args .slots)) false (c .if1 .taken)
 
 top-at-requires : tie.Need-top-at-requires
 top-at-requires c κs = search needs

@@ -11,7 +11,7 @@ use Rattle.tables.proofs.frames.is_topmost.Tie as tie
 
 returns : tie.Need-returns
 returns c =
-    unread (c .before .before .args .tables .now) (λ s. isTopmost (s .tops) (c .before .before .args .base % 1024) (c .before .before .args .slots)) false (c .if1 .taken)
+    unread (c .before .before .args .tables .now) (λ s. isTopmost (s .store .tops) (c .before .before .args .base % 1024) (c .before .before .args .slots)) false (c .if1 .taken)
 
 cast-top-at : tie.Need-cast-top-at
 cast-top-at c = search needs
