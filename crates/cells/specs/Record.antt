@@ -29,16 +29,16 @@ windowAt xs a = record {
 -- the record at a place
 unfoldable pub recordAt : List ℕ → ℕ → Thread
 recordAt xs a = record {
+  origin = record {
+    routine = getD xs (a + 4) 0;
+    parent = getD xs (a + 5) 0;
+    result = getD xs (a + 6) 0;
+    base = getD xs (a + 8) 0 + 256 * getD xs (a + 9) 0;
+  };
   status = statusOf (getD xs (a + 2) 0);
   connected = not (eqb (getD xs (a + 3) 0) 0);
-  routine = getD xs (a + 4) 0;
-  parent = getD xs (a + 5) 0;
-  result = getD xs (a + 6) 0;
-  children = getD xs (a + 7) 0;
   position = getD xs (a + 0) 0 + 256 * getD xs (a + 1) 0;
-  base = getD xs (a + 8) 0 + 256 * getD xs (a + 9) 0;
-  window = windowAt xs a;
-  pending = getD xs (a + 16) 0 + 256 * getD xs (a + 17) 0;
+  forks = record { children = getD xs (a + 7) 0; window = windowAt xs a; pending = getD xs (a + 16) 0 + 256 * getD xs (a + 17) 0 };
 }
 
 -- the cells of a window
@@ -48,5 +48,5 @@ windowCells w = (w .lo % 256) ∷ (w .lo / 256) ∷ (w .mark % 256) ∷ (w .mark
 -- the cells of a record
 abbrev pub cellsOf : Thread → List ℕ
 cellsOf h =
-    (h .position % 256) ∷ (h .position / 256) ∷ statusNumber (h .status) ∷ bitOf (h .connected) ∷ h .routine ∷ h .parent ∷ h .result ∷ h .children
-    ∷ (h .base % 256) ∷ (h .base / 256) ∷ windowCells (h .window) ++ ((h .pending % 256) ∷ (h .pending / 256) ∷ [])
+    (h .position % 256) ∷ (h .position / 256) ∷ statusNumber (h .status) ∷ bitOf (h .connected) ∷ h .origin .routine ∷ h .origin .parent ∷ h .origin .result ∷ h .forks .children
+    ∷ (h .origin .base % 256) ∷ (h .origin .base / 256) ∷ windowCells (h .forks .window) ++ ((h .forks .pending % 256) ∷ (h .forks .pending / 256) ∷ [])

@@ -1,5 +1,7 @@
 // A thread's record as its 18 bytes: how it is read and how it is stored. Where the records stand is the tables' matter. Nothing is asked of the
 // caller: another number of bytes is read as a free record and never changed.
+use thread::Forks;
+use thread::Origin;
 use thread::Status;
 use thread::Thread;
 use thread::record::blank_thread;
@@ -78,17 +80,23 @@ pub fn read_record(cells: &[u8]) -> Thread
         hi: two(cells[14], cells[15]),
     };
     let status = status_of(cells[2]);
-    Thread {
-        status,
-        connected: cells[3] != 0,
+    let origin = Origin {
         routine: cells[4],
         parent: cells[5],
         result: cells[6],
-        children: cells[7],
-        position: two(cells[0], cells[1]),
         base: two(cells[8], cells[9]),
+    };
+    let forks = Forks {
+        children: cells[7],
         window,
         pending: two(cells[16], cells[17]),
+    };
+    Thread {
+        origin,
+        status,
+        connected: cells[3] != 0,
+        position: two(cells[0], cells[1]),
+        forks,
     }
 }
 
@@ -113,18 +121,18 @@ pub fn write_record(cells: &mut [u8], th: Thread)
         return;
     }
     let status = th.status;
-    let window = th.window;
+    let window = th.forks.window;
     cells[0] = low(th.position);
     cells[1] = high(th.position);
     cells[2] = status_number(status);
     cells[3] = bit(th.connected);
-    cells[4] = th.routine;
-    cells[5] = th.parent;
-    cells[6] = th.result;
-    cells[7] = th.children;
-    cells[8] = low(th.base);
-    cells[9] = high(th.base);
+    cells[4] = th.origin.routine;
+    cells[5] = th.origin.parent;
+    cells[6] = th.origin.result;
+    cells[7] = th.forks.children;
+    cells[8] = low(th.origin.base);
+    cells[9] = high(th.origin.base);
     write_window(cells, window);
-    cells[16] = low(th.pending);
-    cells[17] = high(th.pending);
+    cells[16] = low(th.forks.pending);
+    cells[17] = high(th.forks.pending);
 }

@@ -46,11 +46,11 @@ module _ (j : Job) (s : State) (ok : Sound j s) where
   stacklet-first = first-below (λ x. (x < 16) × (topAt (s .store .tops) x ≡ 0) × Unused s x) 16 (s .queues .freeStacklets) (λ x e. e .0) (ok .freeStacklets .free)
 
   -- a connected thread's parent is in use
-  pub linked-below : (t : ℕ) → threadAt s t .connected ≡ true → threadAt s t .parent < 32
-  linked-below t e = used-below (threadAt s t .parent) (omega (arith, ok .links .linked t e .1))
+  pub linked-below : (t : ℕ) → threadAt s t .connected ≡ true → threadAt s t .origin .parent < 32
+  linked-below t e = used-below (threadAt s t .origin .parent) (omega (arith, ok .links .linked t e .1))
 
   one-child : (p u : ℕ) → isChild s p u ≤ 1
-  one-child p u = go (eqb (statusAt s u) 0) (eqb (threadAt s u .parent) p)
+  one-child p u = go (eqb (statusAt s u) 0) (eqb (threadAt s u .origin .parent) p)
     where
       go : (a b : Bool) → cond a 0 (cond b 1 0) ≤ 1
       go true b = omega arith
@@ -63,5 +63,5 @@ module _ (j : Job) (s : State) (ok : Sound j s) where
   few-children p (suc n) = omega (arith, few-children p n, one-child p n)
 
   -- a thread in use has few children
-  pub children-few : (t : ℕ) → Used s t → threadAt s t .children < 255
+  pub children-few : (t : ℕ) → Used s t → threadAt s t .forks .children < 255
   children-few t u = omega (arith, ok .tree .counted t u, few-children t 32)

@@ -13,7 +13,7 @@ use Rattle.stacklets.specs.Frames.{pushedWords, argumentsAt}
 use Rattle.window.specs.Rights.{childOf, restOf as rest-of, cutAt}
 use Rattle.thread.specs.declared.Status.{Status}
 use Rattle.thread.specs.declared.Thread.{Thread}
-use Rattle.thread.specs.Thread.{newThread, behindFork}
+use Rattle.thread.specs.Thread.{originOf, newThread, behindFork}
 use Rattle.rules.specs.declared.ForkKind.{ForkKind}
 use Rattle.rules.specs.State.{Job, State}
 use Rattle.rules.specs.Update.{accepted, refused, setThread, setTops, setFreeStacklets, setWords, charge}
@@ -62,12 +62,12 @@ module _ (j : Job) (s : State) (o : Turn) (f : Asked) where
   no-number kind first e1 e2 = rw (nothing-empty (s .queues .freeThreads) (sym e1 ∙ e2))
 
   module _ (kind : ForkKind) (n sl size : ℕ) (above : Bool) (first spot : Front) (tops : List ℕ) (e1 : first ≡ firstOf (s .queues .freeThreads))
-      (e2 : first ≡ Number n) (e3 : sl ≡ slotsOf (j .image) (o .thread .routine)) (e4 : size ≡ slotsOf (j .image) (f .routine)) (e0 : tops ≡ s .store .tops)
-      (e5 : above ≡ (isConnected kind && (isTopmost tops (o .thread .base) sl && fitsOn tops (o .thread .base / 64) size)))
-      (e6 : spot ≡ cond above (Number (o .thread .base / 64)) (firstOf (s .queues .freeStacklets))) where
-    place-found : placeOf (goesAbove j s kind (o .thread) (f .routine)) (o .thread .base / 64) (s .queues .freeStacklets) ≡ placeBy spot (leftBy above s .queues .freeStacklets)
+      (e2 : first ≡ Number n) (e3 : sl ≡ slotsOf (j .image) (o .thread .origin .routine)) (e4 : size ≡ slotsOf (j .image) (f .routine)) (e0 : tops ≡ s .store .tops)
+      (e5 : above ≡ (isConnected kind && (isTopmost tops (o .thread .origin .base) sl && fitsOn tops (o .thread .origin .base / 64) size)))
+      (e6 : spot ≡ cond above (Number (o .thread .origin .base / 64)) (firstOf (s .queues .freeStacklets))) where
+    place-found : placeOf (goesAbove j s kind (o .thread) (f .routine)) (o .thread .origin .base / 64) (s .queues .freeStacklets) ≡ placeBy spot (leftBy above s .queues .freeStacklets)
     unfolding goesAbove
-    place-found = rw (← e0, ← e4, ← e3, ← e5) (sym (place-by above (o .thread .base / 64) (s .queues .freeStacklets) spot e6))
+    place-found = rw (← e0, ← e4, ← e3, ← e5) (sym (place-by above (o .thread .origin .base / 64) (s .queues .freeStacklets) spot e6))
 
     pub fork-found : forkOn j s kind o f n (restOf (s .queues .freeThreads)) (placeBy spot (leftBy above s .queues .freeStacklets)) ≡ forkOf j s kind o f
     unfolding forkOf forkWith
@@ -83,7 +83,7 @@ module _ (j : Job) (s : State) (o : Turn) (f : Asked) where
         → s0 ≡ setWords ws s → s1 ≡ leftBy above s0 → s2 ≡ handsOutNumber s1 → s3 ≡ bothRecords kind (o .number) n (o .thread) (o .next) f base s2
         → s4 ≡ charge (o .weight) s3 → s5 ≡ setTops (pushedTops (s4 .store .tops) x size) s4 → s6 ≡ childGoes kind (o .core) n s5
         → base ≡ baseOn (s2 .store .tops) x → ar ≡ argumentsOf (j .image) (f .routine)
-        → ws ≡ pushedWords (s4 .store .tops) (s .store .words) x size (argumentsAt (s .store .words) (o .thread .base + f .first) ar)
+        → ws ≡ pushedWords (s4 .store .tops) (s .store .words) x size (argumentsAt (s .store .words) (o .thread .origin .base + f .first) ar)
         → accepted s6 ≡ forkOf j s kind o f
     unfolding forkOn born
     born-by x e7 s0 s1 s2 s3 s4 s5 s6 ws base ar g0 g1 g2 g3 g4 g5 g6 hb ha hw = go ∙ fork-found
@@ -100,8 +100,8 @@ module _ (j : Job) (s : State) (o : Turn) (f : Asked) where
         hb' : base ≡ baseOn (s .store .tops) x
         hb' = hb ∙ ap (λ (ts : List ℕ). baseOn ts x) same2
 
-        hw' : ws ≡ pushedWords (s .store .tops) (s .store .words) x size (argumentsAt (s .store .words) (o .thread .base + f .first) ar)
-        hw' = hw ∙ ap (λ (ts : List ℕ). pushedWords ts (s .store .words) x size (argumentsAt (s .store .words) (o .thread .base + f .first) ar)) same4
+        hw' : ws ≡ pushedWords (s .store .tops) (s .store .words) x size (argumentsAt (s .store .words) (o .thread .origin .base + f .first) ar)
+        hw' = hw ∙ ap (λ (ts : List ℕ). pushedWords ts (s .store .words) x size (argumentsAt (s .store .words) (o .thread .origin .base + f .first) ar)) same4
 
         go : accepted s6 ≡ forkOn j s kind o f n (restOf (s .queues .freeThreads)) (placeBy spot (leftBy above s .queues .freeStacklets))
         go = rw (g6, g5', g4, g3, g2, g1, g0, hb', hw', ha, e4, e7)
@@ -137,8 +137,8 @@ module _ {xs : List ℕ} (l : length xs ≡ size) (x slots : ℕ) (low : x < 16)
 pub parent-is : (h th : Thread) (st st' : Status) (next d : ℕ) (w w' : Window) → h ≡ behindFork st next d w th → st ≡ st' → w ≡ w' → h ≡ behindFork st' next d w' th
 parent-is h th st st' next d w w' e f g = rw (e, f, g)
 
-pub child-is : (h : Thread) (st st' : Status) (b b' : Bool) (r t d base : ℕ) (w w' : Window) → h ≡ newThread st b r t d base w → st ≡ st' → b ≡ b' → w ≡ w'
-    → h ≡ newThread st' b' r t d base w'
+pub child-is : (h : Thread) (st st' : Status) (b b' : Bool) (r t d base : ℕ) (w w' : Window) → h ≡ newThread (originOf r t d base) st b w → st ≡ st' → b ≡ b' → w ≡ w'
+    → h ≡ newThread (originOf r t d base) st' b' w'
 child-is h st st' b b' r t d base w w' e f g k = rw (e, f, g, k)
 
 -- what is stored before the units leaves them

@@ -96,19 +96,19 @@ module _ {image starts parameters : List ℕ} {allowance : ℕ} {xs ws₀ ms₀ 
     pub first : byte ≡ getD image place 0
 
   -- as the code finds it
-  pub stands : (th : Thread) (start p : ℕ) (five : List ℕ) → th ≡ th₀ → start ≡ getD starts (th .routine) 0 + 0 → five ≡ fiveAt image (start + p)
+  pub stands : (th : Thread) (start p : ℕ) (five : List ℕ) → th ≡ th₀ → start ≡ getD starts (th .origin .routine) 0 + 0 → five ≡ fiveAt image (start + p)
       → Stands p (start + p) (getD five 0 0)
   stands th start p five seen starting bytes = record {
-    there = omega (arith, starting, ap (λ (h : Thread). getD starts (h .routine) 0) seen);
+    there = omega (arith, starting, ap (λ (h : Thread). getD starts (h .origin .routine) 0) seen);
     first = ap (λ (l : List ℕ). getD l 0 0) bytes;
   }
 
   -- its effect
   abbrev pub Does : List ℕ → ℕ → Effect → Type 0
-  Does ws place e = e ≡ effectOf (argumentsOf image) (viewOf (slotOf ws (th₀ .base)) (isPending (th₀ .pending)) (th₀ .window)) (decodedAt image place)
+  Does ws place e = e ≡ effectOf (argumentsOf image) (viewOf (slotOf ws (th₀ .origin .base)) (isPending (th₀ .forks .pending)) (th₀ .forks .window)) (decodedAt image place)
 
   pub does : (th : Thread) (place : ℕ) (ws five : List ℕ) (command : Command) (e : Effect) → th ≡ th₀ → five ≡ fiveAt image place → command ≡ decodedAt five 0
-      → e ≡ effectOf (argumentsOf image) (viewOf (slotOf ws (th .base)) (isPending (th .pending)) (th .window)) command → Does ws place e
+      → e ≡ effectOf (argumentsOf image) (viewOf (slotOf ws (th .origin .base)) (isPending (th .forks .pending)) (th .forks .window)) command → Does ws place e
   does th place ws five command e seen bytes is f = f ∙ rw (seen, is, bytes) refl
 
   many : length (s₀ .threads) ≡ 32
@@ -211,7 +211,7 @@ module _ {image starts parameters : List ℕ} {allowance : ℕ} {xs ws₀ ms₀ 
 
       -- whether it waits, and its weight
       abbrev waits : Bool
-      waits = eqb byte 10 && ltb 0 (th₀ .children)
+      waits = eqb byte 10 && ltb 0 (th₀ .forks .children)
 
       abbrev weight : ℕ
       weight = weightOf standardWeights byte
@@ -224,13 +224,13 @@ module _ {image starts parameters : List ℕ} {allowance : ℕ} {xs ws₀ ms₀ 
 
         wider : Widened (widthOf byte) e
         wider = subst (λ (b : ℕ). Widened (widthOf b) e) byte-is
-            (rw (is, at .there) (wide j (held p left ws ms) sound t (movedTo p th₀) met used (viewOf (slotOf ws (th₀ .base)) (isPending (th₀ .pending)) (th₀ .window))))
+            (rw (is, at .there) (wide j (held p left ws ms) sound t (movedTo p th₀) met used (viewOf (slotOf ws (th₀ .origin .base)) (isPending (th₀ .forks .pending)) (th₀ .forks .window))))
 
-        pub guarded : Guarded (argumentsOf image) (viewOf (slotOf ws (th₀ .base)) (isPending (th₀ .pending)) (th₀ .window)) e
-        guarded = rw (is, at .there) (tested j (held p left ws ms) sound t (movedTo p th₀) met used (viewOf (slotOf ws (th₀ .base)) (isPending (th₀ .pending)) (th₀ .window)))
+        pub guarded : Guarded (argumentsOf image) (viewOf (slotOf ws (th₀ .origin .base)) (isPending (th₀ .forks .pending)) (th₀ .forks .window)) e
+        guarded = rw (is, at .there) (tested j (held p left ws ms) sound t (movedTo p th₀) met used (viewOf (slotOf ws (th₀ .origin .base)) (isPending (th₀ .forks .pending)) (th₀ .forks .window)))
 
         no-join : byte ≡ 10 → IsOther e
-        no-join ten = rw (is, ← at .first, ten) (joins (argumentsOf image) (viewOf (slotOf ws (th₀ .base)) (isPending (th₀ .pending)) (th₀ .window))
+        no-join ten = rw (is, ← at .first, ten) (joins (argumentsOf image) (viewOf (slotOf ws (th₀ .origin .base)) (isPending (th₀ .forks .pending)) (th₀ .forks .window))
             (getD image (place + 1) 0) (getD image (place + 2) 0) (getD image (place + 3) 0) (getD image (place + 4) 0))
 
         -- its weight is left
@@ -243,7 +243,7 @@ module _ {image starts parameters : List ℕ} {allowance : ℕ} {xs ws₀ ms₀ 
               rw (units, set-set (s₀ .threads) t (movedTo p th₀) (movedTo p' th₀)) refl
 
           -- a command that is its own thread's alone
-          pub goes-own : (p' : ℕ) (ws' ms' : List ℕ) → OwnAs e p (th₀ .base) parameters ws ms ws' ms' (Moved p') → Made (suc k) p' (left - weight) ws' ms'
+          pub goes-own : (p' : ℕ) (ws' ms' : List ℕ) → OwnAs e p (th₀ .origin .base) parameters ws ms ws' ms' (Moved p') → Made (suc k) p' (left - weight) ws' ms'
           unfolding meaning
           goes-own p' ws' ms' told =
               goes p' (left - weight) ws' ms' (omega (arith, made .few))
@@ -293,8 +293,8 @@ module _ {image starts parameters : List ℕ} {allowance : ℕ} {xs ws₀ ms₀ 
                 units = omega (arith, units, enough, made .few, small);
                 base = rw same (based j (held p left ws ms) sound t (movedTo p th₀) met used);
               } in
-              carrying (argumentsOf image) (slotOf ws (th₀ .base)) (isPending (th₀ .pending)) (th₀ .window) ys c t weight
-              (sym (ap (λ (h : Thread). h .window) same)) seated (linked-below j (meaning ys ws ms) ok t) (rw same (few j (held p left ws ms) sound t (movedTo p th₀) met used))
+              carrying (argumentsOf image) (slotOf ws (th₀ .origin .base)) (isPending (th₀ .forks .pending)) (th₀ .forks .window) ys c t weight
+              (sym (ap (λ (h : Thread). h .forks .window) same)) seated (linked-below j (meaning ys ws ms) ok t) (rw same (few j (held p left ws ms) sound t (movedTo p th₀) met used))
               (free-first j (meaning ys ws ms) ok) (stacklet-first j (meaning ys ws ms) ok) e (guarded e is) other
 
           pub ends-rest : (more : ℕ) (r : Carried) (zs vs : List ℕ) → k ≤ more → r .again ≡ k

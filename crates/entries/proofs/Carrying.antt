@@ -33,6 +33,6 @@ many xs words memory = length-from 0 32 _
 
 -- a thread that goes on is linked as before
 pub linked-on : (xs ys : List ℕ) (c t w next offset : ℕ) → t < 32 → meaning ys [] [] ≡ goesOn (turnIn xs c t w next offset) (meaning xs [] [])
-    → (recordIn xs t .connected ≡ true → recordIn xs t .parent < 32) → recordIn ys t .connected ≡ true → recordIn ys t .parent < 32
+    → (recordIn xs t .connected ≡ true → recordIn xs t .origin .parent < 32) → recordIn ys t .connected ≡ true → recordIn ys t .origin .parent < 32
 linked-on xs ys c t w next offset h e f =
     rw (e, getD-set-same (meaning xs [] [] .threads) t (movedTo next (recordIn xs t)) blankThread (omega (arith, many xs [] []))) f

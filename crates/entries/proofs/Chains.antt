@@ -19,7 +19,7 @@ use Rattle.tables.specs.Meaning.{size, meaning}
 -- a connected thread leaves, and its parent runs
 pub leaves-lent : (c t : ℕ) (status : Status) (s s1 s2 s3 : State) (th q a b : Thread)
     → th ≡ threadAt s t → th .connected ≡ true → a ≡ disconnected status th → s1 ≡ setThread t a s
-    → q ≡ threadAt s1 (th .parent) → b ≡ withStatus Running q → s2 ≡ setThread (th .parent) b s1 → s3 ≡ setCore c (th .parent) s2
+    → q ≡ threadAt s1 (th .origin .parent) → b ≡ withStatus Running q → s2 ≡ setThread (th .origin .parent) b s1 → s3 ≡ setCore c (th .origin .parent) s2
     → s3 ≡ leaves c t status s
 unfolding leaves
 leaves-lent c t status s s1 s2 s3 th q a b ht hc ha g1 hq hb g2 g3 = rw (g3, g2, hb, hq, g1, ha, ← ht, hc)

@@ -17,15 +17,15 @@ use Rattle.rules.specs.Turn.{Turn}
 use Rattle.rules.specs.Return.{stackletsWithout, freed, statusAfter, readyAfter, returnToParent, returnOf}
 
 pub freed-by : (o : Turn) (s s1 s2 s3 s4 s5 : State) (b : Thread)
-    → s1 ≡ charge (o .weight) s → s2 ≡ setTops (poppedTops (s1 .store .tops) (o .thread .base)) s1
-    → s3 ≡ setFreeStacklets (stackletsWithout (o .thread .base) (s2 .queues .freeStacklets)) s2
+    → s1 ≡ charge (o .weight) s → s2 ≡ setTops (poppedTops (s1 .store .tops) (o .thread .origin .base)) s1
+    → s3 ≡ setFreeStacklets (stackletsWithout (o .thread .origin .base) (s2 .queues .freeStacklets)) s2
     → s4 ≡ setFreeThreads (appended capacity (s3 .queues .freeThreads) (o .number)) s3
     → b ≡ blankThread → s5 ≡ setThread (o .number) b s4 → s5 ≡ freed o s
 freed-by o s s1 s2 s3 s4 s5 b g1 g2 g3 g4 hb g5 = rw (g5, hb, g4, g3, g2, g1)
 
 pub returned-by : (o : Turn) (p v : ℕ) (s sw s1 s2 s3 s4 : State) (q a : Thread) (st : Status) (words : List ℕ) (k : ℕ) (b : Bool)
-    → b ≡ isRoot (o .thread) → b ≡ false → p ≡ o .thread .parent
-    → q ≡ threadAt s p → sw ≡ setWords words s → s1 ≡ freed o sw → words ≡ set (s .store .words) (q .base + o .thread .result) v
+    → b ≡ isRoot (o .thread) → b ≡ false → p ≡ o .thread .origin .parent
+    → q ≡ threadAt s p → sw ≡ setWords words s → s1 ≡ freed o sw → words ≡ set (s .store .words) (q .origin .base + o .thread .origin .result) v
     → st ≡ statusAfter (o .thread .connected) q → a ≡ withoutChild st q → s2 ≡ setThread p a s1
     → s3 ≡ setReady (readyAfter (o .thread .connected) q p (s2 .queues .ready)) s2
     → k ≡ cond (o .thread .connected) p none → s4 ≡ setCore (o .core) k s3

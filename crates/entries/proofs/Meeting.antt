@@ -32,27 +32,27 @@ use Rattle.dispatch.proofs.Able.{children-few}
 
 module _ (j : Job) (s : State) (ok : Sound j s) (t : ℕ) (th : Thread) (met : th ≡ threadAt s t) (used : Used s t) where
   pub place-low : offsetOf j th < 65536
-  place-low = rw met (place-small j (ok .job) (threadAt s t .routine) (threadAt s t .position) (ok .placed .routine t used) (ok .placed .position t used))
+  place-low = rw met (place-small j (ok .job) (threadAt s t .origin .routine) (threadAt s t .position) (ok .placed .routine t used) (ok .placed .position t used))
 
   pub next-low : th .position + widthOf (byteOf j th) < 65536
-  next-low = rw met (next-small j (ok .job) (threadAt s t .routine) (threadAt s t .position) (ok .placed .routine t used) (ok .placed .position t used))
+  next-low = rw met (next-small j (ok .job) (threadAt s t .origin .routine) (threadAt s t .position) (ok .placed .routine t used) (ok .placed .position t used))
 
   pub known-byte : byteOf j th < length (j .weights)
-  known-byte = rw met (byte-few j (ok .job) (threadAt s t .routine) (threadAt s t .position) (ok .placed .routine t used) (ok .placed .position t used))
+  known-byte = rw met (byte-few j (ok .job) (threadAt s t .origin .routine) (threadAt s t .position) (ok .placed .routine t used) (ok .placed .position t used))
 
   pub range : InRange (decodedAt (j .image) (offsetOf j th))
-  range = rw met (operands-few j (ok .job) (threadAt s t .routine) (threadAt s t .position) (ok .placed .routine t used) (ok .placed .position t used))
+  range = rw met (operands-few j (ok .job) (threadAt s t .origin .routine) (threadAt s t .position) (ok .placed .routine t used) (ok .placed .position t used))
 
   pub tested : (own : Own) → Guarded (argumentsOf (j .image)) own (effectOf (argumentsOf (j .image)) own (decodedAt (j .image) (offsetOf j th)))
-  tested own = rw met (tested-here j (ok .job) (threadAt s t .routine) (threadAt s t .position) (ok .placed .routine t used) (ok .placed .position t used) own)
+  tested own = rw met (tested-here j (ok .job) (threadAt s t .origin .routine) (threadAt s t .position) (ok .placed .routine t used) (ok .placed .position t used) own)
 
   pub wide : (own : Own) → Widened (widthOf (byteOf j th)) (effectOf (argumentsOf (j .image)) own (decodedAt (j .image) (offsetOf j th)))
-  wide own = rw met (width-here j (ok .job) (threadAt s t .routine) (threadAt s t .position) (ok .placed .routine t used) (ok .placed .position t used) own)
+  wide own = rw met (width-here j (ok .job) (threadAt s t .origin .routine) (threadAt s t .position) (ok .placed .routine t used) (ok .placed .position t used) own)
 
-  pub few : th .children < 255
+  pub few : th .forks .children < 255
   few = rw met (children-few j s ok t used)
 
-  pub based : th .base < 1024
+  pub based : th .origin .base < 1024
   based = rw met (ok .frames .bounded t used)
 
 small : (x : ℕ) → x < 65536 → x % 2 ^ 16 ≡ x
@@ -91,8 +91,8 @@ module _ (arguments slot : ℕ → ℕ) (pending : ℕ → Bool) (w : Window) wh
   stored Yields g = tt
   stored (Returns v) g = tt
 
-  module _ (xs : List ℕ) (c t weight : ℕ) (is-window : w ≡ recordIn xs t .window) (seated : Seated xs c t weight)
-      (linked : recordIn xs t .connected ≡ true → recordIn xs t .parent < 32) (fewer : recordIn xs t .children < 255)
+  module _ (xs : List ℕ) (c t weight : ℕ) (is-window : w ≡ recordIn xs t .forks .window) (seated : Seated xs c t weight)
+      (linked : recordIn xs t .connected ≡ true → recordIn xs t .origin .parent < 32) (fewer : recordIn xs t .forks .children < 255)
       (numbers : HeadBelow 32 (meaning xs [] [] .queues .freeThreads)) (stacklets : HeadBelow 16 (meaning xs [] [] .queues .freeStacklets)) where
     pub carrying : (e : Effect) → Guarded arguments (viewOf slot pending w) e → IsOther e → Carrying xs c t weight e
     carrying (Faults n) g o = seated .sized

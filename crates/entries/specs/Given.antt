@@ -16,7 +16,7 @@ use Rattle.thread.specs.declared.Effect.the-variants.{Faults, Sets, Loads, Stor
 use Rattle.thread.specs.Effect.{forking}
 use Rattle.thread.specs.View.{viewOf}
 use Rattle.thread.specs.declared.Status.{Status}
-use Rattle.thread.specs.Thread.{newThread, behindFork, joinedAt, isPending}
+use Rattle.thread.specs.Thread.{originOf, newThread, behindFork, joinedAt, isPending}
 use Rattle.rules.specs.State.{jobOf, State, threadAt}
 use Rattle.rules.specs.Update.{setThread, setFreeThreads, setFreeStacklets, setReady}
 use Rattle.rules.specs.Turn.{Turn, done, goesOn}
@@ -45,7 +45,7 @@ pub record Leaving (xs : List ℕ) (c t : ℕ) : Type 0 where
   pub sized : length xs ≡ size
   pub core : c < 4
   pub number : t < 32
-  pub linked : recordIn xs t .connected ≡ true → recordIn xs t .parent < 32
+  pub linked : recordIn xs t .connected ≡ true → recordIn xs t .origin .parent < 32
 
 -- a turn whose thread is in the tables, with room for its weight
 pub record Seated (xs : List ℕ) (c t weight : ℕ) : Type 0 where
@@ -53,32 +53,32 @@ pub record Seated (xs : List ℕ) (c t weight : ℕ) : Type 0 where
   pub core : c < 4
   pub number : t < 32
   pub units : meaning xs [] [] .units + weight < 2 ^ 32
-  pub base : recordIn xs t .base < 1024
+  pub base : recordIn xs t .origin .base < 1024
 
 -- a fork with its result slot and its cut
 pub record Forking (xs : List ℕ) (c t weight d e : ℕ) : Type 0 where
   pub seated : Seated xs c t weight
-  pub children : recordIn xs t .children < 255
+  pub children : recordIn xs t .forks .children < 255
   pub numbers : HeadBelow 32 (meaning xs [] [] .queues .freeThreads)
   pub stacklets : HeadBelow 16 (meaning xs [] [] .queues .freeStacklets)
   pub result : d < 16
-  pub low : recordIn xs t .window .mark ≤ e
-  pub high : e ≤ recordIn xs t .window .hi
+  pub low : recordIn xs t .forks .window .mark ≤ e
+  pub high : e ≤ recordIn xs t .forks .window .hi
 
 -- both records of a fork can be stored: the numbers are in the tables, the slot and the cut in range
 pub record Cutting (th : Thread) (t n d e : ℕ) : Type 0 where
   pub parent : t < 32
   pub child : n < 32
-  pub children : th .children < 255
+  pub children : th .forks .children < 255
   pub result : d < 16
-  pub low : th .window .mark ≤ e
-  pub high : e ≤ th .window .hi
+  pub low : th .forks .window .mark ≤ e
+  pub high : e ≤ th .forks .window .hi
 
 -- thread t's record behind a fork, which was th, and its child's, thread n with its frame at a base
 abbrev pub bothRecords : ForkKind → ℕ → ℕ → Thread → ℕ → Asked → ℕ → State → State
 bothRecords kind t n th next f base s =
-    setThread n (newThread (childStatus kind) (isConnected kind) (f .routine) t (f .result) base (childOf (th .window) (f .cut)))
-    (setThread t (behindFork (parentStatus kind) next (f .result) (restOfWindow (th .window) (f .cut)) th) s)
+    setThread n (newThread (originOf (f .routine) t (f .result) base) (childStatus kind) (isConnected kind) (childOf (th .forks .window) (f .cut)))
+    (setThread t (behindFork (parentStatus kind) next (f .result) (restOfWindow (th .forks .window) (f .cut)) th) s)
 
 -- the free stacklets that are left by a new frame: all where it goes above its parent's, or else all but the first
 abbrev pub leftBy : Bool → State → State
@@ -104,7 +104,7 @@ placeBy Nothing xs = nowhere
 -- the effect of a fork's operands on a thread, whichever of the two forks it is
 abbrev pub seedOf : List ℕ → List ℕ → Thread → ℕ → ℕ → ℕ → ℕ → Effect
 seedOf image words h r d a w =
-    forking (argumentsOf image) (viewOf (slotOf words (h .base)) (isPending (h .pending)) (h .window)) r d a w (Forks r d a (slotOf words (h .base) w))
+    forking (argumentsOf image) (viewOf (slotOf words (h .origin .base)) (isPending (h .forks .pending)) (h .forks .window)) r d a w (Forks r d a (slotOf words (h .origin .base) w))
 
 -- what carrying out a seed relies on: it forks, or it faults
 abbrev pub Seed : List ℕ → ℕ → ℕ → ℕ → Effect → Type 0
@@ -131,7 +131,7 @@ pub record Stealing (image starts : List ℕ) (allowance : ℕ) (xs words : List
 -- a thread that leaves its core once its command is done
 pub record Standing (xs : List ℕ) (c t weight : ℕ) : Type 0 where
   pub seated : Seated xs c t weight
-  pub linked : recordIn xs t .connected ≡ true → recordIn xs t .parent < 32
+  pub linked : recordIn xs t .connected ≡ true → recordIn xs t .origin .parent < 32
 
 -- what carrying out a command relies on, if its effect is not its own thread's alone
 abbrev pub Carrying : List ℕ → ℕ → ℕ → ℕ → Effect → Type 0

@@ -57,7 +57,7 @@ withBoth words memory s = withStore (record { tops = s .store .tops; words = wor
 -- the rule carries out an effect on the frame at a base so, whatever the state around it
 abbrev pub CarriedSo : Effect → ℕ → ℕ → List ℕ → List ℕ → List ℕ → List ℕ → List ℕ → ℕ → Type 0
 CarriedSo e position base parameters ws ms ws' ms' p =
-    (j : Job) (s : State) (o : Turn) → j .parameters ≡ parameters → s .store .words ≡ ws → s .store .memory ≡ ms → o .thread .base ≡ base → o .next ≡ (position + bytesBy e) % 2 ^ 16
+    (j : Job) (s : State) (o : Turn) → j .parameters ≡ parameters → s .store .words ≡ ws → s .store .memory ≡ ms → o .thread .origin .base ≡ base → o .next ≡ (position + bytesBy e) % 2 ^ 16
     → carriedOf j s o e ≡ accepted (done o (movedTo p (o .thread)) (withBoth ws' ms' s))
 
 -- what the answer says: the rule carries the effect out so; or it is of another kind, and nothing has changed

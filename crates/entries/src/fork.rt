@@ -20,6 +20,7 @@ use tables::marks::charge;
 use tables::marks::put_core;
 use tables::records::put_thread;
 use tables::records::thread_at;
+use thread::Origin;
 use thread::Thread;
 use thread::record::behind_fork;
 use thread::record::new_thread;
@@ -108,7 +109,7 @@ fn put_records(
     requires { ⌜ Cutting th t n d e ⌝ }
     ensures { λ _. ⌜ Becomes (now (tables .entry)) (now (tables .exit)) (bothRecords kind t n th next (asked r d 0 e) base) ⌝ }
 {
-    let window = th.window;
+    let window = th.forks.window;
     let cut = window.cut(e);
     let Cut::Parts { child, rest } = cut else {
         return;
@@ -117,11 +118,13 @@ fn put_records(
     put_thread(tables, t, parent);
     let status = child_status(kind);
     let connected = is_connected(kind);
-    put_thread(
-        tables,
-        n,
-        new_thread(status, connected, r, t, d, base, child),
-    );
+    let origin = Origin {
+        routine: r,
+        parent: t,
+        result: d,
+        base,
+    };
+    put_thread(tables, n, new_thread(origin, status, connected, child));
 }
 
 // Thread t, met by core c, forks routine r: its value to slot d, arguments from slot a on, cut e; behind the command is `next`. The log byte is
@@ -149,9 +152,9 @@ pub fn fork(
         return 20;
     };
     let th = thread_at(tables, t);
-    let base = th.base;
+    let base = th.origin.base;
     let wide = slots_of(image, r);
-    let above = goes_above(tables, kind, base, slots_of(image, th.routine), wide);
+    let above = goes_above(tables, kind, base, slots_of(image, th.origin.routine), wide);
     let spot = find_place(tables, above, base);
     let Front::Number(x) = spot else {
         return 21;

@@ -17,7 +17,7 @@ pub fn leave(tables: &mut [u8], c: u8, t: u8, status: Status)
     let th = thread_at(tables, t);
     put_thread(tables, t, disconnected(th, status));
     if th.connected {
-        let p = th.parent;
+        let p = th.origin.parent;
         let q = thread_at(tables, p);
         put_thread(tables, p, with_status(q, Status::Running));
         put_core(tables, c, p);

@@ -56,7 +56,7 @@ fn free_thread(tables: &mut [u8], t: u8, weight: u8)
     ensures { λ _. ⌜ ((c next offset : ℕ) → Becomes (now (tables .entry)) (now (tables .exit)) (freed (turnIn (now (tables .entry)) c t weight next offset))) ⌝ }
 {
     let th = thread_at(tables, t);
-    let base = th.base;
+    let base = th.origin.base;
     charge(tables, weight);
     pop_frame(tables, base);
     give_back(tables, base);
@@ -76,11 +76,11 @@ pub fn return_value(tables: &mut [u8], words: &mut [u32], c: u8, t: u8, weight: 
         finish(tables, v);
         return;
     }
-    let p = th.parent;
+    let p = th.origin.parent;
     let connected = th.connected;
     let q = thread_at(tables, p);
     free_thread(tables, t, weight);
-    set_slot(words, q.base, th.result, v);
+    set_slot(words, q.origin.base, th.origin.result, v);
     put_thread(tables, p, without_child(q, status_after(connected, q)));
     wake(tables, connected, q, p);
     put_core(tables, c, core_after(connected, p));

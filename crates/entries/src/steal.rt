@@ -29,12 +29,12 @@ ghost use Rattle.dispatch.specs.Orderly.{after};
 fn seed_of(th: Thread, five: [u8; 5], image: &[u8], words: &[u32]) -> Effect
     ensures { λ x. ⌜ x ≡ seedOf (now (image .entry)) (now (words .entry)) th (getD five 1 0) (getD five 2 0) (getD five 3 0) (getD five 4 0) ⌝ }
 {
-    let window = th.window;
+    let window = th.forks.window;
     effects::fork(
         image,
         words,
-        th.base,
-        th.pending,
+        th.origin.base,
+        th.forks.pending,
         window,
         five[1],
         five[2],
@@ -110,7 +110,7 @@ pub fn steal(
     if !same_status(status, Status::Lent) {
         return 18;
     }
-    let place = place_in_image(starts, th.routine, th.position);
+    let place = place_in_image(starts, th.origin.routine, th.position);
     let five = five_at(image, place);
     if !is_fork(five[0]) {
         return 18;

@@ -103,8 +103,8 @@ fn burst(
     ensures { λ r. ⌜ Repeats (jobOf (now (image .entry)) (now (starts .entry)) (now (parameters .entry)) allowance) (meaning (now (tables .entry)) (now (words .entry)) (now (memory .entry))) (Step c) more r (meaning (now (tables .exit)) (now (words .exit)) (now (memory .exit))) ⌝ }
 {
     let th = thread_at(tables, t);
-    let start = place_in_image(starts, th.routine, 0);
-    let window = th.window;
+    let start = place_in_image(starts, th.origin.routine, 0);
+    let window = th.forks.window;
     // held by the loop: a constant table is laid out anew where it is named
     let weights = weights();
     let mut position = th.position;
@@ -114,13 +114,20 @@ fn burst(
         let place = start + (position as usize);
         let five = five_at(image, place);
         let cost = weights[five[0] as usize];
-        let waits = must_wait(five[0], th.children);
+        let waits = must_wait(five[0], th.forks.children);
         if falls_short(left, cost) {
             put_back(tables, t, position, allowance - left);
             return told(more - rest, fall_short(tables, c, t, waits));
         }
-        let done = effect(command_of(five), image, words, th.base, th.pending, window);
-        let own = carry_own(done, position, th.base, parameters, words, memory);
+        let done = effect(
+            command_of(five),
+            image,
+            words,
+            th.origin.base,
+            th.forks.pending,
+            window,
+        );
+        let own = carry_own(done, position, th.origin.base, parameters, words, memory);
         match own {
             Own::Moved(next) => {
                 position = next;

@@ -9,7 +9,7 @@ use Rattle.stacklets.specs.Frames.{argumentsAt, pushedWords}
 use Rattle.thread.specs.declared.Thread.{Thread}
 use Rattle.thread.specs.declared.Status.{Status}
 use Rattle.thread.specs.declared.Status.the-variants.{Running, Ready, Lent}
-use Rattle.thread.specs.Thread.{newThread, behindFork}
+use Rattle.thread.specs.Thread.{originOf, newThread, behindFork}
 use Rattle.rules.specs.declared.ForkKind.{ForkKind}
 use Rattle.rules.specs.declared.ForkKind.the-variants.{Called, Queued, Stolen}
 use Rattle.rules.specs.State.{Job, State, After}
@@ -52,7 +52,7 @@ childGoes Stolen c n s = setCore c n s
 -- "goes above its parent's frame when an lfork makes it, the parent's frame is topmost there and it fits": not for a steal
 unfoldable pub goesAbove : Job → State → ForkKind → Thread → ℕ → Bool
 goesAbove j s kind h r =
-    isConnected kind && (isTopmost (s .store .tops) (h .base) (slotsOf (j .image) (h .routine)) && fitsOn (s .store .tops) (h .base / 64) (slotsOf (j .image) r))
+    isConnected kind && (isTopmost (s .store .tops) (h .origin .base) (slotsOf (j .image) (h .origin .routine)) && fitsOn (s .store .tops) (h .origin .base / 64) (slotsOf (j .image) r))
 
 -- the stacklet of a new frame, with the free stacklets that are left: "otherwise on a free stacklet"
 pub data Place : Type 0 where
@@ -72,11 +72,11 @@ born j s kind o f n ns x xs =
     (setFreeStacklets xs
     (setTops (pushedTops (s .store .tops) x (slotsOf (j .image) (f .routine)))
     (setWords (pushedWords (s .store .tops) (s .store .words) x (slotsOf (j .image) (f .routine))
-    (argumentsAt (s .store .words) (o .thread .base + f .first) (argumentsOf (j .image) (f .routine))))
+    (argumentsAt (s .store .words) (o .thread .origin .base + f .first) (argumentsOf (j .image) (f .routine))))
     (charge (o .weight)
-    (setThread n (newThread (childStatus kind) (isConnected kind) (f .routine) (o .number) (f .result) (baseOn (s .store .tops) x)
-    (childOf (o .thread .window) (f .cut)))
-    (setThread (o .number) (behindFork (parentStatus kind) (o .next) (f .result) (restOf (o .thread .window) (f .cut)) (o .thread)) s)))))))
+    (setThread n (newThread (originOf (f .routine) (o .number) (f .result) (baseOn (s .store .tops) x)) (childStatus kind) (isConnected kind)
+    (childOf (o .thread .forks .window) (f .cut)))
+    (setThread (o .number) (behindFork (parentStatus kind) (o .next) (f .result) (restOf (o .thread .forks .window) (f .cut)) (o .thread)) s)))))))
 
 -- "21: a stacklet is needed and none is free"
 unfoldable pub forkOn : Job → State → ForkKind → Turn → Asked → ℕ → List ℕ → Place → After
@@ -87,7 +87,7 @@ forkOn j s kind o f n ns nowhere = refused 21 s
 unfoldable pub forkWith : Job → State → ForkKind → Turn → Asked → List ℕ → After
 forkWith j s kind o f [] = refused 20 s
 forkWith j s kind o f (n ∷ ns) =
-    forkOn j s kind o f n ns (placeOf (goesAbove j s kind (o .thread) (f .routine)) (o .thread .base / 64) (s .queues .freeStacklets))
+    forkOn j s kind o f n ns (placeOf (goesAbove j s kind (o .thread) (f .routine)) (o .thread .origin .base / 64) (s .queues .freeStacklets))
 
 unfoldable pub forkOf : Job → State → ForkKind → Turn → Asked → After
 forkOf j s kind o f = forkWith j s kind o f (s .queues .freeThreads)

@@ -16,5 +16,5 @@ runs c p s = setCore c p (setThread p (withStatus Running (threadAt s p)) s)
 unfoldable pub leaves : ℕ → ℕ → Status → State → State
 leaves c t status s =
     cond (threadAt s t .connected)
-    (runs c (threadAt s t .parent) (setThread t (disconnected status (threadAt s t)) s))
+    (runs c (threadAt s t .origin .parent) (setThread t (disconnected status (threadAt s t)) s))
     (setCore c none (setThread t (disconnected status (threadAt s t)) s))

@@ -22,13 +22,13 @@ abbrev pub freed : Turn → State → State
 freed o s =
     setThread (o .number) blankThread
     (setFreeThreads (appended capacity (s .queues .freeThreads) (o .number))
-    (setFreeStacklets (stackletsWithout (o .thread .base) (s .queues .freeStacklets))
-    (setTops (poppedTops (s .store .tops) (o .thread .base))
+    (setFreeStacklets (stackletsWithout (o .thread .origin .base) (s .queues .freeStacklets))
+    (setTops (poppedTops (s .store .tops) (o .thread .origin .base))
     (charge (o .weight) s))))
 
 -- "a waiting parent whose children have all ended joins the ready line and is ready"
 unfoldable pub wakes : Bool → Thread → Bool
-wakes connected q = not connected && (q .status is Waiting && eqb (q .children) 1)
+wakes connected q = not connected && (q .status is Waiting && eqb (q .forks .children) 1)
 
 -- "A connected child's parent runs on"
 unfoldable pub statusAfter : Bool → Thread → Status
@@ -44,10 +44,10 @@ returnToParent s o p q v =
     setCore (o .core) (cond (o .thread .connected) p none)
     (setReady (readyAfter (o .thread .connected) q p (s .queues .ready))
     (setThread p (withoutChild (statusAfter (o .thread .connected) q) q)
-    (setSlot q (o .thread .result) v (freed o s))))
+    (setSlot q (o .thread .origin .result) v (freed o s))))
 
 -- "The root's return gives the result and finishes the machine"
 unfoldable pub returnOf : State → Turn → ℕ → State
 returnOf s o v =
     cond (isRoot (o .thread)) (setOutcome (finished v) (setCore (o .core) none (freed o s)))
-    (returnToParent s o (o .thread .parent) (threadAt s (o .thread .parent)) v)
+    (returnToParent s o (o .thread .origin .parent) (threadAt s (o .thread .origin .parent)) v)

@@ -26,7 +26,7 @@ Used s t = 0 < statusAt s t
 
 -- the number of words in thread t's frame
 abbrev pub sizeAt : Job → State → ℕ → ℕ
-sizeAt j s t = slotsOf (j .image) (threadAt s t .routine)
+sizeAt j s t = slotsOf (j .image) (threadAt s t .origin .routine)
 
 -- the tables have their sizes; "1 to 4 cores; 32 thread numbers; 16 stacklets of 64 words"; "units at most the allowance"
 pub record Sized (j : Job) (s : State) : Type 0 where
@@ -41,10 +41,10 @@ pub record Sized (j : Job) (s : State) : Type 0 where
 
 -- "each position a command's start"; "every field in range"; a waiting thread's next command is a join
 pub record Placed (j : Job) (s : State) : Type 0 where
-  pub routine : (t : ℕ) → Used s t → threadAt s t .routine < countOf (j .image)
-  pub position : (t : ℕ) → Used s t → isStart (commandsOf (codeOf (j .image) (threadAt s t .routine))) (threadAt s t .position) ≡ true
-  pub pending : (t : ℕ) → Used s t → threadAt s t .pending < 65536
-  pub result : (t : ℕ) → Used s t → threadAt s t .result < 16
+  pub routine : (t : ℕ) → Used s t → threadAt s t .origin .routine < countOf (j .image)
+  pub position : (t : ℕ) → Used s t → isStart (commandsOf (codeOf (j .image) (threadAt s t .origin .routine))) (threadAt s t .position) ≡ true
+  pub pending : (t : ℕ) → Used s t → threadAt s t .forks .pending < 65536
+  pub result : (t : ℕ) → Used s t → threadAt s t .origin .result < 16
   pub join : (t : ℕ) → IsWaiting s t → byteOf j (threadAt s t) ≡ 10
 
 -- "running threads and cores match"
@@ -55,10 +55,10 @@ pub record Seats (s : State) : Type 0 where
 
 -- "lent threads and connected children, these running or lent, match"
 pub record Links (s : State) : Type 0 where
-  pub lent : (p : ℕ) → IsLent s p → (u : ℕ) × (threadAt s u .connected ≡ true) × (threadAt s u .parent ≡ p)
+  pub lent : (p : ℕ) → IsLent s p → (u : ℕ) × (threadAt s u .connected ≡ true) × (threadAt s u .origin .parent ≡ p)
   pub linked : (u : ℕ) → threadAt s u .connected ≡ true
-      → (IsRunning s u ⊎ IsLent s u) × IsLent s (threadAt s u .parent)
-  pub only : (u v : ℕ) → threadAt s u .connected ≡ true → threadAt s v .connected ≡ true → threadAt s u .parent ≡ threadAt s v .parent → u ≡ v
+      → (IsRunning s u ⊎ IsLent s u) × IsLent s (threadAt s u .origin .parent)
+  pub only : (u v : ℕ) → threadAt s u .connected ≡ true → threadAt s v .connected ≡ true → threadAt s u .origin .parent ≡ threadAt s v .origin .parent → u ≡ v
 
 -- "a ready thread stands once in the line .. and nothing else does"
 pub record Turns (s : State) : Type 0 where
@@ -68,7 +68,7 @@ pub record Turns (s : State) : Type 0 where
 
 -- the used children of thread t among the first n threads
 abbrev pub isChild : State → ℕ → ℕ → ℕ
-isChild s t u = cond (threadAt s u .status is Free) 0 (cond (eqb (threadAt s u .parent) t) 1 0)
+isChild s t u = cond (threadAt s u .status is Free) 0 (cond (eqb (threadAt s u .origin .parent) t) 1 0)
 
 unfoldable pub childrenAmong : State → ℕ → ℕ → ℕ
 childrenAmong s t zero = 0
@@ -77,29 +77,29 @@ childrenAmong s t (suc n) = isChild s t n + childrenAmong s t n
 -- "child counts agree with the fork tree, whose root is thread 0 .. (once finished, and only then, no thread is in use)";
 -- "a waiting thread has a child that has not ended". Ranks rise from parent to child, so there is no cycle
 pub record Tree (s : State) : Type 0 where
-  pub waits : (t : ℕ) → IsWaiting s t → 0 < threadAt s t .children
-  pub counted : (t : ℕ) → Used s t → threadAt s t .children ≡ childrenAmong s t 32
+  pub waits : (t : ℕ) → IsWaiting s t → 0 < threadAt s t .forks .children
+  pub counted : (t : ℕ) → Used s t → threadAt s t .forks .children ≡ childrenAmong s t 32
   pub rank : ℕ → ℕ
   pub deep : ℕ
   pub low : (t : ℕ) → rank t < deep
   pub tree : (t : ℕ) → Used s t
-      → ((t ≡ 0) × (threadAt s t .parent ≡ none)) ⊎ ((t ≡ 0 → ⊥) × Used s (threadAt s t .parent) × (rank (threadAt s t .parent) < rank t))
+      → ((t ≡ 0) × (threadAt s t .origin .parent ≡ none)) ⊎ ((t ≡ 0 → ⊥) × Used s (threadAt s t .origin .parent) × (rank (threadAt s t .origin .parent) < rank t))
   pub root : ((v : ℕ) → s .outcome ≡ finished v → ⊥) → Used s 0
   pub over : (v : ℕ) → s .outcome ≡ finished v → (t : ℕ) → IsFree s t
 
 -- "unended children's result slots are pending and distinct"
 pub record Results (s : State) : Type 0 where
-  pub pending : (u : ℕ) → Used s u → (u ≡ 0 → ⊥) → isPending (threadAt s (threadAt s u .parent) .pending) (threadAt s u .result) ≡ true
-  pub distinct : (u v : ℕ) → Used s u → Used s v → threadAt s u .parent ≡ threadAt s v .parent → threadAt s u .result ≡ threadAt s v .result → u ≡ v
+  pub pending : (u : ℕ) → Used s u → (u ≡ 0 → ⊥) → isPending (threadAt s (threadAt s u .origin .parent) .forks .pending) (threadAt s u .origin .result) ≡ true
+  pub distinct : (u v : ℕ) → Used s u → Used s v → threadAt s u .origin .parent ≡ threadAt s v .origin .parent → threadAt s u .origin .result ≡ threadAt s v .origin .result → u ≡ v
 
 -- windows are good; the root's is 32 to 1,024; children's "lie apart in what the parent cut off"
 pub record Windows (s : State) : Type 0 where
-  pub fits : (t : ℕ) → Used s t → Fits (threadAt s t .window)
-  pub root : Used s 0 → (threadAt s 0 .window .lo ≡ 32) × (threadAt s 0 .window .hi ≡ 1024)
+  pub fits : (t : ℕ) → Used s t → Fits (threadAt s t .forks .window)
+  pub root : Used s 0 → (threadAt s 0 .forks .window .lo ≡ 32) × (threadAt s 0 .forks .window .hi ≡ 1024)
   pub inside : (u : ℕ) → Used s u → (u ≡ 0 → ⊥)
-      → (threadAt s (threadAt s u .parent) .window .lo ≤ threadAt s u .window .lo) × (threadAt s u .window .hi ≤ threadAt s (threadAt s u .parent) .window .mark)
-  pub apart : (u v : ℕ) → Used s u → Used s v → (u ≡ v → ⊥) → threadAt s u .parent ≡ threadAt s v .parent
-      → (threadAt s u .window .hi ≤ threadAt s v .window .lo) ⊎ (threadAt s v .window .hi ≤ threadAt s u .window .lo)
+      → (threadAt s (threadAt s u .origin .parent) .forks .window .lo ≤ threadAt s u .forks .window .lo) × (threadAt s u .forks .window .hi ≤ threadAt s (threadAt s u .origin .parent) .forks .window .mark)
+  pub apart : (u v : ℕ) → Used s u → Used s v → (u ≡ v → ⊥) → threadAt s u .origin .parent ≡ threadAt s v .origin .parent
+      → (threadAt s u .forks .window .hi ≤ threadAt s v .forks .window .lo) ⊎ (threadAt s v .forks .window .hi ≤ threadAt s u .forks .window .lo)
 
 -- "each thread number .. is either in use or once in its free line"
 pub record FreeThreads (s : State) : Type 0 where
@@ -109,16 +109,16 @@ pub record FreeThreads (s : State) : Type 0 where
 
 -- "frames on a stacklet do not overlap and each above the lowest belongs to a child of the thread below it"
 pub record Frames (j : Job) (s : State) : Type 0 where
-  pub bounded : (t : ℕ) → Used s t → threadAt s t .base < 1024
+  pub bounded : (t : ℕ) → Used s t → threadAt s t .origin .base < 1024
   pub most : (x : ℕ) → topAt (s .store .tops) x ≤ 64
-  pub under : (t : ℕ) → Used s t → Under (s .store .tops) (threadAt s t .base) (sizeAt j s t)
-  pub apart : (t u : ℕ) → Used s t → Used s u → (t ≡ u → ⊥) → Apart (threadAt s t .base) (sizeAt j s t) (threadAt s u .base) (sizeAt j s u)
-  pub stacked : (t : ℕ) → Used s t → (threadAt s t .base % 64 ≡ 0)
-      ⊎ (Used s (threadAt s t .parent) × (threadAt s (threadAt s t .parent) .base + sizeAt j s (threadAt s t .parent) ≡ threadAt s t .base))
+  pub under : (t : ℕ) → Used s t → Under (s .store .tops) (threadAt s t .origin .base) (sizeAt j s t)
+  pub apart : (t u : ℕ) → Used s t → Used s u → (t ≡ u → ⊥) → Apart (threadAt s t .origin .base) (sizeAt j s t) (threadAt s u .origin .base) (sizeAt j s u)
+  pub stacked : (t : ℕ) → Used s t → (threadAt s t .origin .base % 64 ≡ 0)
+      ⊎ (Used s (threadAt s t .origin .parent) × (threadAt s (threadAt s t .origin .parent) .origin .base + sizeAt j s (threadAt s t .origin .parent) ≡ threadAt s t .origin .base))
 
 -- no thread's frame is on stacklet x
 abbrev pub Unused : State → ℕ → Type 0
-Unused s x = (t : ℕ) → Used s t → threadAt s t .base / 64 ≡ x → ⊥
+Unused s x = (t : ℕ) → Used s t → threadAt s t .origin .base / 64 ≡ x → ⊥
 
 -- "each stacklet is either in use or once in its free line"
 pub record FreeStacklets (s : State) : Type 0 where

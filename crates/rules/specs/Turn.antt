@@ -18,10 +18,10 @@ use Rattle.rules.specs.Update.{setThread, setOutcome, charge}
 
 -- where a thread's next command starts in the image
 abbrev pub offsetOf : Job → Thread → ℕ
-offsetOf j h = offsetAt j (h .routine) (h .position)
+offsetOf j h = offsetAt j (h .origin .routine) (h .position)
 
 abbrev pub byteOf : Job → Thread → ℕ
-byteOf j h = byteAt j (h .routine) (h .position)
+byteOf j h = byteAt j (h .origin .routine) (h .position)
 
 -- a command met by core c, of thread t
 pub record Turn : Type 0 where
@@ -47,7 +47,7 @@ turnAt j s c t = record {
 -- what the next command of a thread does to it
 unfoldable pub effectAt : Job → State → Thread → Effect
 effectAt j s h =
-    effectOf (argumentsOf (j .image)) (viewOf (slotOf (s .store .words) (h .base)) (isPending (h .pending)) (h .window)) (decodedAt (j .image) (offsetOf j h))
+    effectOf (argumentsOf (j .image)) (viewOf (slotOf (s .store .words) (h .origin .base)) (isPending (h .forks .pending)) (h .forks .window)) (decodedAt (j .image) (offsetOf j h))
 
 -- "22: units plus the command's weight pass the allowance"
 abbrev pub tooDear : Job → State → Turn → Bool
@@ -55,7 +55,7 @@ tooDear j s o = ltb (j .allowance - s .units) (o .weight)
 
 -- "passes when every child has ended"; otherwise it waits: "a join that waits is not tested" for 22
 abbrev pub waits : Job → Thread → Bool
-waits j h = eqb (byteOf j h) 10 && ltb 0 (h .children)
+waits j h = eqb (byteOf j h) 10 && ltb 0 (h .forks .children)
 
 -- the word at an address: "Addresses 0 to 31 are parameter words"
 abbrev pub wordAt : Job → State → ℕ → ℕ

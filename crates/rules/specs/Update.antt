@@ -51,7 +51,7 @@ setWords words s = withStore (record { tops = s .store .tops; words = words; mem
 
 -- slot d of a thread's frame becomes v
 abbrev pub setSlot : Thread → ℕ → ℕ → State → State
-setSlot h d v s = setWords (set (s .store .words) (h .base + d) v) s
+setSlot h d v s = setWords (set (s .store .words) (h .origin .base + d) v) s
 
 -- the memory word at an address becomes v: "32 to 1,023 are 992 lent memory words"
 abbrev pub setMemory : ℕ → ℕ → State → State

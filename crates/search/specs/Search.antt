@@ -14,7 +14,7 @@ use Rattle.rules.specs.Rules.{isSeed}
 
 -- the lent parent of a connected thread; of another thread none
 abbrev pub lentParent : Thread → ℕ
-lentParent h = cond (h .connected) (h .parent) none
+lentParent h = cond (h .connected) (h .origin .parent) none
 
 -- "up its chain of lent parents, until the first seed is met": from thread t on, over n threads at most; none where no seed is met. A chain
 -- starts at a core's running thread, which is not lent and so is no seed itself

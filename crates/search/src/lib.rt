@@ -31,20 +31,20 @@ fn lent_parent(h: Thread) -> u8
     ensures { λ r. ⌜ r ≡ lentParent h ⌝ }
 {
     if h.connected {
-        return h.parent;
+        return h.origin.parent;
     }
     NONE
 }
 
 // Is a thread with this record lent, its next command an 08 or 09?
 fn is_seed(h: Thread, image: &[u8], starts: &[u16]) -> bool
-    ensures { λ r. ⌜ r ≡ (h .status is Lent && (eqb (getD (now (image .entry)) (getD (now (starts .entry)) (h .routine) 0 + h .position) 0) 8 || eqb (getD (now (image .entry)) (getD (now (starts .entry)) (h .routine) 0 + h .position) 0) 9)) ⌝ }
+    ensures { λ r. ⌜ r ≡ (h .status is Lent && (eqb (getD (now (image .entry)) (getD (now (starts .entry)) (h .origin .routine) 0 + h .position) 0) 8 || eqb (getD (now (image .entry)) (getD (now (starts .entry)) (h .origin .routine) 0 + h .position) 0) 9)) ⌝ }
 {
     let status = h.status;
     if !same_status(status, Status::Lent) {
         return false;
     }
-    let byte = byte_at(image, place_in_image(starts, h.routine, h.position));
+    let byte = byte_at(image, place_in_image(starts, h.origin.routine, h.position));
     if byte == 8 {
         return true;
     }

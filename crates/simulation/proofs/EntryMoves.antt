@@ -126,7 +126,7 @@ leaves-outcome : (c t : ℕ) (x : Status) (s : State) → leaves c t x s .outcom
 unfolding leaves
 leaves-outcome c t x s = go (threadAt s t .connected)
   where
-    go : (b : Bool) → cond b (runs c (threadAt s t .parent) (setThread t (disconnected x (threadAt s t)) s))
+    go : (b : Bool) → cond b (runs c (threadAt s t .origin .parent) (setThread t (disconnected x (threadAt s t)) s))
         (setCore c none (setThread t (disconnected x (threadAt s t)) s)) .outcome ≡ s .outcome
     go true = refl
     go false = refl
@@ -208,7 +208,7 @@ module _ (j : Job) (good : GoodJob j) (s : State) (ok : Sound j s) (results : Re
       u : Used s t
       u = runner j s ok c t k
 
-      root-units : s .units + turnAt j s c t .weight ≡ s .units + weightIn j (threadAt s t .routine) (threadAt s t .position)
+      root-units : s .units + turnAt j s c t .weight ≡ s .units + weightIn j (threadAt s t .origin .routine) (threadAt s t .position)
       root-units = sym (units-here j good s ok c t u)
 
       go : (b : Bool) → isRoot (threadAt s t) ≡ b → Moves j good s (accepted (returnOf s (turnAt j s c t) v))

@@ -30,19 +30,19 @@ use Rattle.simulation.proofs.StatePool.{threadOf, linkOf, cellIn, cellO
 use Rattle.simulation.proofs.OwnSteps.{here, StepsTo, cell-here, units-here, position-here, effect-met, own-cells}
 
 -- a join that does not wait has no children left
-no-child-left : (j : Job) (s : State) (t : ℕ) → effectAt j s (threadAt s t) ≡ Joins → waits j (threadAt s t) ≡ false → threadAt s t .children ≡ 0
+no-child-left : (j : Job) (s : State) (t : ℕ) → effectAt j s (threadAt s t) ≡ Joins → waits j (threadAt s t) ≡ false → threadAt s t .forks .children ≡ 0
 no-child-left j s t met w =
-    let l = ltb-false 0 (threadAt s t .children) (rw (eq-eqb (byteOf j (threadAt s t)) 10 (join-tested j s t met)) at w) in
+    let l = ltb-false 0 (threadAt s t .forks .children) (rw (eq-eqb (byteOf j (threadAt s t)) 10 (join-tested j s t met)) at w) in
     omega arith
 
 -- a count of 0 leaves no child
-childless : (s : State) (t n : ℕ) → childrenAmong s t n ≡ 0 → (b : ℕ) → b < n → Used s b → threadAt s b .parent ≡ t → ⊥
+childless : (s : State) (t n : ℕ) → childrenAmong s t n ≡ 0 → (b : ℕ) → b < n → Used s b → threadAt s b .origin .parent ≡ t → ⊥
 unfolding childrenAmong
 childless s t zero e b l u p = omega arith
 childless s t (suc n) e b l u p = go (ℕ-discrete b n) (λ k. childless s t n (omega arith) b k u p)
   where
     one : isChild s t b ≡ 1
-    one = rw (ne-eqb (statusAt s b) 0 (λ z. omega arith), eq-eqb (threadAt s b .parent) t p)
+    one = rw (ne-eqb (statusAt s b) 0 (λ z. omega arith), eq-eqb (threadAt s b .origin .parent) t p)
 
     go : Dec (b ≡ n) → (b < n → ⊥) → ⊥
     go (yes x) rec = let y = ap (isChild s t) x in let z = one in omega arith
@@ -62,10 +62,10 @@ link-parent true a r p d e = let z : _≡_ {A = ℕ} 0 1 = cc in absurd (omega a
 link-parent false a r p d e = cc
 
 pub cell-child : (j : Job) (ws : List ℕ) (h : Thread) (q : ThreadState Window) (p d : ℕ) → cellOf j ws h ≡ used q (child p d)
-    → InUse h × (h .parent ≡ p)
+    → InUse h × (h .origin .parent ≡ p)
 cell-child j ws h q p d e =
     let a = cell-in-link (h .status) (threadOf j ws h) q (linkOf h) (child p d) e in
-    (a .0, link-parent (isRoot h) (h .parent) (h .result) p d (a .1))
+    (a .0, link-parent (isRoot h) (h .origin .parent) (h .origin .result) p d (a .1))
 
 module _ (j : Job) (good : GoodJob j) (s : State) (ok : Sound j s) (c t : ℕ) (in-use : Used s t) where
   abbrev h : Thread
@@ -82,11 +82,11 @@ module _ (j : Job) (good : GoodJob j) (s : State) (ok : Sound j s) (c t : ℕ) (
       ≡ used (behind-join windows (codeOf j good) (here j good s ok c t in-use) (here j good s ok c t in-use .slots)) (linkOf h)
   join-cell = cell-used j (s .store .words) (joinedAt (turnAt j s c t .next) h) in-use
       ∙ (λ ι. used (record {
-        routine = h .routine;
+        routine = h .origin .routine;
         position = sym (position-here j good s ok c t in-use) ι;
         slots = here j good s ok c t in-use .slots;
         pending = none-pending ι;
-        window = rejoined (h .window);
+        window = rejoined (h .forks .window);
       }) (linkOf h))
 
   -- 0A

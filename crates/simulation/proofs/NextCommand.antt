@@ -39,34 +39,34 @@ module _ (j : Job) (good : GoodJob j) (s : State) (placed : Placed j s) (t : ℕ
   abbrev h : Thread
   h = threadAt s t
 
-  command-here : isCommand (j .image) (h .routine) (h .position) ≡ true
-  command-here = is-command (j .image) (h .routine) (h .position) (placed .routine t in-use) (placed .position t in-use)
+  command-here : isCommand (j .image) (h .origin .routine) (h .position) ≡ true
+  command-here = is-command (j .image) (h .origin .routine) (h .position) (placed .routine t in-use) (placed .position t in-use)
 
-  pub stands-here : Stood (j .image) (h .routine) (h .position)
-  stands-here = stood (j .image) (good .image) (h .routine) (h .position) (placed .routine t in-use) (placed .position t in-use)
+  pub stands-here : Stood (j .image) (h .origin .routine) (h .position)
+  stands-here = stood (j .image) (good .image) (h .origin .routine) (h .position) (placed .routine t in-use) (placed .position t in-use)
 
-  offset-here : offsetOf j h ≡ startOf (j .image) (h .routine) + h .position
-  offset-here = ap (λ z. z + h .position) (good .starts (h .routine) (placed .routine t in-use))
+  offset-here : offsetOf j h ≡ startOf (j .image) (h .origin .routine) + h .position
+  offset-here = ap (λ z. z + h .position) (good .starts (h .origin .routine) (placed .routine t in-use))
 
-  byte-here : firstByte (j .image) (h .routine) (h .position) ≡ byteOf j h
+  byte-here : firstByte (j .image) (h .origin .routine) (h .position) ≡ byteOf j h
   byte-here = ap (λ z. getD (j .image) z 0) (sym offset-here)
 
   -- the weight that is charged
-  pub weight-here : weightIn j (h .routine) (h .position) ≡ weightOf (j .weights) (byteOf j h)
-  weight-here = weight-is (j .image) (j .weights) (h .routine) (h .position) command-here ∙ ap (weightOf (j .weights)) byte-here
+  pub weight-here : weightIn j (h .origin .routine) (h .position) ≡ weightOf (j .weights) (byteOf j h)
+  weight-here = weight-is (j .image) (j .weights) (h .origin .routine) (h .position) command-here ∙ ap (weightOf (j .weights)) byte-here
 
   -- the position behind it
-  pub next-here : h .position + widthOf (firstByte (j .image) (h .routine) (h .position)) ≡ h .position + widthOf (byteOf j h)
+  pub next-here : h .position + widthOf (firstByte (j .image) (h .origin .routine) (h .position)) ≡ h .position + widthOf (byteOf j h)
   next-here = ap (λ z. h .position + widthOf z) byte-here
 
   -- the effect
   pub effect-here : effect windows window-tests (codeOf j good) (threadOf j (s .store .words) h) ≡ effectAt j s h
   unfolding effectAt
   effect-here =
-      ap (effectOf (argumentsOf (j .image)) (viewOf (frame (s .store .words) (h .base) (sizeAt j s t)) (isPending (h .pending)) (h .window)))
-      (fetch-is (j .image) (h .routine) (h .position) command-here)
-      ∙ effect-alike (j .image) (sizeAt j s t) (frame (s .store .words) (h .base) (sizeAt j s t)) (slotOf (s .store .words) (h .base))
-      (frame-slot (s .store .words) (h .base) (sizeAt j s t)) (isPending (h .pending)) (h .window)
-      (decodedAt (j .image) (startOf (j .image) (h .routine) + h .position)) (stands-here .operands)
-      ∙ ap (λ z. effectOf (argumentsOf (j .image)) (viewOf (slotOf (s .store .words) (h .base)) (isPending (h .pending)) (h .window)) (decodedAt (j .image) z))
+      ap (effectOf (argumentsOf (j .image)) (viewOf (frame (s .store .words) (h .origin .base) (sizeAt j s t)) (isPending (h .forks .pending)) (h .forks .window)))
+      (fetch-is (j .image) (h .origin .routine) (h .position) command-here)
+      ∙ effect-alike (j .image) (sizeAt j s t) (frame (s .store .words) (h .origin .base) (sizeAt j s t)) (slotOf (s .store .words) (h .origin .base))
+      (frame-slot (s .store .words) (h .origin .base) (sizeAt j s t)) (isPending (h .forks .pending)) (h .forks .window)
+      (decodedAt (j .image) (startOf (j .image) (h .origin .routine) + h .position)) (stands-here .operands)
+      ∙ ap (λ z. effectOf (argumentsOf (j .image)) (viewOf (slotOf (s .store .words) (h .origin .base)) (isPending (h .forks .pending)) (h .forks .window)) (decodedAt (j .image) z))
       (sym offset-here)

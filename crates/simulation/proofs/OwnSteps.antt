@@ -38,10 +38,10 @@ pub frame-apart : (ws : List ℕ) (b n d v b' n' : ℕ) → d < n → (b + n ≤
 frame-apart ws b n d v b' n' h a = frame-other ws (b + d) v b' n' (λ k l e. ⊎-elim (λ x. omega arith) (λ x. omega arith) a)
 
 -- a used thread's frame lies within the words
-pub frame-within : (j : Job) (s : State) → Sound j s → (t : ℕ) → Used s t → threadAt s t .base + sizeAt j s t ≤ length (s .store .words)
+pub frame-within : (j : Job) (s : State) → Sound j s → (t : ℕ) → Used s t → threadAt s t .origin .base + sizeAt j s t ≤ length (s .store .words)
 frame-within j s ok t u =
     let a = ok .frames .under t u in
-    let b = ok .frames .most (threadAt s t .base / 64) in
+    let b = ok .frames .most (threadAt s t .origin .base / 64) in
     let c = ok .frames .bounded t u in
     let d = ok .sized .words in
     omega arith
@@ -65,10 +65,10 @@ module _ (j : Job) (good : GoodJob j) (s : State) (ok : Sound j s) (c t : ℕ) (
   pub thread-below : t < length (s .threads)
   thread-below = used-below (s .threads) t in-use
 
-  pub units-here : s .units + weightIn j (h .routine) (h .position) ≡ s .units + turnAt j s c t .weight
+  pub units-here : s .units + weightIn j (h .origin .routine) (h .position) ≡ s .units + turnAt j s c t .weight
   units-here = ap (λ z. s .units + z) (weight-here j good s (ok .placed) t in-use)
 
-  pub position-here : codeOf j good .next (h .routine) (h .position) ≡ turnAt j s c t .next
+  pub position-here : codeOf j good .next (h .origin .routine) (h .position) ≡ turnAt j s c t .next
   position-here = next-here j good s (ok .placed) t in-use
 
   pub effect-met : (e : Effect) → effectAt j s h ≡ e → effect windows window-tests (codeOf j good) here ≡ e
@@ -83,22 +83,22 @@ module _ (j : Job) (good : GoodJob j) (s : State) (ok : Sound j s) (c t : ℕ) (
 
   -- the pool in which thread t alone is another, by its record and words
   pub own-cells : (ws : List ℕ) (h' : Thread) (q : ThreadState Window)
-      → ((u : ℕ) → ¬ (u ≡ t) → Used s u → frame ws (threadAt s u .base) (sizeAt j s u) ≡ frame (s .store .words) (threadAt s u .base) (sizeAt j s u))
+      → ((u : ℕ) → ¬ (u ≡ t) → Used s u → frame ws (threadAt s u .origin .base) (sizeAt j s u) ≡ frame (s .store .words) (threadAt s u .origin .base) (sizeAt j s u))
       → cellOf j ws h' ≡ used q (linkOf h)
       → update (poolOf j s .cell) t (used q (linkOf h)) ≡ cellsOf j ws (set (s .threads) t h')
   own-cells ws h' q others own = sym (cells-change j (s .store .words) ws (s .threads) t h' thread-below others ∙ ap (update (poolOf j s .cell) t) own)
 
   -- slot d becomes v
   slot-cell : (d v : ℕ) → d < sizeAt j s t
-      → cellOf j (set (s .store .words) (h .base + d) v) (movedTo (turnAt j s c t .next) h)
+      → cellOf j (set (s .store .words) (h .origin .base + d) v) (movedTo (turnAt j s c t .next) h)
       ≡ used (onward (codeOf j good) here (update (here .slots) d v)) (linkOf h)
-  slot-cell d v l = cell-used j (set (s .store .words) (h .base + d) v) (movedTo (turnAt j s c t .next) h) in-use
+  slot-cell d v l = cell-used j (set (s .store .words) (h .origin .base + d) v) (movedTo (turnAt j s c t .next) h) in-use
       ∙ (λ ι. used (record {
-        routine = h .routine;
+        routine = h .origin .routine;
         position = sym position-here ι;
-        slots = frame-own (s .store .words) (h .base) (sizeAt j s t) d v l (frame-within j s ok t in-use) ι;
-        pending = isPending (h .pending);
-        window = h .window;
+        slots = frame-own (s .store .words) (h .origin .base) (sizeAt j s t) d v l (frame-within j s ok t in-use) ι;
+        pending = isPending (h .forks .pending);
+        window = h .forks .window;
       }) (linkOf h))
 
   slot-step : (d v : ℕ) → d < sizeAt j s t
@@ -106,8 +106,8 @@ module _ (j : Job) (good : GoodJob j) (s : State) (ok : Sound j s) (c t : ℕ) (
       (moved windows window-tests (codeOf j good) (poolOf j s) t here (linkOf h) cell-here (onward (codeOf j good) here (update (here .slots) d v)))
       → StepsTo (goesOn (turnAt j s c t) (setSlot h d v s))
   slot-step d v l step = subst (ThreadStep windows window-tests (codeOf j good) t (poolOf j s)) (λ ι. record {
-    cell = own-cells (set (s .store .words) (h .base + d) v) (movedTo (turnAt j s c t .next) h) (onward (codeOf j good) here (update (here .slots) d v))
-        (λ u n k. frame-apart (s .store .words) (h .base) (sizeAt j s t) d v (threadAt s u .base) (sizeAt j s u) l
+    cell = own-cells (set (s .store .words) (h .origin .base + d) v) (movedTo (turnAt j s c t .next) h) (onward (codeOf j good) here (update (here .slots) d v))
+        (λ u n k. frame-apart (s .store .words) (h .origin .base) (sizeAt j s t) d v (threadAt s u .origin .base) (sizeAt j s u) l
         (ok .frames .apart t u in-use k (λ e. n (sym e)))) (slot-cell d v l) ι;
     words = words-from 32 (s .store .memory);
     units = units-here ι;
@@ -139,11 +139,11 @@ module _ (j : Job) (good : GoodJob j) (s : State) (ok : Sound j s) (c t : ℕ) (
   onward-cell : cellOf j (s .store .words) (movedTo (turnAt j s c t .next) h) ≡ used (onward (codeOf j good) here (here .slots)) (linkOf h)
   onward-cell = cell-used j (s .store .words) (movedTo (turnAt j s c t .next) h) in-use
       ∙ (λ ι. used (record {
-        routine = h .routine;
+        routine = h .origin .routine;
         position = sym position-here ι;
         slots = here .slots;
-        pending = isPending (h .pending);
-        window = h .window;
+        pending = isPending (h .forks .pending);
+        window = h .forks .window;
       }) (linkOf h))
 
   onward-step : ThreadStep windows window-tests (codeOf j good) t (poolOf j s)
@@ -177,7 +177,7 @@ module _ (j : Job) (good : GoodJob j) (s : State) (ok : Sound j s) (c t : ℕ) (
   }) (stores-step windows window-tests (codeOf j good) (poolOf j s) t here (linkOf h) cell-here a v (effect-met (Stores a v) met))
     where
       place : (32 ≤ a) × (a < 1024)
-      place = store-in-memory (h .window) a (ok .windows .fits t in-use) (effect-tested (Stores a v) met)
+      place = store-in-memory (h .forks .window) a (ok .windows .fits t in-use) (effect-tested (Stores a v) met)
 
   -- 07, and 06 where the slot is 0
   pub goes-goes : (p : ℕ) → effectAt j s h ≡ Goes p → StepsTo (done (turnAt j s c t) (movedTo p h) s)

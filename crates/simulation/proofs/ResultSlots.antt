@@ -16,7 +16,7 @@ use Rattle.thread.specs.declared.Effect.the-variants.{Lforks, Forks, Returns}
 use Rattle.thread.specs.declared.Status.{Status}
 use Rattle.thread.specs.declared.Status.the-variants.{Running, Ready, Suspended, Waiting}
 use Rattle.thread.specs.declared.Thread.{Thread}
-use Rattle.thread.specs.Thread.{statusNumber, isPending, isRoot, none, blankThread, withStatus, disconnected, movedTo, withoutChild, behindFork, newThread}
+use Rattle.thread.specs.Thread.{statusNumber, isPending, isRoot, none, blankThread, withStatus, disconnected, movedTo, withoutChild, behindFork, originOf, newThread}
 use Rattle.rules.specs.declared.ForkKind.{ForkKind}
 use Rattle.rules.specs.declared.ForkKind.the-variants.{Called, Queued, Stolen}
 use Rattle.rules.specs.State.{Job, State, threadAt}
@@ -39,37 +39,37 @@ use Rattle.simulation.proofs.UsedThreads.{ready-used, moved-used, moved
 
 -- one record is put in: its own result slot is good, and its routine is the same if it has children
 put-results : (j : Job) (s : State) (t : ℕ) (h : Thread) → t < length (s .threads) → ResultsInFrame j s
-    → (InUse h → (t ≡ 0 → ⊥) → h .result < sizeAt j (setThread t h s) (h .parent))
-    → ((u : ℕ) → Used s u → (u ≡ 0 → ⊥) → threadAt s u .parent ≡ t → h .routine ≡ threadAt s t .routine)
+    → (InUse h → (t ≡ 0 → ⊥) → h .origin .result < sizeAt j (setThread t h s) (h .origin .parent))
+    → ((u : ℕ) → Used s u → (u ≡ 0 → ⊥) → threadAt s u .origin .parent ≡ t → h .origin .routine ≡ threadAt s t .origin .routine)
     → ResultsInFrame j (setThread t h s)
 put-results j s t h l results own children u used first = go (ℕ-discrete u t)
   where
     at-t : threadAt (setThread t h s) t ≡ h
     at-t = getD-set-same (s .threads) t h blankThread l
 
-    routine-at : (x : ℕ) → (x ≡ t → h .routine ≡ threadAt s t .routine) → threadAt (setThread t h s) x .routine ≡ threadAt s x .routine
+    routine-at : (x : ℕ) → (x ≡ t → h .origin .routine ≡ threadAt s t .origin .routine) → threadAt (setThread t h s) x .origin .routine ≡ threadAt s x .origin .routine
     routine-at x f = by (ℕ-discrete x t)
       where
-        by : Dec (x ≡ t) → threadAt (setThread t h s) x .routine ≡ threadAt s x .routine
-        by (yes e) = ap (λ z. threadAt (setThread t h s) z .routine) e ∙ ap (λ z. z .routine) at-t ∙ f e ∙ ap (λ z. threadAt s z .routine) (sym e)
-        by (no n) = ap (λ z. z .routine) (getD-set-other (s .threads) t x h blankThread n)
+        by : Dec (x ≡ t) → threadAt (setThread t h s) x .origin .routine ≡ threadAt s x .origin .routine
+        by (yes e) = ap (λ z. threadAt (setThread t h s) z .origin .routine) e ∙ ap (λ z. z .origin .routine) at-t ∙ f e ∙ ap (λ z. threadAt s z .origin .routine) (sym e)
+        by (no n) = ap (λ z. z .origin .routine) (getD-set-other (s .threads) t x h blankThread n)
 
-    go : Dec (u ≡ t) → threadAt (setThread t h s) u .result < sizeAt j (setThread t h s) (threadAt (setThread t h s) u .parent)
+    go : Dec (u ≡ t) → threadAt (setThread t h s) u .origin .result < sizeAt j (setThread t h s) (threadAt (setThread t h s) u .origin .parent)
     go (yes e) =
         let q : threadAt (setThread t h s) u ≡ h = ap (λ z. threadAt (setThread t h s) z) e ∙ at-t in
-        subst (λ z. z .result < sizeAt j (setThread t h s) (z .parent)) (sym q) (own (subst InUse q used) (λ z. first (e ∙ z)))
+        subst (λ z. z .origin .result < sizeAt j (setThread t h s) (z .origin .parent)) (sym q) (own (subst InUse q used) (λ z. first (e ∙ z)))
     go (no n) =
         let q : threadAt (setThread t h s) u ≡ threadAt s u = getD-set-other (s .threads) t u h blankThread n in
         let was : Used s u = subst InUse q used in
-        subst (λ z. z .result < sizeAt j (setThread t h s) (z .parent)) (sym q)
-        (subst (λ z. threadAt s u .result < slotsOf (j .image) z) (sym (routine-at (threadAt s u .parent) (λ e. children u was first e)))
+        subst (λ z. z .origin .result < sizeAt j (setThread t h s) (z .origin .parent)) (sym q)
+        (subst (λ z. threadAt s u .origin .result < slotsOf (j .image) z) (sym (routine-at (threadAt s u .origin .parent) (λ e. children u was first e)))
         (results u was first))
 
 -- the same routine, parent and result slot
 pub record Linked (h h' : Thread) : Type 0 where
-  pub routine : h' .routine ≡ h .routine
-  pub parent : h' .parent ≡ h .parent
-  pub result : h' .result ≡ h .result
+  pub routine : h' .origin .routine ≡ h .origin .routine
+  pub parent : h' .origin .parent ≡ h .origin .parent
+  pub result : h' .origin .result ≡ h .origin .result
 
 same-results : (j : Job) (s : State) (t : ℕ) (h : Thread) → Used s t → Linked (threadAt s t) h → ResultsInFrame j s → ResultsInFrame j (setThread t h s)
 same-results j s t h used k results = put-results j s t h (used-below (s .threads) t used) results own (λ u v f e. k .routine)
@@ -77,29 +77,29 @@ same-results j s t h used k results = put-results j s t h (used-below (s .thread
     at-t : threadAt (setThread t h s) t ≡ h
     at-t = getD-set-same (s .threads) t h blankThread (used-below (s .threads) t used)
 
-    routine-at : (x : ℕ) → Dec (x ≡ t) → threadAt s x .routine ≡ threadAt (setThread t h s) x .routine
-    routine-at x (yes e) = ap (λ z. threadAt s z .routine) e ∙ sym (k .routine) ∙ sym (ap (λ z. z .routine) at-t)
-        ∙ ap (λ z. threadAt (setThread t h s) z .routine) (sym e)
-    routine-at x (no n) = ap (λ z. z .routine) (sym (getD-set-other (s .threads) t x h blankThread n))
+    routine-at : (x : ℕ) → Dec (x ≡ t) → threadAt s x .origin .routine ≡ threadAt (setThread t h s) x .origin .routine
+    routine-at x (yes e) = ap (λ z. threadAt s z .origin .routine) e ∙ sym (k .routine) ∙ sym (ap (λ z. z .origin .routine) at-t)
+        ∙ ap (λ z. threadAt (setThread t h s) z .origin .routine) (sym e)
+    routine-at x (no n) = ap (λ z. z .origin .routine) (sym (getD-set-other (s .threads) t x h blankThread n))
 
-    own : InUse h → (t ≡ 0 → ⊥) → h .result < sizeAt j (setThread t h s) (h .parent)
+    own : InUse h → (t ≡ 0 → ⊥) → h .origin .result < sizeAt j (setThread t h s) (h .origin .parent)
     own i f = subst₂ (λ r p. r < sizeAt j (setThread t h s) p) (sym (k .result)) (sym (k .parent))
-        (subst (λ z. threadAt s t .result < slotsOf (j .image) z) (routine-at (threadAt s t .parent) (ℕ-discrete (threadAt s t .parent) t)) (results t used f))
+        (subst (λ z. threadAt s t .origin .result < slotsOf (j .image) z) (routine-at (threadAt s t .origin .parent) (ℕ-discrete (threadAt s t .origin .parent) t)) (results t used f))
 
 leaves-results : (j : Job) (c t : ℕ) (x : Status) (s : State) → Used s t → 0 < statusNumber x
-    → (threadAt s t .connected ≡ true → Used s (threadAt s t .parent)) → ResultsInFrame j s → ResultsInFrame j (leaves c t x s)
+    → (threadAt s t .connected ≡ true → Used s (threadAt s t .origin .parent)) → ResultsInFrame j s → ResultsInFrame j (leaves c t x s)
 unfolding leaves
 leaves-results j c t x s u k p results = go (threadAt s t .connected) p
   where
     gone : ResultsInFrame j (setThread t (disconnected x (threadAt s t)) s)
     gone = same-results j s t (disconnected x (threadAt s t)) u (record { routine = refl; parent = refl; result = refl }) results
 
-    go : (b : Bool) → (b ≡ true → Used s (threadAt s t .parent))
-        → ResultsInFrame j (cond b (runs c (threadAt s t .parent) (setThread t (disconnected x (threadAt s t)) s))
+    go : (b : Bool) → (b ≡ true → Used s (threadAt s t .origin .parent))
+        → ResultsInFrame j (cond b (runs c (threadAt s t .origin .parent) (setThread t (disconnected x (threadAt s t)) s))
         (setCore c none (setThread t (disconnected x (threadAt s t)) s)))
-    go true f = same-results j (setThread t (disconnected x (threadAt s t)) s) (threadAt s t .parent)
-        (withStatus Running (threadAt (setThread t (disconnected x (threadAt s t)) s) (threadAt s t .parent)))
-        (used-set s t (disconnected x (threadAt s t)) (used-below (s .threads) t u) k (threadAt s t .parent) (f refl))
+    go true f = same-results j (setThread t (disconnected x (threadAt s t)) s) (threadAt s t .origin .parent)
+        (withStatus Running (threadAt (setThread t (disconnected x (threadAt s t)) s) (threadAt s t .origin .parent)))
+        (used-set s t (disconnected x (threadAt s t)) (used-below (s .threads) t u) k (threadAt s t .origin .parent) (f refl))
         (record { routine = refl; parent = refl; result = refl }) gone
     go false f = gone
 
@@ -115,10 +115,10 @@ module _ (j : Job) (good : GoodJob j) (s : State) (ok : Sound j s) (results : Re
   born-results kind c t used r d a e n ns x xs low unused inside = child-goes-results j kind c n _ put
     where
       parent : Thread
-      parent = behindFork (parentStatus kind) (turnAt j s c t .next) d (restOf (threadAt s t .window) e) (threadAt s t)
+      parent = behindFork (parentStatus kind) (turnAt j s c t .next) d (restOf (threadAt s t .forks .window) e) (threadAt s t)
 
       kid : Thread
-      kid = newThread (childStatus kind) (isConnected kind) r t d (baseOn (s .store .tops) x) (childOf (threadAt s t .window) e)
+      kid = newThread (originOf r t d (baseOn (s .store .tops) x)) (childStatus kind) (isConnected kind) (childOf (threadAt s t .forks .window) e)
 
       not-new : ¬ (t ≡ n)
       not-new z = let y = ap (statusAt s) z in omega arith
@@ -128,26 +128,26 @@ module _ (j : Job) (good : GoodJob j) (s : State) (ok : Sound j s) (results : Re
       s₁ = same-results j s t parent used (record { routine = refl; parent = refl; result = refl }) results
 
       -- the parent's routine stays
-      routine-t : threadAt (setThread n kid (setThread t parent s)) t .routine ≡ threadAt s t .routine
-      routine-t = ap (λ z. z .routine) (getD-set-other (set (s .threads) t parent) n t kid blankThread not-new
+      routine-t : threadAt (setThread n kid (setThread t parent s)) t .origin .routine ≡ threadAt s t .origin .routine
+      routine-t = ap (λ z. z .origin .routine) (getD-set-other (set (s .threads) t parent) n t kid blankThread not-new
           ∙ getD-set-same (s .threads) t parent blankThread (used-below (s .threads) t used))
 
       -- no thread in use is a child of the free number
-      none-of : (u : ℕ) → Used (setThread t parent s) u → (u ≡ 0 → ⊥) → threadAt (setThread t parent s) u .parent ≡ n
-          → kid .routine ≡ threadAt (setThread t parent s) n .routine
+      none-of : (u : ℕ) → Used (setThread t parent s) u → (u ≡ 0 → ⊥) → threadAt (setThread t parent s) u .origin .parent ≡ n
+          → kid .origin .routine ≡ threadAt (setThread t parent s) n .origin .routine
       none-of u k first q = absurd (free-parent (ℕ-discrete u t))
         where
-          by : (z : ℕ) → Used s z → (z ≡ 0 → ⊥) → threadAt s z .parent ≡ n → ⊥
+          by : (z : ℕ) → Used s z → (z ≡ 0 → ⊥) → threadAt s z .origin .parent ≡ n → ⊥
           by z was f p = let y = parent-of j s ok z was f in let w = ap (statusAt s) p in omega arith
 
           free-parent : Dec (u ≡ t) → ⊥
           free-parent (yes z) =
               let at : threadAt (setThread t parent s) u ≡ parent =
               ap (λ y. threadAt (setThread t parent s) y) z ∙ getD-set-same (s .threads) t parent blankThread (used-below (s .threads) t used) in
-              by t used (λ y. first (z ∙ y)) (sym (ap (λ y. y .parent) at) ∙ q)
+              by t used (λ y. first (z ∙ y)) (sym (ap (λ y. y .origin .parent) at) ∙ q)
           free-parent (no z) =
               let at : threadAt (setThread t parent s) u ≡ threadAt s u = getD-set-other (s .threads) t u parent blankThread z in
-              by u (subst InUse at k) first (sym (ap (λ y. y .parent) at) ∙ q)
+              by u (subst InUse at k) first (sym (ap (λ y. y .origin .parent) at) ∙ q)
 
       put : ResultsInFrame j (setThread n kid (setThread t parent s))
       put = put-results j (setThread t parent s) n kid (omega (arith, length-set (s .threads) t parent, ok .sized .threads)) s₁
@@ -155,11 +155,11 @@ module _ (j : Job) (good : GoodJob j) (s : State) (ok : Sound j s) (results : Re
 
   -- a thread that returns has no children
   no-children : (c t : ℕ) (used : Used s t) (v : ℕ) → effectAt j s (threadAt s t) ≡ Returns v → (u : ℕ) → Used s u → (u ≡ 0 → ⊥)
-      → threadAt s u .parent ≡ t → ⊥
+      → threadAt s u .origin .parent ≡ t → ⊥
   no-children c t used v met u k first e =
-      let clear = return-tested j s t v met (threadAt s u .result) (ok .placed .result u k) in
-      let held : isPending (threadAt s t .pending) (threadAt s u .result) ≡ true =
-      subst (λ z. isPending (threadAt s z .pending) (threadAt s u .result) ≡ true) e (ok .results .pending u k first) in
+      let clear = return-tested j s t v met (threadAt s u .origin .result) (ok .placed .result u k) in
+      let held : isPending (threadAt s t .forks .pending) (threadAt s u .origin .result) ≡ true =
+      subst (λ z. isPending (threadAt s z .forks .pending) (threadAt s u .origin .result) ≡ true) e (ok .results .pending u k first) in
       true≢false (sym held ∙ clear)
 
   freed-results : (c t : ℕ) (used : Used s t) (v : ℕ) → effectAt j s (threadAt s t) ≡ Returns v → ResultsInFrame j (setThread t blankThread s)
@@ -177,12 +177,12 @@ module _ (j : Job) (good : GoodJob j) (s : State) (ok : Sound j s) (results : Re
       go true is = rw is gone
       go false is =
           let up = above j good s ok results c t used v met is in
-          let at : threadAt (setThread t blankThread s) (threadAt s t .parent) ≡ threadAt s (threadAt s t .parent) =
-          getD-set-other (s .threads) t (threadAt s t .parent) blankThread blankThread (up .other) in
-          let still : Used (setThread t blankThread s) (threadAt s t .parent) = subst InUse (sym at) (up .used-parent) in
-          rw is (same-results j (setThread t blankThread s) (threadAt s t .parent)
-          (withoutChild (statusAfter (threadAt s t .connected) (threadAt s (threadAt s t .parent))) (threadAt s (threadAt s t .parent))) still
-          (record { routine = ap (λ z. z .routine) (sym at); parent = ap (λ z. z .parent) (sym at); result = ap (λ z. z .result) (sym at) }) gone)
+          let at : threadAt (setThread t blankThread s) (threadAt s t .origin .parent) ≡ threadAt s (threadAt s t .origin .parent) =
+          getD-set-other (s .threads) t (threadAt s t .origin .parent) blankThread blankThread (up .other) in
+          let still : Used (setThread t blankThread s) (threadAt s t .origin .parent) = subst InUse (sym at) (up .used-parent) in
+          rw is (same-results j (setThread t blankThread s) (threadAt s t .origin .parent)
+          (withoutChild (statusAfter (threadAt s t .connected) (threadAt s (threadAt s t .origin .parent))) (threadAt s (threadAt s t .origin .parent))) still
+          (record { routine = ap (λ z. z .origin .routine) (sym at); parent = ap (λ z. z .origin .parent) (sym at); result = ap (λ z. z .origin .result) (sym at) }) gone)
 
   free-number : (n : ℕ) (ns : List ℕ) → s .queues .freeThreads ≡ n ∷ ns → (n < 32) × (statusAt s n ≡ 0)
   free-number n ns e =

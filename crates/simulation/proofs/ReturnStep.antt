@@ -35,7 +35,7 @@ use Rattle.simulation.proofs.OwnSteps.{frame-apart, frame-within, here,
 
 -- each unended child's result slot is a slot of its parent
 abbrev pub ResultsInFrame : Job → State → Type 0
-ResultsInFrame j s = (u : ℕ) → Used s u → (u ≡ 0 → ⊥) → threadAt s u .result < sizeAt j s (threadAt s u .parent)
+ResultsInFrame j s = (u : ℕ) → Used s u → (u ≡ 0 → ⊥) → threadAt s u .origin .result < sizeAt j s (threadAt s u .origin .parent)
 
 -- the parent is in use afterwards
 woken-in-use : (connected : Bool) (q : Thread) → InUse q → 0 < statusNumber (statusAfter connected q)
@@ -61,11 +61,11 @@ module _ (j : Job) (good : GoodJob j) (s : State) (ok : Sound j s) (results : Re
 
   -- the root is thread 0
   pub root-cell : isRoot h ≡ true → poolOf j s .cell t ≡ used l root
-  root-cell is = cell-here j good s ok c t in-use ∙ ap (λ b. used l (cond b root (child (h .parent) (h .result)))) is
+  root-cell is = cell-here j good s ok c t in-use ∙ ap (λ b. used l (cond b root (child (h .origin .parent) (h .origin .result)))) is
 
   module _ (not-root : isRoot h ≡ false) where
     abbrev p : ℕ
-    p = h .parent
+    p = h .origin .parent
 
     abbrev q : Thread
     q = threadAt s p
@@ -81,27 +81,27 @@ module _ (j : Job) (good : GoodJob j) (s : State) (ok : Sound j s) (results : Re
         (λ x. record { not-first = x .0; used-parent = x .1; other = λ e. let y = ap (ok .tree .rank) e in let z = x .2 in omega arith })
         (ok .tree .tree t in-use)
       where
-        outside : h .parent ≡ none → ⊥
-        outside e = let z = leb-false none (h .parent) not-root in omega arith
+        outside : h .origin .parent ≡ none → ⊥
+        outside e = let z = leb-false none (h .origin .parent) not-root in omega arith
 
-    slot-inside : h .result < sizeAt j s p
+    slot-inside : h .origin .result < sizeAt j s p
     slot-inside = results t in-use (above .not-first)
 
     -- the words with the value
     abbrev ws : List ℕ
-    ws = set (s .store .words) (q .base + h .result) v
+    ws = set (s .store .words) (q .origin .base + h .origin .result) v
 
     abbrev parent : Thread
     parent = withoutChild (statusAfter (h .connected) q) q
 
-    parent-cell : cellOf j ws parent ≡ used (deliver (threadOf j (s .store .words) q) (h .result) v) (linkOf q)
+    parent-cell : cellOf j ws parent ≡ used (deliver (threadOf j (s .store .words) q) (h .origin .result) v) (linkOf q)
     parent-cell = cell-used j ws parent (woken-in-use (h .connected) q (above .used-parent))
         ∙ (λ ι. used (record {
-          routine = q .routine;
+          routine = q .origin .routine;
           position = q .position;
-          slots = frame-own (s .store .words) (q .base) (sizeAt j s p) (h .result) v slot-inside (frame-within j s ok p (above .used-parent)) ι;
-          pending = isPending (q .pending);
-          window = q .window;
+          slots = frame-own (s .store .words) (q .origin .base) (sizeAt j s p) (h .origin .result) v slot-inside (frame-within j s ok p (above .used-parent)) ι;
+          pending = isPending (q .forks .pending);
+          window = q .forks .window;
         }) (linkOf q))
 
     -- a thread in use once t is freed is another that was
@@ -121,32 +121,32 @@ module _ (j : Job) (good : GoodJob j) (s : State) (ok : Sound j s) (results : Re
             (b, subst InUse b k)
 
     kept : (u : ℕ) → ¬ (u ≡ p) → InUse (getD (set (s .threads) t blankThread) u blankThread)
-        → frame ws (getD (set (s .threads) t blankThread) u blankThread .base)
-        (slotsOf (j .image) (getD (set (s .threads) t blankThread) u blankThread .routine))
-        ≡ frame (s .store .words) (getD (set (s .threads) t blankThread) u blankThread .base)
-        (slotsOf (j .image) (getD (set (s .threads) t blankThread) u blankThread .routine))
+        → frame ws (getD (set (s .threads) t blankThread) u blankThread .origin .base)
+        (slotsOf (j .image) (getD (set (s .threads) t blankThread) u blankThread .origin .routine))
+        ≡ frame (s .store .words) (getD (set (s .threads) t blankThread) u blankThread .origin .base)
+        (slotsOf (j .image) (getD (set (s .threads) t blankThread) u blankThread .origin .routine))
     kept u n k =
         let (same, was) = still u k in
-        subst (λ g. frame ws (g .base) (slotsOf (j .image) (g .routine)) ≡ frame (s .store .words) (g .base) (slotsOf (j .image) (g .routine))) (sym same)
-        (frame-apart (s .store .words) (q .base) (sizeAt j s p) (h .result) v (threadAt s u .base) (sizeAt j s u) slot-inside
+        subst (λ g. frame ws (g .origin .base) (slotsOf (j .image) (g .origin .routine)) ≡ frame (s .store .words) (g .origin .base) (slotsOf (j .image) (g .origin .routine))) (sym same)
+        (frame-apart (s .store .words) (q .origin .base) (sizeAt j s p) (h .origin .result) v (threadAt s u .origin .base) (sizeAt j s u) slot-inside
         (ok .frames .apart p u (above .used-parent) was (λ e. n (sym e))))
 
     return-cells : cellsOf j ws (set (set (s .threads) t blankThread) p parent)
-        ≡ update (update (cellsOf j (s .store .words) (s .threads)) t free) p (used (deliver (threadOf j (s .store .words) q) (h .result) v) (linkOf q))
+        ≡ update (update (cellsOf j (s .store .words) (s .threads)) t free) p (used (deliver (threadOf j (s .store .words) q) (h .origin .result) v) (linkOf q))
     return-cells =
         cells-change j (s .store .words) ws (set (s .threads) t blankThread) p parent
         (omega (arith, length-set (s .threads) t blankThread, used-below (s .threads) p (above .used-parent))) kept
         ∙ ap (λ f. update f p (cellOf j ws parent)) (cells-set j (s .store .words) (s .threads) t blankThread (thread-below j good s ok c t in-use))
         ∙ ap (update (update (cellsOf j (s .store .words) (s .threads)) t free) p) parent-cell
 
-    child-link : poolOf j s .cell t ≡ used l (child p (h .result))
-    child-link = cell-here j good s ok c t in-use ∙ ap (λ b. used l (cond b root (child (h .parent) (h .result)))) not-root
+    child-link : poolOf j s .cell t ≡ used l (child p (h .origin .result))
+    child-link = cell-here j good s ok c t in-use ∙ ap (λ b. used l (cond b root (child (h .origin .parent) (h .origin .result)))) not-root
 
     parent-goes : StepsTo j good s ok c t in-use (returnToParent s (turnAt j s c t) p q v)
     unfolding returnToParent
     parent-goes = subst (ThreadStep windows window-tests (codeOf j good) t (poolOf j s))
         (λ ι. record { cell = sym return-cells ι; words = words-from 32 (s .store .memory); units = units-here j good s ok c t in-use ι })
-        (returns-step windows window-tests (codeOf j good) (poolOf j s) t l (threadOf j (s .store .words) q) (linkOf q) p (h .result) v child-link
+        (returns-step windows window-tests (codeOf j good) (poolOf j s) t l (threadOf j (s .store .words) q) (linkOf q) p (h .origin .result) v child-link
         (cell-used j (s .store .words) q (above .used-parent)) (effect-met j good s ok c t in-use (Returns v) met))
 
     pub returns-goes : StepsTo j good s ok c t in-use (returnOf s (turnAt j s c t) v)

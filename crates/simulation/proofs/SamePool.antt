@@ -61,18 +61,18 @@ runs-pool j c p s u = set-pool j p (withStatus Running (threadAt s p)) s (alike-
 
 -- thread t leaves its core, and its parent, if it is connected, runs on
 pub leaves-pool : (j : Job) (c t : ℕ) (x : Status) (s : State) → Used s t → 0 < statusNumber x
-    → (threadAt s t .connected ≡ true → Used s (threadAt s t .parent)) → poolOf j (leaves c t x s) ≡ poolOf j s
+    → (threadAt s t .connected ≡ true → Used s (threadAt s t .origin .parent)) → poolOf j (leaves c t x s) ≡ poolOf j s
 unfolding leaves
 leaves-pool j c t x s u k p = go (threadAt s t .connected) p
   where
     gone : poolOf j (setThread t (disconnected x (threadAt s t)) s) ≡ poolOf j s
     gone = set-pool j t (disconnected x (threadAt s t)) s (alike-disconnected x (threadAt s t) u k)
 
-    go : (b : Bool) → (b ≡ true → Used s (threadAt s t .parent))
-        → poolOf j (cond b (runs c (threadAt s t .parent) (setThread t (disconnected x (threadAt s t)) s))
+    go : (b : Bool) → (b ≡ true → Used s (threadAt s t .origin .parent))
+        → poolOf j (cond b (runs c (threadAt s t .origin .parent) (setThread t (disconnected x (threadAt s t)) s))
         (setCore c none (setThread t (disconnected x (threadAt s t)) s))) ≡ poolOf j s
-    go true f = runs-pool j c (threadAt s t .parent) (setThread t (disconnected x (threadAt s t)) s)
-        (used-set s t (disconnected x (threadAt s t)) (used-below (s .threads) t u) k (threadAt s t .parent) (f refl)) ∙ gone
+    go true f = runs-pool j c (threadAt s t .origin .parent) (setThread t (disconnected x (threadAt s t)) s)
+        (used-set s t (disconnected x (threadAt s t)) (used-below (s .threads) t u) k (threadAt s t .origin .parent) (f refl)) ∙ gone
     go false f = gone
 
 -- suspended t joins the ready queue

@@ -25,16 +25,16 @@ use Rattle.rules.specs.State.{Job, State}
 -- a thread's own state: its slots are its frame's words, and zero past them
 abbrev pub threadOf : Job → List ℕ → Thread → ThreadState Window
 threadOf j ws h = record {
-  routine = h .routine;
+  routine = h .origin .routine;
   position = h .position;
-  slots = frame ws (h .base) (slotsOf (j .image) (h .routine));
-  pending = isPending (h .pending);
-  window = h .window;
+  slots = frame ws (h .origin .base) (slotsOf (j .image) (h .origin .routine));
+  pending = isPending (h .forks .pending);
+  window = h .forks .window;
 }
 
 -- whose child it is, and by which slot
 abbrev pub linkOf : Thread → Link
-linkOf h = cond (isRoot h) root (child (h .parent) (h .result))
+linkOf h = cond (isRoot h) root (child (h .origin .parent) (h .origin .result))
 
 abbrev pub cellIn : Status → ThreadState Window → Link → Cell (ThreadState Window)
 cellIn Free l k = free
@@ -82,14 +82,14 @@ cell-free j ws h u = cell-in-free (h .status) (threadOf j ws h) (linkOf h) u
 
 -- the cell of a thread whose frame's words are the same
 pub cell-words : (j : Job) (ws ws' : List ℕ) (h : Thread)
-    → (InUse h → frame ws' (h .base) (slotsOf (j .image) (h .routine)) ≡ frame ws (h .base) (slotsOf (j .image) (h .routine)))
+    → (InUse h → frame ws' (h .origin .base) (slotsOf (j .image) (h .origin .routine)) ≡ frame ws (h .origin .base) (slotsOf (j .image) (h .origin .routine)))
     → cellOf j ws' h ≡ cellOf j ws h
 cell-words j ws ws' h f = go (h .status) f
   where
     with-slots : (ℕ → ℕ) → ThreadState Window
-    with-slots z = record { routine = h .routine; position = h .position; slots = z; pending = isPending (h .pending); window = h .window }
+    with-slots z = record { routine = h .origin .routine; position = h .position; slots = z; pending = isPending (h .forks .pending); window = h .forks .window }
 
-    go : (x : Status) → (0 < statusNumber x → frame ws' (h .base) (slotsOf (j .image) (h .routine)) ≡ frame ws (h .base) (slotsOf (j .image) (h .routine)))
+    go : (x : Status) → (0 < statusNumber x → frame ws' (h .origin .base) (slotsOf (j .image) (h .origin .routine)) ≡ frame ws (h .origin .base) (slotsOf (j .image) (h .origin .routine)))
         → cellIn x (threadOf j ws' h) (linkOf h) ≡ cellIn x (threadOf j ws h) (linkOf h)
     go Free f = refl
     go Running f = ap (λ z. used (with-slots z) (linkOf h)) (f (omega arith))
@@ -109,8 +109,8 @@ used-below ts t u = go (decLt t (length ts))
 -- one record and some words have changed, but no other used thread's words
 pub cells-change : (j : Job) (ws ws' : List ℕ) (ts : List Thread) (t : ℕ) (h : Thread) → t < length ts
     → ((u : ℕ) → ¬ (u ≡ t) → InUse (getD ts u blankThread)
-    → frame ws' (getD ts u blankThread .base) (slotsOf (j .image) (getD ts u blankThread .routine))
-    ≡ frame ws (getD ts u blankThread .base) (slotsOf (j .image) (getD ts u blankThread .routine)))
+    → frame ws' (getD ts u blankThread .origin .base) (slotsOf (j .image) (getD ts u blankThread .origin .routine))
+    ≡ frame ws (getD ts u blankThread .origin .base) (slotsOf (j .image) (getD ts u blankThread .origin .routine)))
     → cellsOf j ws' (set ts t h) ≡ update (cellsOf j ws ts) t (cellOf j ws' h)
 cells-change j ws ws' ts t h l f = fun-ext {f = cellsOf j ws' (set ts t h)} {g = update (cellsOf j ws ts) t (cellOf j ws' h)} (λ u. go u (ℕ-discrete u t))
   where
@@ -125,20 +125,20 @@ cells-set j ws ts t h l = cells-change j ws ws ts t h l (λ u n k. refl)
 -- only words have changed, and no used thread's
 pub cells-words : (j : Job) (ws ws' : List ℕ) (ts : List Thread)
     → ((u : ℕ) → InUse (getD ts u blankThread)
-    → frame ws' (getD ts u blankThread .base) (slotsOf (j .image) (getD ts u blankThread .routine))
-    ≡ frame ws (getD ts u blankThread .base) (slotsOf (j .image) (getD ts u blankThread .routine)))
+    → frame ws' (getD ts u blankThread .origin .base) (slotsOf (j .image) (getD ts u blankThread .origin .routine))
+    ≡ frame ws (getD ts u blankThread .origin .base) (slotsOf (j .image) (getD ts u blankThread .origin .routine)))
     → cellsOf j ws' ts ≡ cellsOf j ws ts
 cells-words j ws ws' ts f = fun-ext {f = cellsOf j ws' ts} {g = cellsOf j ws ts} (λ u. cell-words j ws ws' (getD ts u blankThread) (f u))
 
 -- the same thread to the pool: only its status, its connection and its count of children may differ
 pub record Alike (h h' : Thread) : Type 0 where
-  pub routine : h' .routine ≡ h .routine
+  pub routine : h' .origin .routine ≡ h .origin .routine
   pub position : h' .position ≡ h .position
-  pub base : h' .base ≡ h .base
-  pub pending : h' .pending ≡ h .pending
-  pub window : h' .window ≡ h .window
-  pub parent : h' .parent ≡ h .parent
-  pub result : h' .result ≡ h .result
+  pub base : h' .origin .base ≡ h .origin .base
+  pub pending : h' .forks .pending ≡ h .forks .pending
+  pub window : h' .forks .window ≡ h .forks .window
+  pub parent : h' .origin .parent ≡ h .origin .parent
+  pub result : h' .origin .result ≡ h .origin .result
   pub used : InUse h
   pub still : InUse h'
 

@@ -40,6 +40,6 @@ module _ (j : Job) (s : State) (ok : Sound j s) where
     pub moved-used : Used behind t
     moved-used = still-used t (runner j s ok c t k)
 
-    pub moved-parent : threadAt behind t .connected ≡ true → Used behind (threadAt behind t .parent)
-    moved-parent h = subst (λ z. Used behind (z .parent)) (sym now)
-        (still-used (threadAt s t .parent) (linked-parent j s ok t (sym (ap (λ z. z .connected) now) ∙ h)))
+    pub moved-parent : threadAt behind t .connected ≡ true → Used behind (threadAt behind t .origin .parent)
+    moved-parent h = subst (λ z. Used behind (z .origin .parent)) (sym now)
+        (still-used (threadAt s t .origin .parent) (linked-parent j s ok t (sym (ap (λ z. z .connected) now) ∙ h)))

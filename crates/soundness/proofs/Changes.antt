@@ -19,16 +19,16 @@ abbrev pub connectedAt : State → ℕ → Bool
 connectedAt s t = threadAt s t .connected
 
 abbrev pub parentAt : State → ℕ → ℕ
-parentAt s t = threadAt s t .parent
+parentAt s t = threadAt s t .origin .parent
 
 abbrev pub childrenAt : State → ℕ → ℕ
-childrenAt s t = threadAt s t .children
+childrenAt s t = threadAt s t .forks .children
 
 abbrev pub pendingAt : State → ℕ → ℕ
-pendingAt s t = threadAt s t .pending
+pendingAt s t = threadAt s t .forks .pending
 
 abbrev pub resultAt : State → ℕ → ℕ
-resultAt s t = threadAt s t .result
+resultAt s t = threadAt s t .origin .result
 
 -- a record's status as a number
 abbrev pub standing : Thread → ℕ

@@ -15,12 +15,12 @@ use Rattle.rules.specs.Sound.{GoodJob, Placed, Used}
 -- what thread t of a sound state meets
 abbrev pub MetAt : Job → State → ℕ → Effect → Type 0
 MetAt j s t e =
-    Facts (j .image) (slotsOf (j .image) (threadAt s t .routine)) (isStart (commandsOf (codeOf (j .image) (threadAt s t .routine))))
-    (threadAt s t .position + widthOf (byteOf j (threadAt s t))) (slotOf (s .store .words) (threadAt s t .base))
-    (isPending (threadAt s t .pending)) (threadAt s t .window) e
+    Facts (j .image) (slotsOf (j .image) (threadAt s t .origin .routine)) (isStart (commandsOf (codeOf (j .image) (threadAt s t .origin .routine))))
+    (threadAt s t .position + widthOf (byteOf j (threadAt s t))) (slotOf (s .store .words) (threadAt s t .origin .base))
+    (isPending (threadAt s t .forks .pending)) (threadAt s t .forks .window) e
 
 pub met-at : (j : Job) (s : State) → GoodJob j → Placed j s → (t : ℕ) → Used s t → (e : Effect) → effectAt j s (threadAt s t) ≡ e → MetAt j s t e
 unfolding effectAt
 met-at j s g p t u e f =
-    (rw f at (met-here j g (threadAt s t .routine) (threadAt s t .position) (p .routine t u) (p .position t u)
-    (slotOf (s .store .words) (threadAt s t .base)) (isPending (threadAt s t .pending)) (threadAt s t .window))) .facts
+    (rw f at (met-here j g (threadAt s t .origin .routine) (threadAt s t .position) (p .routine t u) (p .position t u)
+    (slotOf (s .store .words) (threadAt s t .origin .base)) (isPending (threadAt s t .forks .pending)) (threadAt s t .forks .window))) .facts

@@ -35,11 +35,11 @@ pub record Waits (j : Job) (s : State) (c t : ℕ) : Type 0 where
   pub seat : onCore s c ≡ t
   pub low : t < 32
   pub byte : byteOf j (threadAt s t) ≡ 10
-  pub children : 0 < threadAt s t .children
+  pub children : 0 < threadAt s t .forks .children
 
 -- the stacklet x of a new frame, and the free stacklets xs that are left
 pub data Chosen (j : Job) (s : State) (kind : ForkKind) (h : Thread) (r x : ℕ) (xs : List ℕ) : Type 0 where
-  above : goesAbove j s kind h r ≡ true → x ≡ h .base / 64 → xs ≡ s .queues .freeStacklets → Chosen j s kind h r x xs
+  above : goesAbove j s kind h r ≡ true → x ≡ h .origin .base / 64 → xs ≡ s .queues .freeStacklets → Chosen j s kind h r x xs
   onFree : goesAbove j s kind h r ≡ false → s .queues .freeStacklets ≡ x ∷ xs → Chosen j s kind h r x xs
 
 -- a fork has the thread number n and the stacklet x for its child
@@ -125,8 +125,8 @@ module _ (P : After → Type 0) (j : Job) (s : State) (cases : Cases P j s) wher
   fork-by kind o f make = with-number (s .queues .freeThreads) refl
     where
       on-place : (n : ℕ) (ns : List ℕ) → s .queues .freeThreads ≡ n ∷ ns → (b : Bool) → goesAbove j s kind (o .thread) (f .routine) ≡ b
-          → (ys : List ℕ) → s .queues .freeStacklets ≡ ys → P (forkOn j s kind o f n ns (placeOf b (o .thread .base / 64) ys))
-      on-place n ns e true g ys q = make n ns (o .thread .base / 64) ys (record { number = e; place = above g refl (sym q) })
+          → (ys : List ℕ) → s .queues .freeStacklets ≡ ys → P (forkOn j s kind o f n ns (placeOf b (o .thread .origin .base / 64) ys))
+      on-place n ns e true g ys q = make n ns (o .thread .origin .base / 64) ys (record { number = e; place = above g refl (sym q) })
       on-place n ns e false g [] q = cases .refuses 21 (omega arith) (omega arith)
       on-place n ns e false g (y ∷ ys) q = make n ns y ys (record { number = e; place = onFree g q })
 
@@ -163,7 +163,7 @@ module _ (P : After → Type 0) (j : Job) (s : State) (cases : Cases P j s) wher
       go true _ y _ z _ v _ b _ = cases .refuses 19 (omega arith) (omega arith)
       go false e true _ z _ v _ b _ = cases .refuses 14 (omega arith) (omega arith)
       go false e false f false _ v _ b _ = cases .refuses 15 (omega arith) (omega arith)
-      go false e false f true g true h b _ = let w = both (eqb (byteOf j (threadAt s (onCore s c))) 10) (ltb 0 (threadAt s (onCore s c) .children)) h in
+      go false e false f true g true h b _ = let w = both (eqb (byteOf j (threadAt s (onCore s c))) 10) (ltb 0 (threadAt s (onCore s c) .forks .children)) h in
           cases .waiting c (onCore s c) (record {
             ongoing = not-over _ e;
             core = leb-false _ _ f;

@@ -20,7 +20,7 @@ use Rattle.thread.specs.declared.Thread.{Thread}
 use Rattle.thread.specs.declared.Status.{Status}
 use Rattle.thread.specs.declared.Status.the-variants.{Running, Ready, Suspended, Waiting}
 use Rattle.thread.specs.declared.Effect.the-variants.{Lforks, Forks, Joins, Returns}
-use Rattle.thread.specs.Thread.{statusNumber, blankThread, newThread, withStatus, disconnected, movedTo, joinedAt, behindFork, withoutChild, isRoot, none, _is_}
+use Rattle.thread.specs.Thread.{statusNumber, blankThread, originOf, newThread, withStatus, disconnected, movedTo, joinedAt, behindFork, withoutChild, isRoot, none, _is_}
 use Rattle.rules.proofs.Laws.{child-in-use, parent-in-use}
 use Rattle.rules.specs.declared.ForkKind.{ForkKind}
 use Rattle.rules.specs.declared.ForkKind.the-variants.{Called, Queued, Stolen}
@@ -56,7 +56,7 @@ like-status : (s : State) (t : ℕ) (status : Status) → Used s t → 0 < statu
     → (u : ℕ) → Like (threadAt s u) (threadAt (setThread t (withStatus status (threadAt s t)) s) u)
 like-status s t status h k = like-replaced (s .threads) t (withStatus status (threadAt s t)) (like-used h k refl refl refl refl refl)
 
-like-leaves : (s : State) (c t : ℕ) (status : Status) → Used s t → 0 < statusNumber status → (threadAt s t .connected ≡ true → Used s (threadAt s t .parent))
+like-leaves : (s : State) (c t : ℕ) (status : Status) → Used s t → 0 < statusNumber status → (threadAt s t .connected ≡ true → Used s (threadAt s t .origin .parent))
     → (u : ℕ) → Like (threadAt s u) (threadAt (leaves c t status s) u)
 unfolding leaves
 like-leaves s c t status h k p u = go (threadAt s t .connected) p
@@ -67,16 +67,16 @@ like-leaves s c t status h k p u = go (threadAt s t .connected) p
     off : (u : ℕ) → Like (threadAt s u) (threadAt s1 u)
     off = like-replaced (s .threads) t (disconnected status (threadAt s t)) (like-used h k refl refl refl refl refl)
 
-    go : (b : Bool) → (b ≡ true → Used s (threadAt s t .parent))
-        → Like (threadAt s u) (threadAt (cond b (runs c (threadAt s t .parent) s1) (setCore c none s1)) u)
-    go true p = like-trans (off u) (like-status s1 (threadAt s t .parent) Running (off (threadAt s t .parent) .stays .still (p refl)) (omega arith) u)
+    go : (b : Bool) → (b ≡ true → Used s (threadAt s t .origin .parent))
+        → Like (threadAt s u) (threadAt (cond b (runs c (threadAt s t .origin .parent) s1) (setCore c none s1)) u)
+    go true p = like-trans (off u) (like-status s1 (threadAt s t .origin .parent) Running (off (threadAt s t .origin .parent) .stays .still (p refl)) (omega arith) u)
     go false p = off u
 
 leaves-tops : (c t : ℕ) (status : Status) (s : State) → leaves c t status s .store .tops ≡ s .store .tops
 unfolding leaves
 leaves-tops c t status s = go (threadAt s t .connected)
   where
-    go : (b : Bool) → cond b (runs c (threadAt s t .parent) (setThread t (disconnected status (threadAt s t)) s)) (setCore c none (setThread t (disconnected status (threadAt s t)) s)) .store .tops ≡ s .store .tops
+    go : (b : Bool) → cond b (runs c (threadAt s t .origin .parent) (setThread t (disconnected status (threadAt s t)) s)) (setCore c none (setThread t (disconnected status (threadAt s t)) s)) .store .tops ≡ s .store .tops
     go true = refl
     go false = refl
 
@@ -84,7 +84,7 @@ leaves-free : (c t : ℕ) (status : Status) (s : State) → leaves c t status s 
 unfolding leaves
 leaves-free c t status s = go (threadAt s t .connected)
   where
-    go : (b : Bool) → cond b (runs c (threadAt s t .parent) (setThread t (disconnected status (threadAt s t)) s)) (setCore c none (setThread t (disconnected status (threadAt s t)) s)) .queues .freeStacklets
+    go : (b : Bool) → cond b (runs c (threadAt s t .origin .parent) (setThread t (disconnected status (threadAt s t)) s)) (setCore c none (setThread t (disconnected status (threadAt s t)) s)) .queues .freeStacklets
         ≡ s .queues .freeStacklets
     go true = refl
     go false = refl
@@ -107,8 +107,8 @@ module _ (j : Job) (s : State) (ok : Sound j s) where
       here : threadAt (goesOn (turnAt j s c t) s) t ≡ movedTo (turnAt j s c t .next) (threadAt s t)
       here = getD-set-same (s .threads) t (movedTo (turnAt j s c t .next) (threadAt s t)) blankThread (used-below s t (runner j s ok c t k))
 
-      still-linked : threadAt (goesOn (turnAt j s c t) s) t .connected ≡ true → Used (goesOn (turnAt j s c t) s) (threadAt (goesOn (turnAt j s c t) s) t .parent)
-      still-linked e = rw (ap (λ h. h .parent) here) (like-moved t (turnAt j s c t .next) (threadAt s t .parent) .stays .still
+      still-linked : threadAt (goesOn (turnAt j s c t) s) t .connected ≡ true → Used (goesOn (turnAt j s c t) s) (threadAt (goesOn (turnAt j s c t) s) t .origin .parent)
+      still-linked e = rw (ap (λ h. h .origin .parent) here) (like-moved t (turnAt j s c t .next) (threadAt s t .origin .parent) .stays .still
           (linked-parent j s ok t (sym (ap (λ h. h .connected) here) ∙ e)))
 
   -- a join that passes
@@ -130,8 +130,8 @@ module _ (j : Job) (s : State) (ok : Sound j s) where
       h' = joinedAt (turnAt j s c t .next) (threadAt s t)
 
       Seen : ℕ → Thread → Type 0
-      Seen u g = Stays (threadAt s u) g × (g .window .lo ≡ threadAt s u .window .lo) × (g .window .hi ≡ threadAt s u .window .hi)
-          × ((g .window .mark ≡ threadAt s u .window .mark) ⊎ ((g .window .mark ≡ threadAt s u .window .lo) × Childless s u))
+      Seen u g = Stays (threadAt s u) g × (g .forks .window .lo ≡ threadAt s u .forks .window .lo) × (g .forks .window .hi ≡ threadAt s u .forks .window .hi)
+          × ((g .forks .window .mark ≡ threadAt s u .forks .window .mark) ⊎ ((g .forks .window .mark ≡ threadAt s u .forks .window .lo) × Childless s u))
 
       view : (u : ℕ) → Dec (u ≡ t) → Seen u (getD (set (s .threads) t h') u blankThread)
       view u (yes q) = rw (q, getD-set-same (s .threads) t h' blankThread (used-below s t (runner j s ok c t k)))
@@ -140,16 +140,16 @@ module _ (j : Job) (s : State) (ok : Sound j s) where
 
   -- what goes above its parent's frame finds it topmost, and fits
   goes-above : (kind : ForkKind) (t r : ℕ) → goesAbove j s kind (threadAt s t) r ≡ true
-      → (isTopmost (s .store .tops) (threadAt s t .base) (sizeAt j s t) ≡ true) × (fitsOn (s .store .tops) (threadAt s t .base / 64) (slotsOf (j .image) r) ≡ true)
+      → (isTopmost (s .store .tops) (threadAt s t .origin .base) (sizeAt j s t) ≡ true) × (fitsOn (s .store .tops) (threadAt s t .origin .base / 64) (slotsOf (j .image) r) ≡ true)
   unfolding goesAbove
   goes-above kind t r g =
-      both _ _ (both (isConnected kind) (isTopmost (s .store .tops) (threadAt s t .base) (sizeAt j s t) && fitsOn (s .store .tops) (threadAt s t .base / 64) (slotsOf (j .image) r)) g .1)
+      both _ _ (both (isConnected kind) (isTopmost (s .store .tops) (threadAt s t .origin .base) (sizeAt j s t) && fitsOn (s .store .tops) (threadAt s t .origin .base / 64) (slotsOf (j .image) r)) g .1)
 
   -- a fork of any kind: s' is the state with the child
   fork-change : (kind : ForkKind) (c t r d a e n : ℕ) (ns : List ℕ) (x : ℕ) (xs : List ℕ) (s' : State) → s .outcome ≡ going → Used s t
       → MetAt j s t (Lforks r d a e) → Forked j s kind (threadAt s t) r n ns x xs
-      → s' .threads ≡ set (set (s .threads) t (behindFork (parentStatus kind) (turnAt j s c t .next) d (restOf (threadAt s t .window) e) (threadAt s t)))
-      n (newThread (childStatus kind) (isConnected kind) r t d (baseOn (s .store .tops) x) (childOf (threadAt s t .window) e))
+      → s' .threads ≡ set (set (s .threads) t (behindFork (parentStatus kind) (turnAt j s c t .next) d (restOf (threadAt s t .forks .window) e) (threadAt s t)))
+      n (newThread (originOf r t d (baseOn (s .store .tops) x)) (childStatus kind) (isConnected kind) (childOf (threadAt s t .forks .window) e))
       → s' .store .tops ≡ pushedTops (s .store .tops) x (slotsOf (j .image) r) → s' .queues .freeStacklets ≡ xs → Change j s s'
   fork-change kind c t r d a e n ns x xs s' ongoing h m f threads tops free = birth t n r d x e (record {
     parent-used = h;
@@ -172,10 +172,10 @@ module _ (j : Job) (s : State) (ok : Sound j s) where
   })
     where
       p : Thread
-      p = behindFork (parentStatus kind) (turnAt j s c t .next) d (restOf (threadAt s t .window) e) (threadAt s t)
+      p = behindFork (parentStatus kind) (turnAt j s c t .next) d (restOf (threadAt s t .forks .window) e) (threadAt s t)
 
       q : Thread
-      q = newThread (childStatus kind) (isConnected kind) r t d (baseOn (s .store .tops) x) (childOf (threadAt s t .window) e)
+      q = newThread (originOf r t d (baseOn (s .store .tops) x)) (childStatus kind) (isConnected kind) (childOf (threadAt s t .forks .window) e)
 
       head : (n < 32) × (statusAt s n ≡ 0)
       head = let all : Every (λ y. (y < 32) × (statusAt s y ≡ 0)) (n ∷ ns) = rw (f .number) at (ok .freeThreads .free) in all .0
@@ -204,7 +204,7 @@ module _ (j : Job) (s : State) (ok : Sound j s) where
           go : Chosen j s kind (threadAt s t) r x xs → (fitsOn (s .store .tops) x (slotsOf (j .image) r) ≡ true) × NewPlace j s s' t x
           go (above g e l) =
               let w = goes-above kind t r g in
-              (rw e (w .1), aboveParent (rw e (topmost-base (s .store .tops) (threadAt s t .base) (sizeAt j s t) (w .0))) e (free ∙ l))
+              (rw e (w .1), aboveParent (rw e (topmost-base (s .store .tops) (threadAt s t .origin .base) (sizeAt j s t) (w .0))) e (free ∙ l))
           go (onFree g l) =
               let all : Every (λ y. (y < 16) × (topAt (s .store .tops) y ≡ 0) × Unused s y) (x ∷ xs) = rw l at (ok .freeStacklets .free) in
               let w = slots-most (j .image) good r (m .0 .routine) in
@@ -236,10 +236,10 @@ module _ (j : Job) (s : State) (ok : Sound j s) where
       below = used-below s t h
 
       p : ℕ
-      p = threadAt s t .parent
+      p = threadAt s t .origin .parent
 
       q : Thread
-      q = threadAt s (threadAt s t .parent)
+      q = threadAt s (threadAt s t .origin .parent)
 
       q' : Thread
       q' = withoutChild (statusAfter (threadAt s t .connected) q) q
@@ -254,7 +254,7 @@ module _ (j : Job) (s : State) (ok : Sound j s) where
       other w u n (no z) = like-same (getD-set-other (set (s .threads) t blankThread) p u q' blankThread z ∙ getD-set-other (s .threads) t u blankThread blankThread n)
 
       go : (b : Bool) → isRoot (threadAt s t) ≡ b
-          → Change j s (cond b (setOutcome (finished v) (setCore c none (freed (turnAt j s c t) s))) (returnToParent s (turnAt j s c t) (threadAt s t .parent) (threadAt s (threadAt s t .parent)) v))
+          → Change j s (cond b (setOutcome (finished v) (setCore c none (freed (turnAt j s c t) s))) (returnToParent s (turnAt j s c t) (threadAt s t .origin .parent) (threadAt s (threadAt s t .origin .parent)) v))
       go true r = ending t (record {
         used = h;
         childless = alone;

@@ -112,11 +112,11 @@ parent-counts s many ok t h k =
 
 -- RECORDS THAT STAY. A record in the place of another, as far as the tree goes; child counts are looked at apart
 pub record Stays (h h' : Thread) : Type 0 where
-  pub parent : h' .parent ≡ h .parent
-  pub result : h' .result ≡ h .result
+  pub parent : h' .origin .parent ≡ h .origin .parent
+  pub result : h' .origin .result ≡ h .origin .result
   pub to : 0 < standing h → 0 < standing h'
   pub from : 0 < standing h' → 0 < standing h
-  pub waits : standing h' ≡ 4 → 0 < h' .children
+  pub waits : standing h' ≡ 4 → 0 < h' .forks .children
 
 pub stays-refl : (s : State) → Tree s → (u : ℕ) → Stays (threadAt s u) (threadAt s u)
 stays-refl s ok u = record { parent = refl; result = refl; to = λ h. h; from = λ h. h; waits = ok .waits u }

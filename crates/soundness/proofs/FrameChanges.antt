@@ -14,7 +14,7 @@ use Rattle.window.specs.Rights.{childOf, restOf}
 use Rattle.stacklets.specs.Tops.{topAt, baseOn, fitsOn, pushedTops, poppedTops}
 use Rattle.thread.specs.declared.Thread.{Thread}
 use Rattle.thread.specs.declared.Status.{Status}
-use Rattle.thread.specs.Thread.{statusNumber, blankThread, newThread, _is_}
+use Rattle.thread.specs.Thread.{statusNumber, blankThread, originOf, newThread, _is_}
 use Rattle.rules.specs.State.{Job, State, threadAt}
 use Rattle.rules.specs.Return.{stackletsWithout}
 use Rattle.rules.specs.Sound.{Used, statusAt, sizeAt}
@@ -22,17 +22,17 @@ use Rattle.soundness.proofs.ForkTree.{Childless}
 
 -- a record in the place of another: the same frame and place in the fork tree, in use just if that was
 pub record Stays (h h' : Thread) : Type 0 where
-  pub routine : h' .routine ≡ h .routine
-  pub parent : h' .parent ≡ h .parent
-  pub result : h' .result ≡ h .result
-  pub base : h' .base ≡ h .base
+  pub routine : h' .origin .routine ≡ h .origin .routine
+  pub parent : h' .origin .parent ≡ h .origin .parent
+  pub result : h' .origin .result ≡ h .origin .result
+  pub base : h' .origin .base ≡ h .origin .base
   pub was : 0 < statusNumber (h' .status) → 0 < statusNumber (h .status)
   pub still : 0 < statusNumber (h .status) → 0 < statusNumber (h' .status)
 
 -- and with the same window
 pub record Like (h h' : Thread) : Type 0 where
   pub stays : Stays h h'
-  pub window : h' .window ≡ h .window
+  pub window : h' .forks .window ≡ h .forks .window
 
 pub stays-refl : (h : Thread) → Stays h h
 stays-refl h = record { routine = refl; parent = refl; result = refl; base = refl; was = λ u. u; still = λ u. u }
@@ -54,8 +54,8 @@ like-trans p q = record {
 }
 
 -- only status, connection, position, children and pending slots differ, and both are in use
-pub like-used : {h h' : Thread} → 0 < statusNumber (h .status) → 0 < statusNumber (h' .status) → h' .routine ≡ h .routine → h' .parent ≡ h .parent → h' .result ≡ h .result
-    → h' .base ≡ h .base → h' .window ≡ h .window → Like h h'
+pub like-used : {h h' : Thread} → 0 < statusNumber (h .status) → 0 < statusNumber (h' .status) → h' .origin .routine ≡ h .origin .routine → h' .origin .parent ≡ h .origin .parent → h' .origin .result ≡ h .origin .result
+    → h' .origin .base ≡ h .origin .base → h' .forks .window ≡ h .forks .window → Like h h'
 like-used u v r p d b w = record { stays = record { routine = r; parent = p; result = d; base = b; was = λ x. u; still = λ x. v }; window = w }
 
 -- a table in which one record was replaced
@@ -70,15 +70,15 @@ like-replaced ts t h l u = go (ℕ-discrete u t) (decLt t (length ts))
 -- NO FRAME comes or goes, and no window changes but by a join, which puts the mark back to lo
 pub record Steady (s s' : State) : Type 0 where
   pub stays : (u : ℕ) → Stays (threadAt s u) (threadAt s' u)
-  pub lo : (u : ℕ) → threadAt s' u .window .lo ≡ threadAt s u .window .lo
-  pub hi : (u : ℕ) → threadAt s' u .window .hi ≡ threadAt s u .window .hi
-  pub mark : (u : ℕ) → (threadAt s' u .window .mark ≡ threadAt s u .window .mark) ⊎ ((threadAt s' u .window .mark ≡ threadAt s u .window .lo) × Childless s u)
+  pub lo : (u : ℕ) → threadAt s' u .forks .window .lo ≡ threadAt s u .forks .window .lo
+  pub hi : (u : ℕ) → threadAt s' u .forks .window .hi ≡ threadAt s u .forks .window .hi
+  pub mark : (u : ℕ) → (threadAt s' u .forks .window .mark ≡ threadAt s u .forks .window .mark) ⊎ ((threadAt s' u .forks .window .mark ≡ threadAt s u .forks .window .lo) × Childless s u)
   pub tops : s' .store .tops ≡ s .store .tops
   pub free : s' .queues .freeStacklets ≡ s .queues .freeStacklets
 
 -- where the new frame of routine r goes: above the parent's frame, or at the first word of a free stacklet
 pub data NewPlace (j : Job) (s s' : State) (t x : ℕ) : Type 0 where
-  aboveParent : baseOn (s .store .tops) x ≡ threadAt s t .base + sizeAt j s t → x ≡ threadAt s t .base / 64 → s' .queues .freeStacklets ≡ s .queues .freeStacklets → NewPlace j s s' t x
+  aboveParent : baseOn (s .store .tops) x ≡ threadAt s t .origin .base + sizeAt j s t → x ≡ threadAt s t .origin .base / 64 → s' .queues .freeStacklets ≡ s .queues .freeStacklets → NewPlace j s s' t x
   onNew : topAt (s .store .tops) x ≡ 0 → s .queues .freeStacklets ≡ x ∷ s' .queues .freeStacklets → NewPlace j s s' t x
 
 -- A FORK by thread t makes thread n, of routine r, on stacklet x, with the window up to a cut
@@ -88,17 +88,17 @@ pub record Birth (j : Job) (s s' : State) (t n r d x cut : ℕ) : Type 0 where
   pub unused : statusAt s n ≡ 0
   pub not-root : n ≡ 0 → ⊥
   pub routine : r < countOf (j .image)
-  pub low : threadAt s t .window .mark ≤ cut
-  pub high : cut ≤ threadAt s t .window .hi
+  pub low : threadAt s t .forks .window .mark ≤ cut
+  pub high : cut ≤ threadAt s t .forks .window .hi
   pub fit : fitsOn (s .store .tops) x (slotsOf (j .image) r) ≡ true
   pub place : NewPlace j s s' t x
   pub tops : s' .store .tops ≡ pushedTops (s .store .tops) x (slotsOf (j .image) r)
   pub status : Status
   pub connected : Bool
   pub used : 0 < statusNumber status
-  pub child : threadAt s' n ≡ newThread status connected r t d (baseOn (s .store .tops) x) (childOf (threadAt s t .window) cut)
+  pub child : threadAt s' n ≡ newThread (originOf r t d (baseOn (s .store .tops) x)) status connected (childOf (threadAt s t .forks .window) cut)
   pub parent : Stays (threadAt s t) (threadAt s' t)
-  pub rest : threadAt s' t .window ≡ restOf (threadAt s t .window) cut
+  pub rest : threadAt s' t .forks .window ≡ restOf (threadAt s t .forks .window) cut
   pub others : (u : ℕ) → (u ≡ t → ⊥) → (u ≡ n → ⊥) → threadAt s' u ≡ threadAt s u
 
 -- A RETURN of thread t, which has no children
@@ -107,8 +107,8 @@ pub record Ending (s s' : State) (t : ℕ) : Type 0 where
   pub childless : Childless s t
   pub gone : threadAt s' t ≡ blankThread
   pub others : (u : ℕ) → (u ≡ t → ⊥) → Like (threadAt s u) (threadAt s' u)
-  pub tops : s' .store .tops ≡ poppedTops (s .store .tops) (threadAt s t .base)
-  pub free : s' .queues .freeStacklets ≡ stackletsWithout (threadAt s t .base) (s .queues .freeStacklets)
+  pub tops : s' .store .tops ≡ poppedTops (s .store .tops) (threadAt s t .origin .base)
+  pub free : s' .queues .freeStacklets ≡ stackletsWithout (threadAt s t .origin .base) (s .queues .freeStacklets)
 
 pub data Change (j : Job) (s s' : State) : Type 0 where
   steady : Steady s s' → Change j s s'
@@ -122,7 +122,7 @@ pub data Family (s s' : State) (n : ℕ) (child : Thread) (u : ℕ) : Type 0 whe
 
 module _ {j : Job} {s s' : State} {t n r d x cut : ℕ} (b : Birth j s s' t n r d x cut) where
   abbrev pub childOfBirth : Thread
-  childOfBirth = newThread (b .status) (b .connected) r t d (baseOn (s .store .tops) x) (childOf (threadAt s t .window) cut)
+  childOfBirth = newThread (originOf r t d (baseOn (s .store .tops) x)) (b .status) (b .connected) (childOf (threadAt s t .forks .window) cut)
 
   pub family : (u : ℕ) → Family s s' n childOfBirth u
   family u = go (ℕ-discrete u n) (ℕ-discrete u t)

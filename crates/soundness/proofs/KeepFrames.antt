@@ -23,30 +23,30 @@ use Rattle.soundness.proofs.EntryChanges.{entry-change}
 module _ (j : Job) (s : State) (ok : Sound j s) where
   -- a thread in use has a frame of some words
   pub size-some : (t : ℕ) → Used s t → 0 < sizeAt j s t
-  size-some t u = slots-some (j .image) (accepted (j .image) (ok .job .image)) (threadAt s t .routine) (ok .placed .routine t u)
+  size-some t u = slots-some (j .image) (accepted (j .image) (ok .job .image)) (threadAt s t .origin .routine) (ok .placed .routine t u)
 
   -- the frame of a thread without children is the topmost of its stacklet: one above it would stand on its parent's, which would stand
   -- above too, down to a child's
-  pub below-childless : (t : ℕ) → Used s t → Childless s t → (fuel u : ℕ) → threadAt s u .base < fuel → Used s u → (u ≡ t → ⊥)
-      → threadAt s u .base / 64 ≡ threadAt s t .base / 64 → threadAt s u .base % 64 + sizeAt j s u ≤ threadAt s t .base % 64
+  pub below-childless : (t : ℕ) → Used s t → Childless s t → (fuel u : ℕ) → threadAt s u .origin .base < fuel → Used s u → (u ≡ t → ⊥)
+      → threadAt s u .origin .base / 64 ≡ threadAt s t .origin .base / 64 → threadAt s u .origin .base % 64 + sizeAt j s u ≤ threadAt s t .origin .base % 64
   below-childless t h alone zero u l k n e = absurd (omega arith)
   below-childless t h alone (suc fuel) u l k n e =
       ⊎-elim (λ a. absurd (above (below-childless t h alone fuel) a (ok .frames .stacked u k))) (λ a. omega arith)
       (ok .frames .apart t u h k (λ q. n (sym q)))
     where
       p : ℕ
-      p = threadAt s u .parent
+      p = threadAt s u .origin .parent
 
-      above : ((v : ℕ) → threadAt s v .base < fuel → Used s v → (v ≡ t → ⊥) → threadAt s v .base / 64 ≡ threadAt s t .base / 64
-          → threadAt s v .base % 64 + sizeAt j s v ≤ threadAt s t .base % 64)
-          → threadAt s t .base + sizeAt j s t ≤ threadAt s u .base
-          → (threadAt s u .base % 64 ≡ 0) ⊎ (Used s p × (threadAt s p .base + sizeAt j s p ≡ threadAt s u .base)) → ⊥
+      above : ((v : ℕ) → threadAt s v .origin .base < fuel → Used s v → (v ≡ t → ⊥) → threadAt s v .origin .base / 64 ≡ threadAt s t .origin .base / 64
+          → threadAt s v .origin .base % 64 + sizeAt j s v ≤ threadAt s t .origin .base % 64)
+          → threadAt s t .origin .base + sizeAt j s t ≤ threadAt s u .origin .base
+          → (threadAt s u .origin .base % 64 ≡ 0) ⊎ (Used s p × (threadAt s p .origin .base + sizeAt j s p ≡ threadAt s u .origin .base)) → ⊥
       above rec a (inl z) = let q = size-some t h in omega arith
       above rec a (inr z) =
           let q = size-some p (z .0) in
           let q' = size-some t h in
           let g = ok .frames .under p (z .0) in
-          let g' = ok .frames .most (threadAt s p .base / 64) in
+          let g' = ok .frames .most (threadAt s p .origin .base / 64) in
           let y = z .1 in
           let r = rec p (omega arith) (z .0) (alone u k) (omega arith) in
           omega arith
@@ -60,8 +60,8 @@ module _ (j : Job) (s : State) (ok : Sound j s) where
     apart = λ t u h k n. rw (f .stays t .base, f .stays t .routine, f .stays u .base, f .stays u .routine)
         (ok .frames .apart t u (f .stays t .was h) (f .stays u .was k) n);
     stacked = λ t u. rw (f .stays t .base, f .stays t .parent) (⊎-elim (λ z. inl z) (λ z. inr (
-      f .stays (threadAt s t .parent) .still (z .0),
-      rw (f .stays (threadAt s t .parent) .base, f .stays (threadAt s t .parent) .routine) (z .1),
+      f .stays (threadAt s t .origin .parent) .still (z .0),
+      rw (f .stays (threadAt s t .origin .parent) .base, f .stays (threadAt s t .origin .parent) .routine) (z .1),
     )) (ok .frames .stacked t (f .stays t .was u)));
   }
 
@@ -78,9 +78,9 @@ module _ (j : Job) (s : State) (ok : Sound j s) where
     room = let z = fits-means (s .store .tops) x size (b .fit) .0 in let y = ok .sized .tops in omega arith
 
     -- the new frame overlaps none
-    new-apart : (u : ℕ) → Used s u → Apart (threadAt s u .base) (sizeAt j s u) (baseOn (s .store .tops) x) size
-    new-apart u h = pushed-apart (s .store .tops) x size (b .fit) small (threadAt s u .base) (sizeAt j s u) (ok .frames .under u h)
-        (ok .frames .most (threadAt s u .base / 64))
+    new-apart : (u : ℕ) → Used s u → Apart (threadAt s u .origin .base) (sizeAt j s u) (baseOn (s .store .tops) x) size
+    new-apart u h = pushed-apart (s .store .tops) x size (b .fit) small (threadAt s u .origin .base) (sizeAt j s u) (ok .frames .under u h)
+        (ok .frames .most (threadAt s u .origin .base / 64))
 
     birth-frames : Frames j s'
     birth-frames = record {
@@ -91,57 +91,57 @@ module _ (j : Job) (s : State) (ok : Sound j s) where
       stacked = λ u h. stacked u h (family b u);
     }
       where
-        bounded : (u : ℕ) → Used s' u → Family s s' n (childOfBirth b) u → threadAt s' u .base < 1024
+        bounded : (u : ℕ) → Used s' u → Family s s' n (childOfBirth b) u → threadAt s' u .origin .base < 1024
         bounded u h (newborn _ e) = rw e (let z = base-below (s .store .tops) x size (b .fit) small in let y = small in omega arith)
         bounded u h (elder _ k) = rw (k .base) (ok .frames .bounded u (k .was h))
 
-        under : (u : ℕ) → Used s' u → Family s s' n (childOfBirth b) u → Under (pushedTops (s .store .tops) x size) (threadAt s' u .base) (sizeAt j s' u)
+        under : (u : ℕ) → Used s' u → Family s s' n (childOfBirth b) u → Under (pushedTops (s .store .tops) x size) (threadAt s' u .origin .base) (sizeAt j s' u)
         under u h (newborn _ e) = rw (
           e,
           base-stacklet (s .store .tops) x size (b .fit) small,
           base-place (s .store .tops) x size (b .fit) small,
           pushed-top (s .store .tops) x size (b .fit) small room,
         ) (omega arith)
-        under u h (elder _ k) = rw (k .base, k .routine) (pushed-under (s .store .tops) x size (b .fit) small (threadAt s u .base) (sizeAt j s u) (ok .frames .under u (k .was h)))
+        under u h (elder _ k) = rw (k .base, k .routine) (pushed-under (s .store .tops) x size (b .fit) small (threadAt s u .origin .base) (sizeAt j s u) (ok .frames .under u (k .was h)))
 
         apart : (u v : ℕ) → Used s' u → Used s' v → (u ≡ v → ⊥) → Family s s' n (childOfBirth b) u → Family s s' n (childOfBirth b) v
-            → Apart (threadAt s' u .base) (sizeAt j s' u) (threadAt s' v .base) (sizeAt j s' v)
+            → Apart (threadAt s' u .origin .base) (sizeAt j s' u) (threadAt s' v .origin .base) (sizeAt j s' v)
         apart u v h k m (newborn e _) (newborn e' _) = absurd (m (e ∙ sym e'))
         apart u v h k m (newborn _ e) (elder _ f) = rw (e, f .base, f .routine) (apart-sym _ _ _ _ (new-apart v (f .was k)))
         apart u v h k m (elder _ f) (newborn _ e) = rw (e, f .base, f .routine) (new-apart u (f .was h))
         apart u v h k m (elder _ f) (elder _ g) = rw (f .base, f .routine, g .base, g .routine) (ok .frames .apart u v (f .was h) (g .was k) m)
 
-        on-place : NewPlace j s s' t x → (baseOn (s .store .tops) x % 64 ≡ 0) ⊎ (threadAt s t .base + sizeAt j s t ≡ baseOn (s .store .tops) x)
+        on-place : NewPlace j s s' t x → (baseOn (s .store .tops) x % 64 ≡ 0) ⊎ (threadAt s t .origin .base + sizeAt j s t ≡ baseOn (s .store .tops) x)
         on-place (aboveParent e _ _) = inr (sym e)
         on-place (onNew e _) = inl (base-place (s .store .tops) x size (b .fit) small ∙ e)
 
-        stacked : (u : ℕ) → Used s' u → Family s s' n (childOfBirth b) u → (threadAt s' u .base % 64 ≡ 0)
-            ⊎ (Used s' (threadAt s' u .parent) × (threadAt s' (threadAt s' u .parent) .base + sizeAt j s' (threadAt s' u .parent) ≡ threadAt s' u .base))
+        stacked : (u : ℕ) → Used s' u → Family s s' n (childOfBirth b) u → (threadAt s' u .origin .base % 64 ≡ 0)
+            ⊎ (Used s' (threadAt s' u .origin .parent) × (threadAt s' (threadAt s' u .origin .parent) .origin .base + sizeAt j s' (threadAt s' u .origin .parent) ≡ threadAt s' u .origin .base))
         stacked u h (newborn _ e) = rw e (⊎-elim (λ z. inl z) (λ z. inr (b .parent .still (b .parent-used), rw (b .parent .base, b .parent .routine) z)) (on-place (b .place)))
         stacked u h (elder _ k) = rw (k .base, k .parent) (⊎-elim (λ z. inl z)
-            (λ z. inr (elder-stays b _ (z .0) .still (z .0), rw (elder-stays b (threadAt s u .parent) (z .0) .base, elder-stays b (threadAt s u .parent) (z .0) .routine) (z .1)))
+            (λ z. inr (elder-stays b _ (z .0) .still (z .0), rw (elder-stays b (threadAt s u .origin .parent) (z .0) .base, elder-stays b (threadAt s u .origin .parent) (z .0) .routine) (z .1)))
             (ok .frames .stacked u (k .was h)))
 
   -- a return
   module _ (s' : State) (t : ℕ) (f : Ending s s' t) where
-    low-here : topAt (poppedTops (s .store .tops) (threadAt s t .base)) (threadAt s t .base / 64) ≡ threadAt s t .base % 64
-    low-here = popped-top (s .store .tops) (threadAt s t .base) (let z = ok .frames .bounded t (f .used) in let y = ok .sized .tops in omega arith)
+    low-here : topAt (poppedTops (s .store .tops) (threadAt s t .origin .base)) (threadAt s t .origin .base / 64) ≡ threadAt s t .origin .base % 64
+    low-here = popped-top (s .store .tops) (threadAt s t .origin .base) (let z = ok .frames .bounded t (f .used) in let y = ok .sized .tops in omega arith)
 
-    under-after : (u : ℕ) → Used s u → (u ≡ t → ⊥) → Dec (threadAt s u .base / 64 ≡ threadAt s t .base / 64)
-        → Under (poppedTops (s .store .tops) (threadAt s t .base)) (threadAt s u .base) (sizeAt j s u)
-    under-after u h n (yes e) = rw (e, low-here) (below-childless t (f .used) (f .childless) (suc (threadAt s u .base)) u (omega arith) h n e)
-    under-after u h n (no e) = rw (popped-other (s .store .tops) (threadAt s t .base) (threadAt s u .base / 64) e) (ok .frames .under u h)
+    under-after : (u : ℕ) → Used s u → (u ≡ t → ⊥) → Dec (threadAt s u .origin .base / 64 ≡ threadAt s t .origin .base / 64)
+        → Under (poppedTops (s .store .tops) (threadAt s t .origin .base)) (threadAt s u .origin .base) (sizeAt j s u)
+    under-after u h n (yes e) = rw (e, low-here) (below-childless t (f .used) (f .childless) (suc (threadAt s u .origin .base)) u (omega arith) h n e)
+    under-after u h n (no e) = rw (popped-other (s .store .tops) (threadAt s t .origin .base) (threadAt s u .origin .base / 64) e) (ok .frames .under u h)
 
     -- the parent of a thread that stays was no other than one that stays
-    parent-stays : (u : ℕ) → Used s u → Like (threadAt s (threadAt s u .parent)) (threadAt s' (threadAt s u .parent))
-    parent-stays u h = f .others (threadAt s u .parent) (f .childless u h)
+    parent-stays : (u : ℕ) → Used s u → Like (threadAt s (threadAt s u .origin .parent)) (threadAt s' (threadAt s u .origin .parent))
+    parent-stays u h = f .others (threadAt s u .origin .parent) (f .childless u h)
 
     ending-frames : Frames j s'
     ending-frames = record {
       bounded = λ u h. let w = survivor s s' t f u h .1 .stays in rw (w .base) (ok .frames .bounded u (w .was h));
-      most = λ x. rw (f .tops) (popped-most (s .store .tops) (threadAt s t .base) x (ok .frames .most x));
+      most = λ x. rw (f .tops) (popped-most (s .store .tops) (threadAt s t .origin .base) x (ok .frames .most x));
       under = λ u h. let w = survivor s s' t f u h .1 .stays in
-          rw (f .tops, w .base, w .routine) (under-after u (w .was h) (survivor s s' t f u h .0) (ℕ-discrete (threadAt s u .base / 64) (threadAt s t .base / 64)));
+          rw (f .tops, w .base, w .routine) (under-after u (w .was h) (survivor s s' t f u h .0) (ℕ-discrete (threadAt s u .origin .base / 64) (threadAt s t .origin .base / 64)));
       apart = λ u v h k n. let w = survivor s s' t f u h .1 .stays in let y = survivor s s' t f v k .1 .stays in
           rw (w .base, w .routine, y .base, y .routine) (ok .frames .apart u v (w .was h) (y .was k) n);
       stacked = λ u h. let w = survivor s s' t f u h .1 .stays in rw (w .base, w .parent) (⊎-elim (λ z. inl z)

@@ -19,7 +19,7 @@ use Rattle.thread.specs.declared.Thread.{Thread}
 use Rattle.thread.specs.declared.Status.{Status}
 use Rattle.thread.specs.declared.Status.the-variants.{Running, Ready, Suspended, Waiting}
 use Rattle.thread.specs.declared.Effect.the-variants.{Sets, Loads, Stores, Goes, Continues, Lforks, Forks, Joins, Suspends, Yields}
-use Rattle.thread.specs.Thread.{statusNumber, blankThread, newThread, withStatus, disconnected, movedTo, joinedAt, behindFork, withoutChild, isRoot, none}
+use Rattle.thread.specs.Thread.{statusNumber, blankThread, originOf, newThread, withStatus, disconnected, movedTo, joinedAt, behindFork, withoutChild, isRoot, none}
 use Rattle.rules.specs.declared.ForkKind.{ForkKind}
 use Rattle.rules.specs.declared.ForkKind.the-variants.{Called, Queued, Stolen}
 use Rattle.rules.specs.State.{Job, State, finished, threadAt}
@@ -39,10 +39,10 @@ use Rattle.soundness.proofs.Pending.{pending-bound}
 
 -- a record, if it is in use
 pub record WellPlaced (j : Job) (h : Thread) : Type 0 where
-  pub routine : h .routine < countOf (j .image)
-  pub position : isStart (commandsOf (codeOf (j .image) (h .routine))) (h .position) ≡ true
-  pub pending : h .pending < 65536
-  pub result : h .result < 16
+  pub routine : h .origin .routine < countOf (j .image)
+  pub position : isStart (commandsOf (codeOf (j .image) (h .origin .routine))) (h .position) ≡ true
+  pub pending : h .forks .pending < 65536
+  pub result : h .origin .result < 16
   pub join : statusNumber (h .status) ≡ 4 → byteOf j h ≡ 10
 
 abbrev pub Good : Job → Thread → Type 0
@@ -75,7 +75,7 @@ good-status : (j : Job) (h : Thread) (status : Status) → WellPlaced j h → (s
 good-status j h status g b u = record { routine = g .routine; position = g .position; pending = g .pending; result = g .result; join = b }
 
 good-leaves : (j : Job) (s : State) → ((u : ℕ) → Good j (threadAt s u)) → (c t : ℕ) (status : Status) → Used s t → (statusNumber status ≡ 4 → byteOf j (threadAt s t) ≡ 10)
-    → (threadAt s t .connected ≡ true → Used s (threadAt s t .parent)) → (0 < statusNumber status)
+    → (threadAt s t .connected ≡ true → Used s (threadAt s t .origin .parent)) → (0 < statusNumber status)
     → (u : ℕ) → Good j (threadAt (leaves c t status s) u)
 unfolding leaves
 good-leaves j s f c t status h b p l u = go (threadAt s t .connected) p
@@ -94,9 +94,9 @@ good-leaves j s f c t status h b p l u = go (threadAt s t .connected) p
         go (yes e) = rw (e, getD-set-same (s .threads) t (disconnected status (threadAt s t)) blankThread (used-below s t h)) l
         go (no n) = rw (getD-set-other (s .threads) t u (disconnected status (threadAt s t)) blankThread n) k
 
-    go : (b : Bool) → (b ≡ true → Used s (threadAt s t .parent)) → Good j (threadAt (cond b (runs c (threadAt s t .parent) s1) (setCore c none s1)) u)
-    go true p = good-replaced j (s1 .threads) off (threadAt s t .parent) (withStatus Running (threadAt s1 (threadAt s t .parent)))
-        (good-status j (threadAt s1 (threadAt s t .parent)) Running (off (threadAt s t .parent) (used (threadAt s t .parent) (p refl))) (λ e. absurd (omega arith))) u
+    go : (b : Bool) → (b ≡ true → Used s (threadAt s t .origin .parent)) → Good j (threadAt (cond b (runs c (threadAt s t .origin .parent) s1) (setCore c none s1)) u)
+    go true p = good-replaced j (s1 .threads) off (threadAt s t .origin .parent) (withStatus Running (threadAt s1 (threadAt s t .origin .parent)))
+        (good-status j (threadAt s1 (threadAt s t .origin .parent)) Running (off (threadAt s t .origin .parent) (used (threadAt s t .origin .parent) (p refl))) (λ e. absurd (omega arith))) u
     go false p = off u
 
 module _ (j : Job) (s : State) (ok : Sound j s) where
@@ -107,12 +107,12 @@ module _ (j : Job) (s : State) (ok : Sound j s) where
   running c t k = thread-runs j s ok c t (k .core) (k .seat) (k .low)
 
   -- a thread that stands at another command's start
-  good-moved : (c t p : ℕ) → Stepped j s c t → isStart (commandsOf (codeOf (j .image) (threadAt s t .routine))) p ≡ true
+  good-moved : (c t p : ℕ) → Stepped j s c t → isStart (commandsOf (codeOf (j .image) (threadAt s t .origin .routine))) p ≡ true
       → (u : ℕ) → Good j (getD (set (s .threads) t (movedTo p (threadAt s t))) u blankThread)
   good-moved c t p k e = good-replaced j (s .threads) all t (movedTo p (threadAt s t)) (λ h. let g = all t h in
       record { routine = g .routine; position = e; pending = g .pending; result = g .result; join = λ q. let z = running c t k in absurd (omega arith) })
 
-  moved-placed : (c t p : ℕ) (s' : State) → Stepped j s c t → isStart (commandsOf (codeOf (j .image) (threadAt s t .routine))) p ≡ true
+  moved-placed : (c t p : ℕ) (s' : State) → Stepped j s c t → isStart (commandsOf (codeOf (j .image) (threadAt s t .origin .routine))) p ≡ true
       → s' .threads ≡ set (s .threads) t (movedTo p (threadAt s t)) → Placed j s'
   moved-placed c t p s' k e threads = good-placed j s' (λ u. rw threads (good-moved c t p k e u))
 
@@ -125,7 +125,7 @@ module _ (j : Job) (s : State) (ok : Sound j s) where
 
   -- the command is done, and the thread leaves its core
   good-done-leaves : (c t : ℕ) (status : Status) → Stepped j s c t
-      → isStart (commandsOf (codeOf (j .image) (threadAt s t .routine))) (turnAt j s c t .next) ≡ true → 0 < statusNumber status → (statusNumber status ≡ 4 → ⊥)
+      → isStart (commandsOf (codeOf (j .image) (threadAt s t .origin .routine))) (turnAt j s c t .next) ≡ true → 0 < statusNumber status → (statusNumber status ≡ 4 → ⊥)
       → (u : ℕ) → Good j (threadAt (leaves c t status (goesOn (turnAt j s c t) s)) u)
   good-done-leaves c t status k e l n =
       good-leaves j s1 (good-moved c t (turnAt j s c t .next) k e) c t status (still t h) (λ q. absurd (n q)) linked l
@@ -146,29 +146,29 @@ module _ (j : Job) (s : State) (ok : Sound j s) where
           go (yes q) = rw (q, here) h
           go (no q) = rw (getD-set-other (s .threads) t u (movedTo (turnAt j s c t .next) (threadAt s t)) blankThread q) w
 
-      linked : threadAt s1 t .connected ≡ true → Used s1 (threadAt s1 t .parent)
-      linked q = rw (ap (λ g. g .parent) here) (still (threadAt s t .parent) (linked-parent j s ok t (sym (ap (λ g. g .connected) here) ∙ q)))
+      linked : threadAt s1 t .connected ≡ true → Used s1 (threadAt s1 t .origin .parent)
+      linked q = rw (ap (λ g. g .origin .parent) here) (still (threadAt s t .origin .parent) (linked-parent j s ok t (sym (ap (λ g. g .connected) here) ∙ q)))
 
   -- a fork of any kind
   fork-placed : (kind : ForkKind) (t r d a e n x next : ℕ) (s' : State) → Used s t → MetAt j s t (Lforks r d a e)
-      → isStart (commandsOf (codeOf (j .image) (threadAt s t .routine))) next ≡ true
-      → s' .threads ≡ set (set (s .threads) t (behindFork (parentStatus kind) next d (restOf (threadAt s t .window) e) (threadAt s t)))
-      n (newThread (childStatus kind) (isConnected kind) r t d (baseOn (s .store .tops) x) (childOf (threadAt s t .window) e))
+      → isStart (commandsOf (codeOf (j .image) (threadAt s t .origin .routine))) next ≡ true
+      → s' .threads ≡ set (set (s .threads) t (behindFork (parentStatus kind) next d (restOf (threadAt s t .forks .window) e) (threadAt s t)))
+      n (newThread (originOf r t d (baseOn (s .store .tops) x)) (childStatus kind) (isConnected kind) (childOf (threadAt s t .forks .window) e))
       → Placed j s'
   fork-placed kind t r d a e n x next s' h m st threads = good-placed j s' (λ u. rw threads
       (good-replaced j (set (s .threads) t p) (good-replaced j (s .threads) all t p (λ _. parent)) n q (λ _. child) u))
     where
       p : Thread
-      p = behindFork (parentStatus kind) next d (restOf (threadAt s t .window) e) (threadAt s t)
+      p = behindFork (parentStatus kind) next d (restOf (threadAt s t .forks .window) e) (threadAt s t)
 
       q : Thread
-      q = newThread (childStatus kind) (isConnected kind) r t d (baseOn (s .store .tops) x) (childOf (threadAt s t .window) e)
+      q = newThread (originOf r t d (baseOn (s .store .tops) x)) (childStatus kind) (isConnected kind) (childOf (threadAt s t .forks .window) e)
 
       good : Accepts (j .image)
       good = accepted (j .image) (ok .job .image)
 
       d16 : d < 16
-      d16 = let z = slots-most (j .image) good (threadAt s t .routine) (ok .placed .routine t h) in let y = m .0 .result in omega arith
+      d16 = let z = slots-most (j .image) good (threadAt s t .origin .routine) (ok .placed .routine t h) in let y = m .0 .result in omega arith
 
       parent-runs : (kind : ForkKind) → statusNumber (parentStatus kind) ≡ 4 → ⊥
       parent-runs Called z = omega arith
@@ -184,7 +184,7 @@ module _ (j : Job) (s : State) (ok : Sound j s) where
       parent = let g = all t h in record {
         routine = g .routine;
         position = st;
-        pending = pending-bound (threadAt s t .pending) d (g .pending) d16;
+        pending = pending-bound (threadAt s t .forks .pending) d (g .pending) d16;
         result = g .result;
         join = λ z. absurd (parent-runs kind z);
       }
@@ -225,16 +225,16 @@ module _ (j : Job) (s : State) (ok : Sound j s) where
       h = runner j s ok c t k
 
       p : ℕ
-      p = threadAt s t .parent
+      p = threadAt s t .origin .parent
 
       q : Thread
-      q = threadAt s (threadAt s t .parent)
+      q = threadAt s (threadAt s t .origin .parent)
 
       freed-good : (u : ℕ) → Good j (getD (set (s .threads) t blankThread) u blankThread)
       freed-good = good-replaced j (s .threads) all t blankThread (λ z. absurd (omega arith))
 
       go : (b : Bool) → isRoot (threadAt s t) ≡ b
-          → Placed j (cond b (setOutcome (finished v) (setCore c none (freed (turnAt j s c t) s))) (returnToParent s (turnAt j s c t) (threadAt s t .parent) (threadAt s (threadAt s t .parent)) v))
+          → Placed j (cond b (setOutcome (finished v) (setCore c none (freed (turnAt j s c t) s))) (returnToParent s (turnAt j s c t) (threadAt s t .origin .parent) (threadAt s (threadAt s t .origin .parent)) v))
       go true r = good-placed j _ freed-good
       go false r = good-placed j _ (good-replaced j (set (s .threads) t blankThread) freed-good p (withoutChild (statusAfter (threadAt s t .connected) q) q)
           (good-parent (threadAt s t .connected) q (all p) (parent-used j s ok t h r)))

@@ -66,8 +66,8 @@ leaves-sizes c t status s = go (threadAt s t .connected)
     h : Thread
     h = disconnected status (threadAt s t)
 
-    go : (b : Bool) → SameSizes s (cond b (runs c (threadAt s t .parent) (setThread t h s)) (setCore c none (setThread t h s)))
-        × (cond b (runs c (threadAt s t .parent) (setThread t h s)) (setCore c none (setThread t h s)) .units ≡ s .units)
+    go : (b : Bool) → SameSizes s (cond b (runs c (threadAt s t .origin .parent) (setThread t h s)) (setCore c none (setThread t h s)))
+        × (cond b (runs c (threadAt s t .origin .parent) (setThread t h s)) (setCore c none (setThread t h s)) .units ≡ s .units)
     go true = (record { threads = simp length-set; cores = simp length-set; tops = refl; words = refl; memory = refl; count = refl }, refl)
     go false = (record { threads = simp length-set; cores = simp length-set; tops = refl; words = refl; memory = refl; count = refl }, refl)
 
@@ -83,8 +83,8 @@ born-sizes j s kind o f n ns x xs = go kind
     tops : length (pushedTops (s .store .tops) x size) ≡ length (s .store .tops)
     tops = pushed-length (s .store .tops) x size
 
-    words : length (pushedWords (s .store .tops) (s .store .words) x size (argumentsAt (s .store .words) (o .thread .base + f .first) (argumentsOf (j .image) (f .routine)))) ≡ length (s .store .words)
-    words = length-pushed (s .store .tops) (s .store .words) x size (argumentsAt (s .store .words) (o .thread .base + f .first) (argumentsOf (j .image) (f .routine)))
+    words : length (pushedWords (s .store .tops) (s .store .words) x size (argumentsAt (s .store .words) (o .thread .origin .base + f .first) (argumentsOf (j .image) (f .routine)))) ≡ length (s .store .words)
+    words = length-pushed (s .store .tops) (s .store .words) x size (argumentsAt (s .store .words) (o .thread .origin .base + f .first) (argumentsOf (j .image) (f .routine)))
 
     go : (kind : ForkKind) → SameSizes s (born j s kind o f n ns x xs) × (born j s kind o f n ns x xs .units ≡ s .units + o .weight)
     go Called = (record { threads = simp length-set; cores = simp length-set; tops = tops; words = words; memory = refl; count = refl }, refl)
@@ -96,12 +96,12 @@ unfolding returnOf returnToParent
 return-sizes s o v = go (isRoot (o .thread))
   where
     p : ℕ
-    p = o .thread .parent
+    p = o .thread .origin .parent
 
     go : (b : Bool) → SameSizes s (cond b (setOutcome (finished v) (setCore (o .core) none (freed o s))) (returnToParent s o p (threadAt s p) v))
         × (cond b (setOutcome (finished v) (setCore (o .core) none (freed o s))) (returnToParent s o p (threadAt s p) v) .units ≡ s .units + o .weight)
-    go true = (record { threads = simp length-set; cores = simp length-set; tops = popped-length (s .store .tops) (o .thread .base); words = refl; memory = refl; count = refl }, refl)
-    go false = (record { threads = simp length-set; cores = simp length-set; tops = popped-length (s .store .tops) (o .thread .base); words = simp length-set; memory = refl; count = refl }, refl)
+    go true = (record { threads = simp length-set; cores = simp length-set; tops = popped-length (s .store .tops) (o .thread .origin .base); words = refl; memory = refl; count = refl }, refl)
+    go false = (record { threads = simp length-set; cores = simp length-set; tops = popped-length (s .store .tops) (o .thread .origin .base); words = simp length-set; memory = refl; count = refl }, refl)
 
 module _ (j : Job) (s : State) (ok : Sound j s) where
   -- nothing is charged, or a weight that the allowance has room for

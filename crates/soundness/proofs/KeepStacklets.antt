@@ -33,8 +33,8 @@ Vacant s x = (x < 16) × (topAt (s .store .tops) x ≡ 0) × Unused s x
 
 module _ (j : Job) (s : State) (ok : Sound j s) where
   -- a stacklet in the queue carries no frame
-  not-free : (t : ℕ) → Used s t → Member (threadAt s t .base / 64) (s .queues .freeStacklets) → ⊥
-  not-free t h m = every-member (Vacant s) (s .queues .freeStacklets) (ok .freeStacklets .free) (threadAt s t .base / 64) m .2 t h refl
+  not-free : (t : ℕ) → Used s t → Member (threadAt s t .origin .base / 64) (s .queues .freeStacklets) → ⊥
+  not-free t h m = every-member (Vacant s) (s .queues .freeStacklets) (ok .freeStacklets .free) (threadAt s t .origin .base / 64) m .2 t h refl
 
   steady-stacklets : (s' : State) → Steady s s' → FreeStacklets s'
   steady-stacklets s' f = record {
@@ -58,8 +58,8 @@ module _ (j : Job) (s : State) (ok : Sound j s) where
     stays-vacant y other h =
         (h .0, rw (b .tops) (pushed-other (s .store .tops) x size (b .fit) small y other ∙ h .1), λ u k e. clear u k e (family b u))
       where
-        clear : (u : ℕ) → Used s' u → threadAt s' u .base / 64 ≡ y → Family s s' n (childOfBirth b) u → ⊥
-        clear u k e (newborn _ q) = other (sym e ∙ ap (λ h. h .base / 64) q ∙ base-stacklet (s .store .tops) x size (b .fit) small)
+        clear : (u : ℕ) → Used s' u → threadAt s' u .origin .base / 64 ≡ y → Family s s' n (childOfBirth b) u → ⊥
+        clear u k e (newborn _ q) = other (sym e ∙ ap (λ h. h .origin .base / 64) q ∙ base-stacklet (s .store .tops) x size (b .fit) small)
         clear u k e (elder _ f) = h .2 u (f .was k) (sym (ap (λ b. b / 64) (f .base)) ∙ e)
 
     was-unused : (y : ℕ) → Unused s' y → Unused s y
@@ -67,7 +67,7 @@ module _ (j : Job) (s : State) (ok : Sound j s) where
 
     -- the new frame's own is in use
     now-used : Unused s' x → ⊥
-    now-used f = f n (rw (b .child) (b .used)) (ap (λ h. h .base / 64) (b .child) ∙ base-stacklet (s .store .tops) x size (b .fit) small)
+    now-used f = f n (rw (b .child) (b .used)) (ap (λ h. h .origin .base / 64) (b .child) ∙ base-stacklet (s .store .tops) x size (b .fit) small)
 
     birth-stacklets : FreeStacklets s'
     birth-stacklets = go (b .place)
@@ -97,10 +97,10 @@ module _ (j : Job) (s : State) (ok : Sound j s) where
 
   -- a return
   module _ (s' : State) (t : ℕ) (f : Ending s s' t) where
-    below : threadAt s t .base / 64 < 16
+    below : threadAt s t .origin .base / 64 < 16
     below = let z = ok .frames .bounded t (f .used) in omega arith
 
-    absent : Member (threadAt s t .base / 64) (s .queues .freeStacklets) → ⊥
+    absent : Member (threadAt s t .origin .base / 64) (s .queues .freeStacklets) → ⊥
     absent = not-free t (f .used)
 
     -- a free stacklet is another one, and stays free
@@ -108,74 +108,74 @@ module _ (j : Job) (s : State) (ok : Sound j s) where
     stays-free y m =
         let h = every-member (Vacant s) (s .queues .freeStacklets) (ok .freeStacklets .free) y m in (
           h .0,
-          rw (f .tops) (popped-other (s .store .tops) (threadAt s t .base) y (λ e. absent (rw e at m)) ∙ h .1),
+          rw (f .tops) (popped-other (s .store .tops) (threadAt s t .origin .base) y (λ e. absent (rw e at m)) ∙ h .1),
           λ u k e. let w = survivor s s' t f u k .1 .stays in h .2 u (w .was k) (sym (ap (λ b. b / 64) (w .base)) ∙ e),
         )
 
     -- any other stacklet that is now unused was so
-    was-unused-else : (y : ℕ) → (y ≡ threadAt s t .base / 64 → ⊥) → Unused s' y → Unused s y
+    was-unused-else : (y : ℕ) → (y ≡ threadAt s t .origin .base / 64 → ⊥) → Unused s' y → Unused s y
     was-unused-else y other g u h e =
-        let w = f .others u (λ q. other (sym e ∙ ap (λ v. threadAt s v .base / 64) q)) .stays in
+        let w = f .others u (λ q. other (sym e ∙ ap (λ v. threadAt s v .origin .base / 64) q)) .stays in
         g u (w .still h) (ap (λ b. b / 64) (w .base) ∙ e)
 
     -- where the frame stood lowest, none is left
-    emptied : threadAt s t .base % 64 ≡ 0 → Vacant s' (threadAt s t .base / 64)
+    emptied : threadAt s t .origin .base % 64 ≡ 0 → Vacant s' (threadAt s t .origin .base / 64)
     emptied z =
-        (below, rw (f .tops) (popped-top (s .store .tops) (threadAt s t .base) (let l = below in let y = ok .sized .tops in omega arith) ∙ z), λ u k e. clear u k e)
+        (below, rw (f .tops) (popped-top (s .store .tops) (threadAt s t .origin .base) (let l = below in let y = ok .sized .tops in omega arith) ∙ z), λ u k e. clear u k e)
       where
-        clear : (u : ℕ) → Used s' u → threadAt s' u .base / 64 ≡ threadAt s t .base / 64 → ⊥
+        clear : (u : ℕ) → Used s' u → threadAt s' u .origin .base / 64 ≡ threadAt s t .origin .base / 64 → ⊥
         clear u k e =
             let w = survivor s s' t f u k in
             let h = w .1 .stays .was k in
             let q = size-some j s ok u h in
-            let l = below-childless j s ok t (f .used) (f .childless) (suc (threadAt s u .base)) u (omega arith) h (w .0) (sym (ap (λ b. b / 64) (w .1 .stays .base)) ∙ e) in
+            let l = below-childless j s ok t (f .used) (f .childless) (suc (threadAt s u .origin .base)) u (omega arith) h (w .0) (sym (ap (λ b. b / 64) (w .1 .stays .base)) ∙ e) in
             omega arith
 
     -- where it stood above another, that is its parent's and stays
-    parent-left : (threadAt s t .base % 64 ≡ 0 → ⊥) → Unused s' (threadAt s t .base / 64) → ⊥
+    parent-left : (threadAt s t .origin .base % 64 ≡ 0 → ⊥) → Unused s' (threadAt s t .origin .base / 64) → ⊥
     parent-left n g = ⊎-elim (λ z. n z) (λ z. on z) (ok .frames .stacked t (f .used))
       where
         p : ℕ
-        p = threadAt s t .parent
+        p = threadAt s t .origin .parent
 
-        on : Used s p × (threadAt s p .base + sizeAt j s p ≡ threadAt s t .base) → ⊥
+        on : Used s p × (threadAt s p .origin .base + sizeAt j s p ≡ threadAt s t .origin .base) → ⊥
         on z =
             let w = f .others p (f .childless t (f .used)) .stays in
             let u = ok .frames .under p (z .0) in
-            let m = ok .frames .most (threadAt s p .base / 64) in
+            let m = ok .frames .most (threadAt s p .origin .base / 64) in
             let q = size-some j s ok p (z .0) in
             let y = z .1 in
-            let e : threadAt s p .base / 64 ≡ threadAt s t .base / 64 = omega arith in
+            let e : threadAt s p .origin .base / 64 ≡ threadAt s t .origin .base / 64 = omega arith in
             g p (w .still (z .0)) (ap (λ b. b / 64) (w .base) ∙ e)
 
     ending-stacklets : FreeStacklets s'
     unfolding stackletsWithout
-    ending-stacklets = go (eqb (threadAt s t .base % 64) 0) refl (f .free)
+    ending-stacklets = go (eqb (threadAt s t .origin .base % 64) 0) refl (f .free)
       where
         kept : Every (Vacant s') (s .queues .freeStacklets)
         kept = member-every (s .queues .freeStacklets) stays-free
 
-        back : s' .queues .freeStacklets ≡ s .queues .freeStacklets ++ (threadAt s t .base / 64 ∷ []) → threadAt s t .base % 64 ≡ 0 → FreeStacklets s'
+        back : s' .queues .freeStacklets ≡ s .queues .freeStacklets ++ (threadAt s t .origin .base / 64 ∷ []) → threadAt s t .origin .base % 64 ≡ 0 → FreeStacklets s'
         back q z = record {
-          free = rw q (every-last (Vacant s') (s .queues .freeStacklets) (threadAt s t .base / 64) kept (emptied z));
-          once = rw q (distinct-last (s .queues .freeStacklets) (threadAt s t .base / 64) (ok .freeStacklets .once) absent);
-          stands = λ y l u. rw q (stands y l u (ℕ-discrete y (threadAt s t .base / 64)));
+          free = rw q (every-last (Vacant s') (s .queues .freeStacklets) (threadAt s t .origin .base / 64) kept (emptied z));
+          once = rw q (distinct-last (s .queues .freeStacklets) (threadAt s t .origin .base / 64) (ok .freeStacklets .once) absent);
+          stands = λ y l u. rw q (stands y l u (ℕ-discrete y (threadAt s t .origin .base / 64)));
         }
           where
-            stands : (y : ℕ) → y < 16 → Unused s' y → Dec (y ≡ threadAt s t .base / 64) → Member y (s .queues .freeStacklets ++ (threadAt s t .base / 64 ∷ []))
-            stands y l u (yes e) = rw e (member-last (threadAt s t .base / 64) (s .queues .freeStacklets))
-            stands y l u (no n) = member-left y (s .queues .freeStacklets) (threadAt s t .base / 64 ∷ []) (ok .freeStacklets .stands y l (was-unused-else y n u))
+            stands : (y : ℕ) → y < 16 → Unused s' y → Dec (y ≡ threadAt s t .origin .base / 64) → Member y (s .queues .freeStacklets ++ (threadAt s t .origin .base / 64 ∷ []))
+            stands y l u (yes e) = rw e (member-last (threadAt s t .origin .base / 64) (s .queues .freeStacklets))
+            stands y l u (no n) = member-left y (s .queues .freeStacklets) (threadAt s t .origin .base / 64 ∷ []) (ok .freeStacklets .stands y l (was-unused-else y n u))
 
-        stay : s' .queues .freeStacklets ≡ s .queues .freeStacklets → (threadAt s t .base % 64 ≡ 0 → ⊥) → FreeStacklets s'
+        stay : s' .queues .freeStacklets ≡ s .queues .freeStacklets → (threadAt s t .origin .base % 64 ≡ 0 → ⊥) → FreeStacklets s'
         stay q n = record {
           free = rw q kept;
           once = rw q (ok .freeStacklets .once);
           stands = λ y l u. rw q (ok .freeStacklets .stands y l (was-unused-else y (λ e. parent-left n (rw e at u)) u));
         }
 
-        go : (b : Bool) → eqb (threadAt s t .base % 64) 0 ≡ b
-            → s' .queues .freeStacklets ≡ cond b (appended capacity (s .queues .freeStacklets) (threadAt s t .base / 64)) (s .queues .freeStacklets) → FreeStacklets s'
-        go true e q = back (q ∙ appended-new (s .queues .freeStacklets) (threadAt s t .base / 64) (ok .freeStacklets .once)
+        go : (b : Bool) → eqb (threadAt s t .origin .base % 64) 0 ≡ b
+            → s' .queues .freeStacklets ≡ cond b (appended capacity (s .queues .freeStacklets) (threadAt s t .origin .base / 64)) (s .queues .freeStacklets) → FreeStacklets s'
+        go true e q = back (q ∙ appended-new (s .queues .freeStacklets) (threadAt s t .origin .base / 64) (ok .freeStacklets .once)
             (every-map (λ x h. let l = h .0 in omega arith) (s .queues .freeStacklets) (ok .freeStacklets .free)) (let l = below in omega arith) absent) (eqb-true _ _ e)
         go false e q = stay q (eqb-false _ _ e)
 

@@ -24,34 +24,34 @@ same-ends w w' l h (inr e) f = record { memory = omega arith; behind = omega ari
 module _ (j : Job) (s : State) (ok : Sound j s) where
   steady-windows : (s' : State) → Steady s s' → Windows s'
   steady-windows s' f = record {
-    fits = λ t u. same-ends (threadAt s t .window) (threadAt s' t .window) (f .lo t) (f .hi t) (⊎-elim (λ z. inl z) (λ z. inr (z .0)) (f .mark t))
+    fits = λ t u. same-ends (threadAt s t .forks .window) (threadAt s' t .forks .window) (f .lo t) (f .hi t) (⊎-elim (λ z. inl z) (λ z. inr (z .0)) (f .mark t))
         (ok .windows .fits t (f .stays t .was u));
     root = λ u. let w = ok .windows .root (f .stays 0 .was u) in (f .lo 0 ∙ w .0, f .hi 0 ∙ w .1);
-    inside = λ u h n. inside u (f .stays u .was h) n (f .mark (threadAt s u .parent));
+    inside = λ u h n. inside u (f .stays u .was h) n (f .mark (threadAt s u .origin .parent));
     apart = λ u v h k n e. rw (f .lo u, f .lo v, f .hi u, f .hi v)
         (ok .windows .apart u v (f .stays u .was h) (f .stays v .was k) n (sym (f .stays u .parent) ∙ e ∙ f .stays v .parent));
   }
     where
       p : ℕ → ℕ
-      p u = threadAt s u .parent
+      p u = threadAt s u .origin .parent
 
       inside : (u : ℕ) → Used s u → (u ≡ 0 → ⊥)
-          → (threadAt s' (p u) .window .mark ≡ threadAt s (p u) .window .mark) ⊎ ((threadAt s' (p u) .window .mark ≡ threadAt s (p u) .window .lo) × Childless s (p u))
-          → (threadAt s' (threadAt s' u .parent) .window .lo ≤ threadAt s' u .window .lo) × (threadAt s' u .window .hi ≤ threadAt s' (threadAt s' u .parent) .window .mark)
+          → (threadAt s' (p u) .forks .window .mark ≡ threadAt s (p u) .forks .window .mark) ⊎ ((threadAt s' (p u) .forks .window .mark ≡ threadAt s (p u) .forks .window .lo) × Childless s (p u))
+          → (threadAt s' (threadAt s' u .origin .parent) .forks .window .lo ≤ threadAt s' u .forks .window .lo) × (threadAt s' u .forks .window .hi ≤ threadAt s' (threadAt s' u .origin .parent) .forks .window .mark)
       inside u h n (inl e) = let w = ok .windows .inside u h n in
-          rw (f .stays u .parent, f .lo u, f .hi u, f .lo (threadAt s u .parent), e) w
+          rw (f .stays u .parent, f .lo u, f .hi u, f .lo (threadAt s u .origin .parent), e) w
       inside u h n (inr e) = absurd (e .1 u h refl)
 
   -- a fork
   module _ (s' : State) (t n r d x cut : ℕ) (b : Birth j s s' t n r d x cut) where
     -- a thread that was there: its window has the same ends, and its mark is where it was or behind
     elder-window : (u : ℕ) → Used s u
-        → (threadAt s' u .window .lo ≡ threadAt s u .window .lo) × (threadAt s' u .window .hi ≡ threadAt s u .window .hi)
-        × (threadAt s u .window .mark ≤ threadAt s' u .window .mark) × Fits (threadAt s' u .window)
+        → (threadAt s' u .forks .window .lo ≡ threadAt s u .forks .window .lo) × (threadAt s' u .forks .window .hi ≡ threadAt s u .forks .window .hi)
+        × (threadAt s u .forks .window .mark ≤ threadAt s' u .forks .window .mark) × Fits (threadAt s' u .forks .window)
     elder-window u h = go (ℕ-discrete u t)
       where
-        go : Dec (u ≡ t) → (threadAt s' u .window .lo ≡ threadAt s u .window .lo) × (threadAt s' u .window .hi ≡ threadAt s u .window .hi)
-            × (threadAt s u .window .mark ≤ threadAt s' u .window .mark) × Fits (threadAt s' u .window)
+        go : Dec (u ≡ t) → (threadAt s' u .forks .window .lo ≡ threadAt s u .forks .window .lo) × (threadAt s' u .forks .window .hi ≡ threadAt s u .forks .window .hi)
+            × (threadAt s u .forks .window .mark ≤ threadAt s' u .forks .window .mark) × Fits (threadAt s' u .forks .window)
         go (yes e) = let w = ok .windows .fits t (b .parent-used) in rw (e, b .rest) (
           refl,
           refl,
@@ -61,7 +61,7 @@ module _ (j : Job) (s : State) (ok : Sound j s) where
         go (no m) = rw (b .others u m (not-newborn b u h)) (refl, refl, omega arith, ok .windows .fits u h)
 
     -- what was apart, and what the child is given
-    apart-elder : (v : ℕ) → Used s v → threadAt s v .parent ≡ t → threadAt s v .window .hi ≤ threadAt s t .window .mark
+    apart-elder : (v : ℕ) → Used s v → threadAt s v .origin .parent ≡ t → threadAt s v .forks .window .hi ≤ threadAt s t .forks .window .mark
     apart-elder v h e = rw e at (ok .windows .inside v h (child-not-root j s ok t v (used-low s (ok .sized .threads) t (b .parent-used)) h e) .1)
 
     birth-windows : Windows s'
@@ -72,34 +72,34 @@ module _ (j : Job) (s : State) (ok : Sound j s) where
       apart = λ u v h k m e. apart u v h k m e (family b u) (family b v);
     }
       where
-        fits : (u : ℕ) → Used s' u → Family s s' n (childOfBirth b) u → Fits (threadAt s' u .window)
+        fits : (u : ℕ) → Used s' u → Family s s' n (childOfBirth b) u → Fits (threadAt s' u .forks .window)
         fits u h (newborn _ e) = let w = ok .windows .fits t (b .parent-used) in
             rw e (record { memory = (let z = w .memory in let y = w .behind in omega arith); behind = omega arith; before = b .low; within = (let z = w .within in let y = b .high in omega arith) })
         fits u h (elder _ k) = elder-window u (k .was h) .3
 
-        root : Used s' 0 → Family s s' n (childOfBirth b) 0 → (threadAt s' 0 .window .lo ≡ 32) × (threadAt s' 0 .window .hi ≡ 1024)
+        root : Used s' 0 → Family s s' n (childOfBirth b) 0 → (threadAt s' 0 .forks .window .lo ≡ 32) × (threadAt s' 0 .forks .window .hi ≡ 1024)
         root h (newborn e _) = absurd (b .not-root (sym e))
         root h (elder _ k) = let w = ok .windows .root (k .was h) in let q = elder-window 0 (k .was h) in (q .0 ∙ w .0, q .1 ∙ w .1)
 
         inside : (u : ℕ) → Used s' u → (u ≡ 0 → ⊥) → Family s s' n (childOfBirth b) u
-            → (threadAt s' (threadAt s' u .parent) .window .lo ≤ threadAt s' u .window .lo) × (threadAt s' u .window .hi ≤ threadAt s' (threadAt s' u .parent) .window .mark)
+            → (threadAt s' (threadAt s' u .origin .parent) .forks .window .lo ≤ threadAt s' u .forks .window .lo) × (threadAt s' u .forks .window .hi ≤ threadAt s' (threadAt s' u .origin .parent) .forks .window .mark)
         inside u h m (newborn _ e) = let w = ok .windows .fits t (b .parent-used) in rw (e, b .rest) (w .behind, omega arith)
         inside u h m (elder _ k) =
             let w = ok .windows .inside u (k .was h) m in
             let q = elder-window u (k .was h) in
-            let p = elder-window (threadAt s u .parent) (parent-of j s ok u (k .was h) m) in
+            let p = elder-window (threadAt s u .origin .parent) (parent-of j s ok u (k .was h) m) in
             rw (k .parent, q .0, q .1, p .0) (w .0, within _ _ _ (w .1) (p .2))
           where
             within : (a c e : ℕ) → a ≤ c → c ≤ e → a ≤ e
             within a c e l m = omega arith
 
-        apart : (u v : ℕ) → Used s' u → Used s' v → (u ≡ v → ⊥) → threadAt s' u .parent ≡ threadAt s' v .parent → Family s s' n (childOfBirth b) u → Family s s' n (childOfBirth b) v
-            → (threadAt s' u .window .hi ≤ threadAt s' v .window .lo) ⊎ (threadAt s' v .window .hi ≤ threadAt s' u .window .lo)
+        apart : (u v : ℕ) → Used s' u → Used s' v → (u ≡ v → ⊥) → threadAt s' u .origin .parent ≡ threadAt s' v .origin .parent → Family s s' n (childOfBirth b) u → Family s s' n (childOfBirth b) v
+            → (threadAt s' u .forks .window .hi ≤ threadAt s' v .forks .window .lo) ⊎ (threadAt s' v .forks .window .hi ≤ threadAt s' u .forks .window .lo)
         apart u v h k m q (newborn e _) (newborn e' _) = absurd (m (e ∙ sym e'))
         apart u v h k m q (newborn _ e) (elder _ f) = let w = elder-window v (f .was k) in
-            rw (e, w .1) (inr (apart-elder v (f .was k) (sym (f .parent) ∙ sym q ∙ ap (λ g. g .parent) e)))
+            rw (e, w .1) (inr (apart-elder v (f .was k) (sym (f .parent) ∙ sym q ∙ ap (λ g. g .origin .parent) e)))
         apart u v h k m q (elder _ f) (newborn _ e) = let w = elder-window u (f .was h) in
-            rw (e, w .1) (inl (apart-elder u (f .was h) (sym (f .parent) ∙ q ∙ ap (λ g. g .parent) e)))
+            rw (e, w .1) (inl (apart-elder u (f .was h) (sym (f .parent) ∙ q ∙ ap (λ g. g .origin .parent) e)))
         apart u v h k m q (elder _ f) (elder _ g) = let w = elder-window u (f .was h) in let y = elder-window v (g .was k) in
             rw (w .0, w .1, y .0, y .1) (ok .windows .apart u v (f .was h) (g .was k) m (sym (f .parent) ∙ q ∙ g .parent))
 
@@ -109,7 +109,7 @@ module _ (j : Job) (s : State) (ok : Sound j s) where
     fits = λ u h. let w = survivor s s' t f u h .1 in rw (w .window) (ok .windows .fits u (w .stays .was h));
     root = λ h. let w = survivor s s' t f 0 h .1 in rw (w .window) (ok .windows .root (w .stays .was h));
     inside = λ u h n. let w = survivor s s' t f u h .1 in
-        let p = f .others (threadAt s u .parent) (f .childless u (w .stays .was h)) in
+        let p = f .others (threadAt s u .origin .parent) (f .childless u (w .stays .was h)) in
         rw (w .stays .parent, w .window, p .window) (ok .windows .inside u (w .stays .was h) n);
     apart = λ u v h k n e. let w = survivor s s' t f u h .1 in let y = survivor s s' t f v k .1 in
         rw (w .window, y .window) (ok .windows .apart u v (w .stays .was h) (y .stays .was k) n (sym (w .stays .parent) ∙ e ∙ y .stays .parent));

@@ -12,7 +12,7 @@ use Rattle.window.specs.declared.Window.{Window}
 use Rattle.window.specs.Rights.{childOf, restOf}
 use Rattle.stacklets.specs.Tops.{baseOn}
 use Rattle.thread.specs.declared.Thread.{Thread}
-use Rattle.thread.specs.Thread.{newThread, behindFork, isPending, statusNumber, none}
+use Rattle.thread.specs.Thread.{originOf, newThread, behindFork, isPending, statusNumber, none}
 use Rattle.rules.specs.declared.ForkKind.{ForkKind}
 use Rattle.rules.specs.declared.ForkKind.the-variants.{Called, Queued, Stolen}
 use Rattle.rules.specs.State.{Job, State, threadAt, onCore}
@@ -55,7 +55,7 @@ pub record Birth (s s' : State) (kind : ForkKind) (t n d : ℕ) : Type 0 where
   pub over : Unfinished s
   pub over' : Unfinished s'
   pub threads : s' .threads ≡ set (set (s .threads) t (behindFork (parentStatus kind) next d rest (threadAt s t))) n
-      (newThread (childStatus kind) (isConnected kind) routine t d base part)
+      (newThread (originOf routine t d base) (childStatus kind) (isConnected kind) part)
 
 module _ (s s' : State) (ok : Held s) (kind : ForkKind) (t n d : ℕ) (b : Birth s s' kind t n d) where
   -- the parent's record and the child's
@@ -63,7 +63,7 @@ module _ (s s' : State) (ok : Held s) (kind : ForkKind) (t n d : ℕ) (b : Birth
   parentNow = behindFork (parentStatus kind) (b .next) d (b .rest) (threadAt s t)
 
   abbrev childNow : Thread
-  childNow = newThread (childStatus kind) (isConnected kind) (b .routine) t d (b .base) (b .part)
+  childNow = newThread (originOf (b .routine) t d (b .base)) (childStatus kind) (isConnected kind) (b .part)
 
   lined : Lined 0 s (n ∷ b .left)
   lined = subst (λ xs. Lined 0 s xs) (b .head) (free-lined s (ok .freeThreads))
@@ -117,14 +117,14 @@ module _ (s s' : State) (ok : Held s) (kind : ForkKind) (t n d : ℕ) (b : Birth
     seats = seats;
     links = links;
     turns = lined-turns s' many-now ready line turns;
-    tree = tree-born s s' (ok .tree) t n (b .used) was-free low (b .over) (b .over') old-stays (ap (λ h. h .children) parent-record)
-        (changed (λ u h h'. ¬ (u ≡ t) → ¬ (u ≡ n) → h' .children ≡ h .children) (λ u x y k m. refl) (λ x. absurd (x refl)) (λ x y. absurd (y refl)))
-        (child-used (child-active kind)) (ap (λ h. h .parent) child-record) (ap (λ h. h .children) child-record)
+    tree = tree-born s s' (ok .tree) t n (b .used) was-free low (b .over) (b .over') old-stays (ap (λ h. h .forks .children) parent-record)
+        (changed (λ u h h'. ¬ (u ≡ t) → ¬ (u ≡ n) → h' .forks .children ≡ h .forks .children) (λ u x y k m. refl) (λ x. absurd (x refl)) (λ x y. absurd (y refl)))
+        (child-used (child-active kind)) (ap (λ h. h .origin .parent) child-record) (ap (λ h. h .forks .children) child-record)
         (child-awake (child-active kind));
     results = results-born s s' (ok .many) (ok .tree) (ok .results) t n d (b .used) was-free (b .clear) old-stays
         (changed (λ u h h'. ¬ (u ≡ n) → Pends h h') (λ u x y m k e. e) (λ m k e. pending-stays (pendingAt s t) d k e) (λ m. absurd (m refl)))
-        (ap (λ h. h .parent) child-record) (ap (λ h. h .result) child-record)
-        (ap (λ h. isPending (h .pending) d) parent-record ∙ pending-set (pendingAt s t) d);
+        (ap (λ h. h .origin .parent) child-record) (ap (λ h. h .origin .result) child-record)
+        (ap (λ h. isPending (h .forks .pending) d) parent-record ∙ pending-set (pendingAt s t) d);
     freeThreads = lined-free s' (b .left) (b .free) (lined-took 0 s s' n (b .left) lined
         (λ e. let z = child-used (child-active kind) in omega arith)
         (λ u m. same-free (threadAt s u) (threadAt s' u) (old-stays u m)));
@@ -225,17 +225,17 @@ module _ (j : Job) (s : State) (ok : Held s) (c t r d a e n : ℕ) (ns : List �
   birth kind used = go kind
     where
       whole : (k : ForkKind) (s' : State) → s' .queues .freeThreads ≡ ns → s' .count ≡ s .count → s' .outcome ≡ s .outcome
-          → s' .threads ≡ set (set (s .threads) t (behindFork (parentStatus k) (turnAt j s c t .next) d (restOf (threadAt s t .window) e)
+          → s' .threads ≡ set (set (s .threads) t (behindFork (parentStatus k) (turnAt j s c t .next) d (restOf (threadAt s t .forks .window) e)
           (threadAt s t))) n
-          (newThread (childStatus k) (isConnected k) r t d (baseOn (s .store .tops) x) (childOf (threadAt s t .window) e))
+          (newThread (originOf r t d (baseOn (s .store .tops) x)) (childStatus k) (isConnected k) (childOf (threadAt s t .forks .window) e))
           → Birth s s' k t n d
       whole k s' free count outcome threads = record {
         left = ns;
         next = turnAt j s c t .next;
         routine = r;
         base = baseOn (s .store .tops) x;
-        rest = restOf (threadAt s t .window) e;
-        part = childOf (threadAt s t .window) e;
+        rest = restOf (threadAt s t .forks .window) e;
+        part = childOf (threadAt s t .forks .window) e;
         used = used;
         head = head;
         clear = clear;

@@ -76,8 +76,8 @@ module _ (s s' : State) (ok : Held s) (c t p : ℕ) (status : Status) (l : c < s
     links = links;
     turns = lined-turns s' (rw (threads, length-set, length-set) (ok .many)) ready line turns;
     tree = tree-gone s s' (ok .many) (ok .tree) t p used-t used-p parent childless over over' old-stays
-        (let z = ap (λ h. h .children) parent-record in let y = some in omega arith)
-        (changed (λ u h h'. ¬ (u ≡ t) → ¬ (u ≡ p) → h' .children ≡ h .children) (λ u a b x y. refl) (λ x. absurd (x refl)) (λ x y. absurd (y refl)))
+        (let z = ap (λ h. h .forks .children) parent-record in let y = some in omega arith)
+        (changed (λ u h h'. ¬ (u ≡ t) → ¬ (u ≡ p) → h' .forks .children ≡ h .forks .children) (λ u a b x y. refl) (λ x. absurd (x refl)) (λ x y. absurd (y refl)))
         gone;
     results = results-living s s' (ok .results) (λ u h. old-stays u (λ e. let z = ap (statusAt s') e in let y = gone in omega arith))
         (changed (λ u h h'. Childless s u ⊎ Pends h h') (λ u a b. inr (λ k e. e)) (inl childless) (inr (λ k e. e)));
@@ -233,7 +233,7 @@ held-returns j s ok c t v l seat low over childless = ⊎-elim at-root inside (o
         outside = lt-leb none (parentAt s t) (used-low s (ok .many) (parentAt s t) (z .1))
 
         woken : Thread → Bool
-        woken q = q .status is Waiting && eqb (q .children) 1
+        woken q = q .status is Waiting && eqb (q .forks .children) 1
 
         some-child : 0 < childrenAt s (parentAt s t)
         some-child = parent-counts s (ok .many) (ok .tree) t used-t (z .1)
@@ -243,7 +243,7 @@ held-returns j s ok c t v l seat low over childless = ⊎-elim at-root inside (o
             → Held (setCore c (cond b (parentAt s t) none) (setReady (cond (not b && w) (appended capacity (s .queues .ready) (parentAt s t)) (s .queues .ready))
             (setThread (parentAt s t) (withoutChild (cond b Running (cond (not b && w) Ready (threadAt s (parentAt s t) .status)))
             (threadAt s (parentAt s t)))
-            (setSlot (threadAt s (parentAt s t)) (threadAt s t .result) v (freed (turnAt j s c t) s)))))
+            (setSlot (threadAt s (parentAt s t)) (threadAt s t .origin .result) v (freed (turnAt j s c t) s)))))
         go true e w f = held-back s _ ok c t (parentAt s t) Running l seat low refl (z .1) childless over over refl refl refl (omega arith)
             (λ x. absurd (omega arith)) e refl refl refl
         go false e true f =

@@ -17,7 +17,7 @@ not-both b e f = let z : _≡_ {A = ℕ} 0 1 = cc in omega arith
 -- a record in the place of another, as far as links go
 pub record Bound (h h' : Thread) : Type 0 where
   pub tied : h' .connected ≡ h .connected
-  pub parent : h .connected ≡ true → h' .parent ≡ h .parent
+  pub parent : h .connected ≡ true → h' .origin .parent ≡ h .origin .parent
   pub lent : Same 5 h h'
   pub active : h .connected ≡ true → (standing h' ≡ 1) ⊎ (standing h' ≡ 5)
 
@@ -45,7 +45,7 @@ links-same s s' ok view = record {
 -- thread u where connected t leaves or ends and its parent p runs again
 pub data Cut (t p u : ℕ) (h h' : Thread) : Type 0 where
   off : u ≡ t → h' .connected ≡ false → ¬ (standing h' ≡ 5) → Cut t p u h h'
-  again : u ≡ p → standing h' ≡ 1 → h' .connected ≡ h .connected → h' .parent ≡ h .parent → Cut t p u h h'
+  again : u ≡ p → standing h' ≡ 1 → h' .connected ≡ h .connected → h' .origin .parent ≡ h .origin .parent → Cut t p u h h'
   stays : ¬ (u ≡ t) → ¬ (u ≡ p) → Bound h h' → Cut t p u h h'
 
 module _ (s s' : State) (ok : Links s) (t p : ℕ) (running : statusAt s t ≡ 1) (tied : connectedAt s t ≡ true) (mother : parentAt s t ≡ p)
@@ -95,8 +95,8 @@ module _ (s s' : State) (ok : Links s) (t p : ℕ) (running : statusAt s t ≡ 1
 
 -- thread u where n is born, connected to running t, which is lent now
 pub data Made (t n u : ℕ) (h h' : Thread) : Type 0 where
-  fresh : u ≡ n → h' .connected ≡ true → standing h' ≡ 1 → h' .parent ≡ t → Made t n u h h'
-  lends : u ≡ t → standing h' ≡ 5 → h' .connected ≡ h .connected → h' .parent ≡ h .parent → Made t n u h h'
+  fresh : u ≡ n → h' .connected ≡ true → standing h' ≡ 1 → h' .origin .parent ≡ t → Made t n u h h'
+  lends : u ≡ t → standing h' ≡ 5 → h' .connected ≡ h .connected → h' .origin .parent ≡ h .origin .parent → Made t n u h h'
   remains : ¬ (u ≡ n) → ¬ (u ≡ t) → Bound h h' → Made t n u h h'
 
 module _ (s s' : State) (ok : Links s) (t n : ℕ) (running : statusAt s t ≡ 1) (free : statusAt s n ≡ 0)

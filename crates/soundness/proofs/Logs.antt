@@ -39,7 +39,7 @@ fork-log j s kind o f = with-number (s .queues .freeThreads) refl
   where
     on-place : (n : ℕ) (ns : List ℕ) → s .queues .freeThreads ≡ n ∷ ns → (b : Bool) → goesAbove j s kind (o .thread) (f .routine) ≡ b
         → (ys : List ℕ) → s .queues .freeStacklets ≡ ys → ForkLog j s kind (o .thread) (f .routine)
-        (forkOn j s kind o f n ns (placeOf b (o .thread .base / 64) ys) .log)
+        (forkOn j s kind o f n ns (placeOf b (o .thread .origin .base / 64) ys) .log)
     on-place n ns e true g ys q = hasBoth refl
     on-place n ns e false g [] q = fewStacklets refl (λ z. let y : _≡_ {A = ℕ} 0 1 = cc in omega arith) g q
     on-place n ns e false g (y ∷ ys) q = hasBoth refl

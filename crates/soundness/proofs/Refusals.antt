@@ -39,8 +39,8 @@ few-stacklets j s kind o f some above none = go (s .queues .freeThreads) some
     go : (ns : List ℕ) → ¬ (ns ≡ []) → forkWith j s kind o f ns .log ≡ 21
     go [] k = absurd (k refl)
     go (n ∷ ns) k =
-        ap (λ b. forkOn j s kind o f n ns (placeOf b (o .thread .base / 64) (s .queues .freeStacklets)) .log) above
-        ∙ ap (λ ys. forkOn j s kind o f n ns (placeOf false (o .thread .base / 64) ys) .log) none
+        ap (λ b. forkOn j s kind o f n ns (placeOf b (o .thread .origin .base / 64) (s .queues .freeStacklets)) .log) above
+        ∙ ap (λ ys. forkOn j s kind o f n ns (placeOf false (o .thread .origin .base / 64) ys) .log) none
 
 -- STEP
 module _ (j : Job) (s : State) (sound : Sound j s) (c : ℕ) where

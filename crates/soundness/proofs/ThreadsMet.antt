@@ -31,11 +31,11 @@ module _ (j : Job) (s : State) (ok : Sound j s) where
   pub lent-used : (c t : ℕ) → Seeded j s c t → Used s t
   lent-used c t k = let z = k .lent in omega arith
 
-  pub parent-used : (t : ℕ) → Used s t → isRoot (threadAt s t) ≡ false → Used s (threadAt s t .parent)
-  parent-used t h r = ⊎-elim (λ z. let y = leb-false none (threadAt s t .parent) r in let w = z .1 in absurd (omega arith)) (λ z. z .1) (ok .tree .tree t h)
+  pub parent-used : (t : ℕ) → Used s t → isRoot (threadAt s t) ≡ false → Used s (threadAt s t .origin .parent)
+  parent-used t h r = ⊎-elim (λ z. let y = leb-false none (threadAt s t .origin .parent) r in let w = z .1 in absurd (omega arith)) (λ z. z .1) (ok .tree .tree t h)
 
   -- so is the parent of any thread but the root
-  pub parent-of : (u : ℕ) → Used s u → (u ≡ 0 → ⊥) → Used s (threadAt s u .parent)
+  pub parent-of : (u : ℕ) → Used s u → (u ≡ 0 → ⊥) → Used s (threadAt s u .origin .parent)
   parent-of u h n = ⊎-elim (λ z. absurd (n (z .0))) (λ z. z .1) (ok .tree .tree u h)
 
   -- what is known of the command that is met, by a step or by a steal
@@ -47,9 +47,9 @@ module _ (j : Job) (s : State) (ok : Sound j s) where
   seed-met c t k r d a e q =
       ⊎-elim (met-at j s (ok .job) (ok .placed) t (lent-used c t k) (Lforks r d a e)) (met-at j s (ok .job) (ok .placed) t (lent-used c t k) (Forks r d a e)) q
 
-  pub linked-parent : (t : ℕ) → threadAt s t .connected ≡ true → Used s (threadAt s t .parent)
+  pub linked-parent : (t : ℕ) → threadAt s t .connected ≡ true → Used s (threadAt s t .origin .parent)
   linked-parent t e = let z = ok .links .linked t e .1 in omega arith
 
   -- the root is nobody's child
-  pub child-not-root : (t u : ℕ) → t < 32 → Used s u → threadAt s u .parent ≡ t → u ≡ 0 → ⊥
+  pub child-not-root : (t u : ℕ) → t < 32 → Used s u → threadAt s u .origin .parent ≡ t → u ≡ 0 → ⊥
   child-not-root t u l h e z = ⊎-elim (λ a. let q = a .1 in omega arith) (λ a. a .0 z) (ok .tree .tree u h)

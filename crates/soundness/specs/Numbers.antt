@@ -51,11 +51,11 @@ FewThreads j s c = Stepped j s c (onCore s c) × (kind : ForkKind) × (r : ℕ) 
 
 -- thread t's frame "is topmost there": it ends, within its stacklet of 64 words, where that stacklet's frames end
 abbrev pub IsTopmost : Job → State → ℕ → Type 0
-IsTopmost j s t = threadAt s t .base % 64 + slotsOf (j .image) (threadAt s t .routine) ≡ topAt (s .store .tops) (threadAt s t .base / 64)
+IsTopmost j s t = threadAt s t .origin .base % 64 + slotsOf (j .image) (threadAt s t .origin .routine) ≡ topAt (s .store .tops) (threadAt s t .origin .base / 64)
 
 -- "and it fits": a frame of routine r, "as many words as the routine has slots", above those on thread t's stacklet; "16 stacklets of 64 words"
 abbrev pub FitsAbove : Job → State → ℕ → ℕ → Type 0
-FitsAbove j s t r = topAt (s .store .tops) (threadAt s t .base / 64) + slotsOf (j .image) r ≤ 64
+FitsAbove j s t r = topAt (s .store .tops) (threadAt s t .origin .base / 64) + slotsOf (j .image) r ≤ 64
 
 -- "a stacklet is needed" for a child of thread t, of routine r, by the kind of its fork; the rule's own test is not cited
 abbrev pub NeedsStacklet : Job → State → ℕ → ForkKind → ℕ → Type 0

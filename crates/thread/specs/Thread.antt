@@ -5,6 +5,8 @@ use lib.Bits.{bitOr}
 use lib.Dec.{eqb, leb}
 use Rattle.window.specs.declared.Window.{Window}
 use Rattle.window.specs.Rights.{rootWindow, rejoined}
+use Rattle.thread.specs.declared.Origin.{Origin}
+use Rattle.thread.specs.declared.Forks.{Forks}
 use Rattle.thread.specs.declared.Thread.{Thread}
 use Rattle.thread.specs.declared.Status.{Status}
 use Rattle.thread.specs.declared.Status.the-variants.{Free, Running, Ready, Suspended, Waiting, Lent}
@@ -35,138 +37,58 @@ abbrev pub none : ℕ
 none = 32
 
 abbrev pub isRoot : Thread → Bool
-isRoot h = leb none (h .parent)
+isRoot h = leb none (h .origin .parent)
+
+-- routine r for parent t, its value to slot d, its frame at a base
+abbrev pub originOf : ℕ → ℕ → ℕ → ℕ → Origin
+originOf r t d base = record { routine = r; parent = t; result = d; base = base }
+
+-- no fork yet: the whole window
+abbrev pub unforked : Window → Forks
+unforked w = record { children = 0; window = w; pending = 0 }
 
 -- a free record
 abbrev pub blankThread : Thread
 blankThread = record {
+  origin = originOf 0 0 0 0;
   status = Free;
   connected = false;
-  routine = 0;
-  parent = 0;
-  result = 0;
-  children = 0;
   position = 0;
-  base = 0;
-  window = record { lo = 0; mark = 0; hi = 0 };
-  pending = 0;
+  forks = unforked (record { lo = 0; mark = 0; hi = 0 });
 }
+
+-- a thread at its routine's start
+abbrev pub newThread : Origin → Status → Bool → Window → Thread
+newThread origin status connected w = record { origin = origin; status = status; connected = connected; position = 0; forks = unforked w }
 
 -- the root, on routine 0, "in the root's window", its frame at the first word of stacklet 0
 abbrev pub rootThread : Thread
-rootThread = record {
-  status = Running;
-  connected = false;
-  routine = 0;
-  parent = none;
-  result = 0;
-  children = 0;
-  position = 0;
-  base = 0;
-  window = rootWindow;
-  pending = 0;
-}
-
--- a new child: routine r for parent t, its value to slot d
-abbrev pub newThread : Status → Bool → ℕ → ℕ → ℕ → ℕ → Window → Thread
-newThread status connected r t d base w = record {
-  status = status;
-  connected = connected;
-  routine = r;
-  parent = t;
-  result = d;
-  children = 0;
-  position = 0;
-  base = base;
-  window = w;
-  pending = 0;
-}
+rootThread = newThread (originOf 0 none 0 0) Running false rootWindow
 
 abbrev pub withStatus : Status → Thread → Thread
-withStatus status h = record {
-  status = status;
-  connected = h .connected;
-  routine = h .routine;
-  parent = h .parent;
-  result = h .result;
-  children = h .children;
-  position = h .position;
-  base = h .base;
-  window = h .window;
-  pending = h .pending;
-}
+withStatus status h = record { origin = h .origin; status = status; connected = h .connected; position = h .position; forks = h .forks }
 
 -- "is disconnected": no longer on a core, and unconnected for good
 abbrev pub disconnected : Status → Thread → Thread
-disconnected status h = record {
-  status = status;
-  connected = false;
-  routine = h .routine;
-  parent = h .parent;
-  result = h .result;
-  children = h .children;
-  position = h .position;
-  base = h .base;
-  window = h .window;
-  pending = h .pending;
-}
+disconnected status h = record { origin = h .origin; status = status; connected = false; position = h .position; forks = h .forks }
 
 -- its next command is at p
 abbrev pub movedTo : ℕ → Thread → Thread
-movedTo p h = record {
-  status = h .status;
-  connected = h .connected;
-  routine = h .routine;
-  parent = h .parent;
-  result = h .result;
-  children = h .children;
-  position = p;
-  base = h .base;
-  window = h .window;
-  pending = h .pending;
-}
+movedTo p h = record { origin = h .origin; status = h .status; connected = h .connected; position = p; forks = h .forks }
 
--- behind a join: "clearing pending slots", "A join puts the mark back to lo"
+-- other forks, and a status
+abbrev pub withForks : Forks → Status → Thread → Thread
+withForks forks status h = record { origin = h .origin; status = status; connected = h .connected; position = h .position; forks = forks }
+
+-- behind a join, at p: "clearing pending slots", "A join puts the mark back to lo"
 abbrev pub joinedAt : ℕ → Thread → Thread
-joinedAt p h = record {
-  status = h .status;
-  connected = h .connected;
-  routine = h .routine;
-  parent = h .parent;
-  result = h .result;
-  children = h .children;
-  position = p;
-  base = h .base;
-  window = rejoined (h .window);
-  pending = 0;
-}
+joinedAt p h = movedTo p (withForks (record { children = h .forks .children; window = rejoined (h .forks .window); pending = 0 }) (h .status) h)
 
 -- a parent behind a fork, at p: one child more, slot d pending, the window w left to it
 abbrev pub behindFork : Status → ℕ → ℕ → Window → Thread → Thread
-behindFork status p d w h = record {
-  status = status;
-  connected = h .connected;
-  routine = h .routine;
-  parent = h .parent;
-  result = h .result;
-  children = h .children + 1;
-  position = p;
-  base = h .base;
-  window = w;
-  pending = withPending (h .pending) d;
-}
+behindFork status p d w h =
+    movedTo p (withForks (record { children = h .forks .children + 1; window = w; pending = withPending (h .forks .pending) d }) status h)
 
 -- a parent whose child has ended
 abbrev pub withoutChild : Status → Thread → Thread
-withoutChild status h = record {
-  status = status;
-  connected = h .connected;
-  routine = h .routine;
-  parent = h .parent;
-  result = h .result;
-  children = h .children - 1;
-  position = h .position;
-  base = h .base;
-  window = h .window;
-  pending = h .pending;
-}
+withoutChild status h = withForks (record { children = h .forks .children - 1; window = h .forks .window; pending = h .forks .pending }) status h

@@ -16,25 +16,35 @@ pub enum Status {
     Lent,
 }
 
-// A thread record.
-pub struct Thread {
-    pub status: Status,
-    // its parent is lent, and runs on when it leaves the core
-    pub connected: bool,
+// What a thread has from its start to its end.
+pub struct Origin {
     pub routine: u8,
     // the parent's number; 32 for the root
     pub parent: u8,
     // the parent's slot that its value goes to
     pub result: u8,
-    // its children that have not ended
-    pub children: u8,
-    // its next command's first byte, from its routine's start
-    pub position: u16,
     // its frame's first word among all words of the stacklets
     pub base: u16,
+}
+
+// What its forks have left of a thread.
+pub struct Forks {
+    // its children that have not ended
+    pub children: u8,
     pub window: Window,
     // one bit for each pending slot
     pub pending: u16,
+}
+
+// A thread record.
+pub struct Thread {
+    pub origin: Origin,
+    pub status: Status,
+    // its parent is lent, and runs on when it leaves the core
+    pub connected: bool,
+    // its next command's first byte, from its routine's start
+    pub position: u16,
+    pub forks: Forks,
 }
 
 // The effect of a command, computed from the thread's own slots, pending slots and window alone.

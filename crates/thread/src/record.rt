@@ -1,4 +1,6 @@
 // A thread's record: how each rule of the machine changes it.
+use crate::Forks;
+use crate::Origin;
 use crate::Status;
 use crate::Thread;
 use crate::pending::with_pending;
@@ -33,21 +35,46 @@ pub fn same_status(a: Status, b: Status) -> bool
 pub fn blank_thread() -> Thread
     ensures { λ r. ⌜ r ≡ blankThread ⌝ }
 {
-    Thread {
-        status: Status::Free,
-        connected: false,
+    let origin = Origin {
         routine: 0,
         parent: 0,
         result: 0,
-        children: 0,
-        position: 0,
         base: 0,
-        window: Window {
-            lo: 0,
-            mark: 0,
-            hi: 0,
-        },
+    };
+    let window = Window {
+        lo: 0,
+        mark: 0,
+        hi: 0,
+    };
+    let forks = Forks {
+        children: 0,
+        window,
         pending: 0,
+    };
+    Thread {
+        origin,
+        status: Status::Free,
+        connected: false,
+        position: 0,
+        forks,
+    }
+}
+
+// A thread at its routine's start.
+pub fn new_thread(origin: Origin, status: Status, connected: bool, window: Window) -> Thread
+    ensures { λ r. ⌜ r ≡ newThread origin status connected window ⌝ }
+{
+    let forks = Forks {
+        children: 0,
+        window,
+        pending: 0,
+    };
+    Thread {
+        origin,
+        status,
+        connected,
+        position: 0,
+        forks,
     }
 }
 
@@ -55,70 +82,35 @@ pub fn blank_thread() -> Thread
 pub fn root_thread() -> Thread
     ensures { λ r. ⌜ r ≡ rootThread ⌝ }
 {
-    let window = Window::root();
-    Thread {
-        status: Status::Running,
-        connected: false,
+    let origin = Origin {
         routine: 0,
         parent: 32,
         result: 0,
-        children: 0,
-        position: 0,
         base: 0,
-        window,
-        pending: 0,
-    }
+    };
+    let window = Window::root();
+    new_thread(origin, Status::Running, false, window)
 }
 
 // Does this thread have no parent?
 pub fn is_root(h: Thread) -> bool
     ensures { λ r. ⌜ r ≡ isRoot h ⌝ }
 {
-    32 <= h.parent
-}
-
-// A new child: routine `routine` for thread `parent`, its value to slot `result`.
-pub fn new_thread(
-    status: Status,
-    connected: bool,
-    routine: u8,
-    parent: u8,
-    result: u8,
-    base: u16,
-    window: Window,
-) -> Thread
-    ensures { λ r. ⌜ r ≡ newThread status connected routine parent result base window ⌝ }
-{
-    Thread {
-        status,
-        connected,
-        routine,
-        parent,
-        result,
-        children: 0,
-        position: 0,
-        base,
-        window,
-        pending: 0,
-    }
+    32 <= h.origin.parent
 }
 
 // The same thread, doing something else.
 pub fn with_status(h: Thread, status: Status) -> Thread
     ensures { λ r. ⌜ r ≡ withStatus status h ⌝ }
 {
-    let window = h.window;
+    let origin = h.origin;
+    let forks = h.forks;
     Thread {
+        origin,
         status,
         connected: h.connected,
-        routine: h.routine,
-        parent: h.parent,
-        result: h.result,
-        children: h.children,
         position: h.position,
-        base: h.base,
-        window,
-        pending: h.pending,
+        forks,
     }
 }
 
@@ -126,55 +118,63 @@ pub fn with_status(h: Thread, status: Status) -> Thread
 pub fn disconnected(h: Thread, status: Status) -> Thread
     ensures { λ r. ⌜ r ≡ disconnected status h ⌝ }
 {
-    let window = h.window;
+    let origin = h.origin;
+    let forks = h.forks;
     Thread {
+        origin,
         status,
         connected: false,
-        routine: h.routine,
-        parent: h.parent,
-        result: h.result,
-        children: h.children,
         position: h.position,
-        base: h.base,
-        window,
-        pending: h.pending,
+        forks,
     }
 }
 
 // The thread behind a join, its next command at a position: no slot is pending and its window is whole again.
-pub fn joined_at(mut h: Thread, position: u16) -> Thread
+pub fn joined_at(h: Thread, position: u16) -> Thread
     ensures { λ r. ⌜ r ≡ joinedAt position h ⌝ }
 {
-    let window = h.window.rejoin();
-    h.window = window;
-    h.position = position;
-    h.pending = 0;
-    h
+    let origin = h.origin;
+    let status = h.status;
+    let held = h.forks.window;
+    let window = held.rejoin();
+    let forks = Forks {
+        children: h.forks.children,
+        window,
+        pending: 0,
+    };
+    Thread {
+        origin,
+        status,
+        connected: h.connected,
+        position,
+        forks,
+    }
 }
 
 // The parent behind a fork: its next command at a position, one child more, slot d pending, and a window left to it. A record whose children
 // cannot be counted further, or a slot from 16 on, stays as it is.
 pub fn behind_fork(h: Thread, status: Status, position: u16, d: u8, window: Window) -> Thread
-    ensures { λ r. ⌜ (d < 16 → h .children < 255 → r ≡ behindFork status position d window h) × ((16 ≤ d) ⊎ (255 ≤ h .children) → r ≡ h) ⌝ }
+    ensures { λ r. ⌜ (d < 16 → h .forks .children < 255 → r ≡ behindFork status position d window h) × ((16 ≤ d) ⊎ (255 ≤ h .forks .children) → r ≡ h) ⌝ }
 {
     if 16 <= d {
         return h;
     }
-    if 255 <= h.children {
+    if 255 <= h.forks.children {
         return h;
     }
-    let pending = with_pending(h.pending, d);
-    Thread {
-        status,
-        connected: h.connected,
-        routine: h.routine,
-        parent: h.parent,
-        result: h.result,
-        children: h.children + 1,
-        position,
-        base: h.base,
+    let origin = h.origin;
+    let pending = with_pending(h.forks.pending, d);
+    let forks = Forks {
+        children: h.forks.children + 1,
         window,
         pending,
+    };
+    Thread {
+        origin,
+        status,
+        connected: h.connected,
+        position,
+        forks,
     }
 }
 
@@ -192,18 +192,19 @@ fn one_less(n: u8) -> u8
 pub fn without_child(h: Thread, status: Status) -> Thread
     ensures { λ r. ⌜ r ≡ withoutChild status h ⌝ }
 {
-    let window = h.window;
-    let children = one_less(h.children);
+    let origin = h.origin;
+    let window = h.forks.window;
+    let children = one_less(h.forks.children);
+    let forks = Forks {
+        children,
+        window,
+        pending: h.forks.pending,
+    };
     Thread {
+        origin,
         status,
         connected: h.connected,
-        routine: h.routine,
-        parent: h.parent,
-        result: h.result,
-        children,
         position: h.position,
-        base: h.base,
-        window,
-        pending: h.pending,
+        forks,
     }
 }

@@ -44,20 +44,14 @@ shared-slice-read-status-of c = search needs
 status-of-requires : tie.Need-status-of-requires
 status-of-requires c κs = search needs
 
+shared-slice-read-t22 : tie.Need-shared-slice-read-t22
+shared-slice-read-t22 c = search needs
+
+shared-slice-read-t10 : tie.Need-shared-slice-read-t10
+shared-slice-read-t10 c = search needs
+
 shared-slice-read-t20 : tie.Need-shared-slice-read-t20
 shared-slice-read-t20 c = search needs
-
-shared-slice-read-t18 : tie.Need-shared-slice-read-t18
-shared-slice-read-t18 c = search needs
-
-shared-slice-read-t8 : tie.Need-shared-slice-read-t8
-shared-slice-read-t8 c = search needs
-
-shared-slice-read-t15 : tie.Need-shared-slice-read-t15
-shared-slice-read-t15 c = search needs
-
-shared-slice-read-t13 : tie.Need-shared-slice-read-t13
-shared-slice-read-t13 c = search needs
 
 shared-slice-read-two-7 : tie.Need-shared-slice-read-two-7
 shared-slice-read-two-7 c = search needs
@@ -74,14 +68,20 @@ shared-slice-read-two-9 c = search needs
 shared-slice-read-two-10 : tie.Need-shared-slice-read-two-10
 shared-slice-read-two-10 c = search needs
 
-two-requires-5 : tie.Need-two-requires-5
-two-requires-5 c κs = search needs
-
 shared-slice-read-two-11 : tie.Need-shared-slice-read-two-11
 shared-slice-read-two-11 c = search needs
 
+two-requires-5 : tie.Need-two-requires-5
+two-requires-5 c κs = search needs
+
+shared-slice-read-t20-2 : tie.Need-shared-slice-read-t20-2
+shared-slice-read-t20-2 c = search needs
+
 shared-slice-read-two-12 : tie.Need-shared-slice-read-two-12
 shared-slice-read-two-12 c = search needs
+
+shared-slice-read-two-13 : tie.Need-shared-slice-read-two-13
+shared-slice-read-two-13 c = search needs
 
 two-requires-6 : tie.Need-two-requires-6
 two-requires-6 c κs = search needs
@@ -89,7 +89,7 @@ two-requires-6 c κs = search needs
 returns-2 : tie.Need-returns-2
 unfolding recordAt
 returns-2 c =
-    (λ e. rw (c .two6 .ensures, c .before .before .before .two5 .ensures, c .before .before .before .before .before .before .two4 .ensures, c .before .before .before .before .before .before .before .before .before .before .before .before .before .before .status-of .ensures, c .before .before .before .before .before .before .before .before .before .before .before .before .before .before .before .before .two3 .ensures, c .before .before .before .before .before .before .before .before .before .before .before .before .before .before .before .before .before .before .before .two2 .ensures, c .before .before .before .before .before .before .before .before .before .before .before .before .before .before .before .before .before .before .before .before .before .before .two .ensures), λ n. absurd (n (omega arith)))
+    (λ e. rw (c .two6 .ensures, c .before .before .before .before .two5 .ensures, c .before .before .before .before .before .before .before .before .two4 .ensures, c .before .before .before .before .before .before .before .before .before .before .before .before .before .before .status-of .ensures, c .before .before .before .before .before .before .before .before .before .before .before .before .before .before .before .before .two3 .ensures, c .before .before .before .before .before .before .before .before .before .before .before .before .before .before .before .before .before .before .before .two2 .ensures, c .before .before .before .before .before .before .before .before .before .before .before .before .before .before .before .before .before .before .before .before .before .before .two .ensures), λ n. absurd (n (omega arith)))
 
 pub read-record-spec : {M : Type 1} → statement M
 read-record-spec =
@@ -108,18 +108,18 @@ read-record-spec =
     two-requires-3
     shared-slice-read-status-of
     status-of-requires
+    shared-slice-read-t22
+    shared-slice-read-t10
     shared-slice-read-t20
-    shared-slice-read-t18
-    shared-slice-read-t8
-    shared-slice-read-t15
-    shared-slice-read-t13
     shared-slice-read-two-7
     shared-slice-read-two-8
     two-requires-4
     shared-slice-read-two-9
     shared-slice-read-two-10
-    two-requires-5
     shared-slice-read-two-11
+    two-requires-5
+    shared-slice-read-t20-2
     shared-slice-read-two-12
+    shared-slice-read-two-13
     two-requires-6
     returns-2)

@@ -119,7 +119,7 @@ add-push-frame c =
     let args' = c .before .before .before .before .before .before .before .before .before .before .before .before .before .before .before .before .before .before .before .before .before .before .before .before .before .before .before .before .before .before .before .before .before .before .before .before .before .before .before .args in
     let pre' = c .before .before .before .before .before .before .before .before .before .before .before .before .before .before .before .before .before .before .before .before .before .before .before .before .before .before .before .before .before .before .before .before .before .before .before .before .before .before .before .pre in
     let thread-at' = c .before .before .before .before .before .before .before .before .before .before .before .before .before .before .before .before .before .before .before .before .before .before .before .before .before .before .before .before .thread-at in
-    let low : thread-at' .result .base < 1024 = rw (thread-seen (pre' .seated .sized) [] [] (args' .t) (thread-at' .result) (pre' .seated .number) (thread-at' .ensures)) (pre' .seated .base) in
+    let low : thread-at' .result .origin .base < 1024 = rw (thread-seen (pre' .seated .sized) [] [] (args' .t) (thread-at' .result) (pre' .seated .number) (thread-at' .ensures)) (pre' .seated .base) in
     record { fits = omega (arith, c .before .before .before .before .before .before .before .before .before .before .before .before .before .before .before .before .before .before .before .before .before .before .before .before .before .before .before .before .before .before .before .before .before .before .before .before .before .before .before .fits .a .fits) }
 
 push-frame-requires : tie.Need-push-frame-requires
@@ -164,7 +164,7 @@ returns-3 c =
     let vs = push-frame' .last .1 .0 in
     let n = c .before .before .before .before .before .before .before .before .before .before .before .before .before .before .before .before .before .before .before .before .before .before .before .before .before .before .before .before .before .before .before .before .before .before .before .before .before .before .before .before .first .given .0 .0 in
     let x = spot' .given .0 .0 in
-    let low : x < 16 = spot-low (goes-above' .result) (th .base / 64) x (meaning (args' .tables .now) [] [] .queues .freeStacklets) _ (let b : th .base < 1024 = rw same (pre' .seated .base) in omega arith) (pre' .stacklets) (find-place' .ensures .1 .0 .means l [] []) (spot' .given .1) in
+    let low : x < 16 = spot-low (goes-above' .result) (th .origin .base / 64) x (meaning (args' .tables .now) [] [] .queues .freeStacklets) _ (let b : th .origin .base < 1024 = rw same (pre' .seated .base) in omega arith) (pre' .stacklets) (find-place' .ensures .1 .0 .means l [] []) (spot' .given .1) in
     let l1 = find-place' .ensures .0 .sized ∙ l in
     let l2 = hand-out-number' .ensures .sized ∙ l1 in
     let l3 = put-records' .ensures .sized ∙ l2 in

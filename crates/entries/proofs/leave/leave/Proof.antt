@@ -46,7 +46,7 @@ returns c =
     let put-thread2' = c .before .before .before .before .before .before .put-thread2 in
     let th = thread-at' .result in
     let is : th ≡ recordIn (args' .tables .now) (args' .t) = thread-seen (pre' .sized) [] [] (args' .t) th (pre' .number) (thread-at' .ensures) in
-    let low : th .parent < 32 = rw is (pre' .linked (rw is at (if1' .taken))) in
+    let low : th .origin .parent < 32 = rw is (pre' .linked (rw is at (if1' .taken))) in
     record {
       means = λ l words memory.
           let l1 = put-thread' .ensures .sized ∙ l in
@@ -54,9 +54,9 @@ returns c =
           leaves-lent (args' .c) (args' .t) (args' .status) _ _ _ _ th _ _ _
           (thread-seen l words memory (args' .t) th (pre' .number) (thread-at' .ensures)) (if1' .taken) (disconnected' .ensures)
           (thread-stored l words memory (args' .t) (disconnected' .result) (pre' .number) (put-thread' .ensures))
-          (thread-seen l1 words memory (th .parent) (thread-at2' .result) low (thread-at2' .ensures)) (with-status' .ensures)
-          (thread-stored l1 words memory (th .parent) (with-status' .result) low (put-thread2' .ensures))
-          (core-stored l2 words memory (args' .c) (th .parent) (pre' .core) (c .before .before .put-core .ensures));
+          (thread-seen l1 words memory (th .origin .parent) (thread-at2' .result) low (thread-at2' .ensures)) (with-status' .ensures)
+          (thread-stored l1 words memory (th .origin .parent) (with-status' .result) low (put-thread2' .ensures))
+          (core-stored l2 words memory (args' .c) (th .origin .parent) (pre' .core) (c .before .before .put-core .ensures));
       sized = c .before .before .put-core .ensures .sized ∙ put-thread2' .ensures .sized ∙ put-thread' .ensures .sized;
       other = λ n. absurd (n (pre' .sized));
     }

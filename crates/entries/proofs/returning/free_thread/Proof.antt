@@ -73,7 +73,7 @@ returns c =
           let l4 = put-free-threads' .ensures .sized ∙ l3 in
           freed-by (turnWith core (args' .t) th (args' .weight) next offset) _ _ _ _ _ _ _
           (charged (args' .weight) l (pre' .1 .units) (charge' .ensures) words memory)
-          (popped (th .base) l1 (rw is (pre' .1 .base)) (pop-frame' .ensures) words memory)
+          (popped (th .origin .base) l1 (rw is (pre' .1 .base)) (pop-frame' .ensures) words memory)
           (give-back' .ensures .means l2 words memory)
           (put-free-threads' .ensures .means l3 words memory ∙ ap (λ (q : List ℕ). setFreeThreads q (meaning (give-back' .last .0) words memory)) (behind-last _ _ _ _ (c .before .before .before .before .before .before .before .before .before .free-threads .ensures .means l3 words memory) (c .before .before .before .before .before .before .before .before .enqueue .ensures)))
           (blank-thread' .ensures)

@@ -104,20 +104,20 @@ returns-2 c =
     let l = pre' .sized in
     let th = thread-at' .result in
     let same : th ≡ recordIn (args' .tables .now) (args' .t) = thread-seen l [] [] (args' .t) th (pre' .number) (thread-at' .ensures) in
-    let low : th .parent < 32 = has-parent _ _ (is-root' .ensures) (if1' .left) in
+    let low : th .origin .parent < 32 = has-parent _ _ (is-root' .ensures) (if1' .left) in
     let ws = args' .words .now in
     let vs = set-slot' .last .0 in
     λ memory next offset.
     let l1 = free-thread2' .ensures 0 0 0 .sized ∙ l in
     let l2 = put-thread' .ensures .sized ∙ l1 in
     let l3 = wake' .ensures .sized ∙ l2 in
-    returned-by (turnWith (args' .c) (args' .t) th (args' .weight) next offset) (th .parent) (args' .v) (meaning (args' .tables .now) ws memory) _ _ _ _ _ (thread-at2' .result) _ _ vs _ (is-root' .result)
-    (is-root' .ensures) (if1' .left) refl (thread-seen l ws memory (th .parent) (thread-at2' .result) low (thread-at2' .ensures))
+    returned-by (turnWith (args' .c) (args' .t) th (args' .weight) next offset) (th .origin .parent) (args' .v) (meaning (args' .tables .now) ws memory) _ _ _ _ _ (thread-at2' .result) _ _ vs _ (is-root' .result)
+    (is-root' .ensures) (if1' .left) refl (thread-seen l ws memory (th .origin .parent) (thread-at2' .result) low (thread-at2' .ensures))
     (with-words (args' .tables .now) ws vs memory)
     (free-thread2' .ensures (args' .c) next offset .means l vs memory
     ∙ ap (λ (h : Thread). freed (turnWith (args' .c) (args' .t) h (args' .weight) next offset) (meaning (args' .tables .now) vs memory)) (sym same))
     (set-slot' .ensures) (c .before .before .before .before .before .before .before .before .before .before .before .before .before .status-after .ensures) (without-child' .ensures)
-    (thread-stored l1 vs memory (th .parent) (without-child' .result) low (put-thread' .ensures)) (wake' .ensures .means l2 vs memory)
+    (thread-stored l1 vs memory (th .origin .parent) (without-child' .result) low (put-thread' .ensures)) (wake' .ensures .means l2 vs memory)
     (core-after' .ensures) (core-stored l3 vs memory (args' .c) (core-after' .result) (pre' .core) (c .before .before .put-core2 .ensures))
     ∙ ap (λ (h : Thread). returnOf (meaning (args' .tables .now) ws memory) (turnWith (args' .c) (args' .t) h (args' .weight) next offset) (args' .v)) same
 

@@ -184,7 +184,7 @@ returns c =
     let weight = weightOf standardWeights byte in
     let dear : loop' .left < weight = omega (arith, paid, ltb-true (loop' .left) (getD (weights' .result) byte 0) (sym (falls-short' .ensures) ∙ c .before .before .before .before .before .before .before .before .before .if1 .taken)) in
     let zs = fall-short' .last .0 in
-    let waits = must-wait' .ensures ∙ ap (λ (h : Thread). eqb byte 10 && ltb 0 (h .children)) seen in
+    let waits = must-wait' .ensures ∙ ap (λ (h : Thread). eqb byte 10 && ltb 0 (h .forks .children)) seen in
     ends-short busy made at back dear (a .more) (c .told .result) zs (omega arith) (c .told .ensures .0)
     (ap (λ (n : ℕ). after n zs (loop' .words) (loop' .memory)) (c .told .ensures .1) ∙ fall-short' .ensures (loop' .words) (loop' .memory)
     ∙ ap (λ (b : Bool). shortOf (a .c) (a .t) b (meaning ys (loop' .words) (loop' .memory))) waits)
@@ -295,7 +295,7 @@ returns-2 c =
     let ms = carry-own' .last .1 .1 .1 .1 .1 .0 in
     let p = own' .given .0 .0 in
     let less = loop' .left - wide' .result in
-    let told = subst (λ (h : Thread). OwnAs e (loop' .position) (h .base) (a .parameters .now) (loop' .words) (loop' .memory) ws ms (Moved p)) seen (rw (own' .given .1) at (carry-own' .ensures)) in
+    let told = subst (λ (h : Thread). OwnAs e (loop' .position) (h .origin .base) (a .parameters .now) (loop' .words) (loop' .memory) ws ms (Moved p)) seen (rw (own' .given .1) at (carry-own' .ensures)) in
     let made' : Made busy (suc (a .more - loop' .rest)) p less ws ms = subst (λ (n : ℕ). Made busy (suc (a .more - loop' .rest)) p n ws ms) (omega (arith, wide' .ensures, paid)) (goes-own busy made at e is enough p ws ms told) in
     let full : suc (a .more - loop' .rest) ≡ suc (a .more) = omega (arith, c .before .before .before .before .before .if2 .taken) in
     let ys = put-back2' .last .0 in
@@ -346,7 +346,7 @@ loop-again c =
           let ms = carry-own' .last .1 .1 .1 .1 .1 .0 in
           let p = own' .given .0 .0 in
           let less = loop' .left - c .before .wide .result in
-          let told = subst (λ (h : Thread). OwnAs e (loop' .position) (h .base) (a .parameters .now) (loop' .words) (loop' .memory) ws ms (Moved p)) seen (rw (own' .given .1) at (carry-own' .ensures)) in
+          let told = subst (λ (h : Thread). OwnAs e (loop' .position) (h .origin .base) (a .parameters .now) (loop' .words) (loop' .memory) ws ms (Moved p)) seen (rw (own' .given .1) at (carry-own' .ensures)) in
           let made' : Made busy (suc (a .more - loop' .rest)) p less ws ms = subst (λ (n : ℕ). Made busy (suc (a .more - loop' .rest)) p n ws ms) (omega (arith, c .before .wide .ensures, paid)) (goes-own busy made at e is enough p ws ms told) in
           subst (λ (k : ℕ). Made busy k p less ws ms) (omega (arith, loop' .inv .3, c .if2 .left)) made',
     )
@@ -475,7 +475,7 @@ returns-3 c =
     let used = a .allowance - loop' .left in
     let back : Becomes (a .tables .now) ys (standsAt (a .t % 32) (loop' .position) used) = subst (λ (l : List ℕ). Becomes l ys (standsAt (a .t % 32) (loop' .position) used)) (loop' .inv .0) (put-back3' .ensures) in
     let told = rw (enum-told' .given .1) at (carry-own' .ensures) in
-    let waits = must-wait' .ensures ∙ ap (λ (h : Thread). eqb byte 10 && ltb 0 (h .children)) seen in
+    let waits = must-wait' .ensures ∙ ap (λ (h : Thread). eqb byte 10 && ltb 0 (h .forks .children)) seen in
     let job = jobOf (a .image .now) (a .starts .now) (a .parameters .now) (a .allowance) in
     let next = (loop' .position + bytesBy e) % 2 ^ 16 in
     let place = place-in-image' .result + loop' .position in

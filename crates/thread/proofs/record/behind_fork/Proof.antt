@@ -15,11 +15,11 @@ returns-2 c = (λ h k. absurd (omega arith), λ h. refl)
 with-pending-requires : tie.Need-with-pending-requires
 with-pending-requires c κs = search needs
 
-add-t8 : tie.Need-add-t8
-add-t8 c = search needs
+add-t10 : tie.Need-add-t10
+add-t10 c = search needs
 
 returns-3 : tie.Need-returns-3
 returns-3 c = (λ h k. simp (c .before .with-pending .ensures .0 h), ⊎-elim (λ h. absurd (omega arith)) (λ h. absurd (omega arith)))
 
 pub behind-fork-spec : {M : Type 1} → statement M
-behind-fork-spec = tie.close (tie.spec returns returns-2 with-pending-requires add-t8 returns-3)
+behind-fork-spec = tie.close (tie.spec returns returns-2 with-pending-requires add-t10 returns-3)
