@@ -38,7 +38,7 @@ two-back x = omega arith
 pub cells-back : (h : Thread) → recordAt (cellsOf h) 0 ≡ h
 unfolding recordAt
 cells-back h =
-    rw (status-back (h .status), bit-back (h .connected), two-back (h .position), two-back (h .origin .base), two-back (h .forks .window .lo), two-back (h .forks .window .mark), two-back (h .forks .window .hi), two-back (h .forks .pending))
+    rw (status-back (h .status), bit-back (h .connected), two-back (h .position), two-back (h .origin .base), two-back (h .family .window .lo), two-back (h .family .window .mark), two-back (h .family .window .hi), two-back (h .family .pending))
 
 -- a record moved on
 pub moved-at : (xs ys : List ℕ) (a p : ℕ) → ((k : ℕ) → k < 16 → getD ys (a + (k + 2)) 0 ≡ getD xs (a + (k + 2)) 0) → getD ys (a + 0) 0 ≡ p % 256 → getD ys (a + 1) 0 ≡ p / 256

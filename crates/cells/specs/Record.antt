@@ -38,7 +38,7 @@ recordAt xs a = record {
   status = statusOf (getD xs (a + 2) 0);
   connected = not (eqb (getD xs (a + 3) 0) 0);
   position = getD xs (a + 0) 0 + 256 * getD xs (a + 1) 0;
-  forks = record { children = getD xs (a + 7) 0; window = windowAt xs a; pending = getD xs (a + 16) 0 + 256 * getD xs (a + 17) 0 };
+  family = record { children = getD xs (a + 7) 0; window = windowAt xs a; pending = getD xs (a + 16) 0 + 256 * getD xs (a + 17) 0 };
 }
 
 -- the cells of a window
@@ -48,5 +48,5 @@ windowCells w = (w .lo % 256) ∷ (w .lo / 256) ∷ (w .mark % 256) ∷ (w .mark
 -- the cells of a record
 abbrev pub cellsOf : Thread → List ℕ
 cellsOf h =
-    (h .position % 256) ∷ (h .position / 256) ∷ statusNumber (h .status) ∷ bitOf (h .connected) ∷ h .origin .routine ∷ h .origin .parent ∷ h .origin .result ∷ h .forks .children
-    ∷ (h .origin .base % 256) ∷ (h .origin .base / 256) ∷ windowCells (h .forks .window) ++ ((h .forks .pending % 256) ∷ (h .forks .pending / 256) ∷ [])
+    (h .position % 256) ∷ (h .position / 256) ∷ statusNumber (h .status) ∷ bitOf (h .connected) ∷ h .origin .routine ∷ h .origin .parent ∷ h .origin .result ∷ h .family .children
+    ∷ (h .origin .base % 256) ∷ (h .origin .base / 256) ∷ windowCells (h .family .window) ++ ((h .family .pending % 256) ∷ (h .family .pending / 256) ∷ [])

@@ -1,6 +1,6 @@
 // A thread's record as its 18 bytes: how it is read and how it is stored. Where the records stand is the tables' matter. Nothing is asked of the
 // caller: another number of bytes is read as a free record and never changed.
-use thread::Forks;
+use thread::Family;
 use thread::Origin;
 use thread::Status;
 use thread::Thread;
@@ -86,7 +86,7 @@ pub fn read_record(cells: &[u8]) -> Thread
         result: cells[6],
         base: two(cells[8], cells[9]),
     };
-    let forks = Forks {
+    let family = Family {
         children: cells[7],
         window,
         pending: two(cells[16], cells[17]),
@@ -96,7 +96,7 @@ pub fn read_record(cells: &[u8]) -> Thread
         status,
         connected: cells[3] != 0,
         position: two(cells[0], cells[1]),
-        forks,
+        family,
     }
 }
 
@@ -121,7 +121,7 @@ pub fn write_record(cells: &mut [u8], th: Thread)
         return;
     }
     let status = th.status;
-    let window = th.forks.window;
+    let window = th.family.window;
     cells[0] = low(th.position);
     cells[1] = high(th.position);
     cells[2] = status_number(status);
@@ -129,10 +129,10 @@ pub fn write_record(cells: &mut [u8], th: Thread)
     cells[4] = th.origin.routine;
     cells[5] = th.origin.parent;
     cells[6] = th.origin.result;
-    cells[7] = th.forks.children;
+    cells[7] = th.family.children;
     cells[8] = low(th.origin.base);
     cells[9] = high(th.origin.base);
     write_window(cells, window);
-    cells[16] = low(th.forks.pending);
-    cells[17] = high(th.forks.pending);
+    cells[16] = low(th.family.pending);
+    cells[17] = high(th.family.pending);
 }

@@ -19,12 +19,12 @@ use Rattle.window.specs.Rights.{rootWindow, childOf}
 use Rattle.stacklets.specs.Frames.{slotOf}
 use Rattle.thread.specs.declared.Effect.{Effect}
 use Rattle.thread.specs.declared.Effect.the-variants.{Faults, Sets, Loads, Stores, Goes, Continues, Lforks, Forks, Joins, Suspends, Yields, Returns}
-use Rattle.thread.specs.Effect.{Own, anyPending, unlessPending, provided, forking, effectOf}
+use Rattle.thread.specs.Effect.{Own, anyPending, unlessPending, provided, forking, effectOf, asked}
 use Rattle.thread.specs.Thread.{isPending}
 use Rattle.thread.specs.View.{viewOf}
-use Rattle.thread.specs.Job.{Job, offsetAt}
+use Rattle.thread.specs.Job.{Job, offsetAt, wordAt}
 use Rattle.serial.specs.declared.Routine.{Routine}
-use Rattle.serial.specs.Serial.{Ended, done, stopped, andThen, Call, movedTo, withSlot, goesOn, joined, forked, startedOn, argumentsFrom, wordAt, weightAt, effectAt, forkCalled, carried, callWithin, runFrom, serialFrom}
+use Rattle.serial.specs.Serial.{Ended, done, stopped, andThen, Call, movedTo, withSlot, goesOn, joined, forked, startedOn, argumentsFrom, weightAt, effectAt, forkCalled, carried, callWithin, runFrom, serialFrom}
 use Rattle.serial.proofs.Whole.{refused, wrong-count, wrong-parameters, wrong-memory, all-right}
 use Rattle.demands.proofs.WholeRun.{refusal-range}
 use Rattle.demands.specs.Input.{Input, jobIn}
@@ -109,7 +109,7 @@ module _ (j : Job) where
   Called : ℕ → Type 0
   Called f = (n : ℕ) (l : Routine) (m : List ℕ) (u : ℕ) → Ends (callWithin j f n l m u)
 
-  fork-ends : (f : ℕ) → Called f → (n : ℕ) (l : Routine) (r d a e : ℕ) (m : List ℕ) (u : ℕ) → Ends (forkCalled j (within f) n l r d a e m u)
+  fork-ends : (f : ℕ) → Called f → (n : ℕ) (l : Routine) (r d a e : ℕ) (m : List ℕ) (u : ℕ) → Ends (forkCalled j (within f) n l (asked r d a e) m u)
   unfolding Called
   fork-ends f ih n l r d a e m u = go (leb 32 n)
     where

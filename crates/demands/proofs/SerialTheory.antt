@@ -23,12 +23,13 @@ use Rattle.forkjoin.proofs.Arrays.{words-from, words-set}
 use Rattle.forkjoin.proofs.SerialRun.{Outcome as TheoryOutcome, done as t-done, stopped as t-stopped, and-then}
 use Rattle.thread.specs.declared.Effect.{Effect}
 use Rattle.thread.specs.declared.Effect.the-variants.{Faults, Sets, Loads, Stores, Goes, Continues, Lforks, Forks, Joins, Suspends, Yields, Returns}
-use Rattle.thread.specs.Job.{Job, GoodJob}
+use Rattle.thread.specs.Job.{Job, GoodJob, wordAt}
 use Rattle.thread.proofs.ThreadState.{ThreadState, effect, onward}
 use Rattle.thread.proofs.MarkedWindows.{window-tests}
 use Rattle.thread.proofs.SerialSteps.{serial, serial-short, serial-faults, serial-sets, serial-loads-parameter, serial-loads, serial-stores, serial-goes, serial-continues, serial-suspends, serial-yields, serial-joins, serial-returns, serial-lforks, serial-forks, serial-lforks-deep, serial-forks-deep, then-child}
+use Rattle.thread.specs.Effect.{asked}
 use Rattle.serial.specs.declared.Routine.{Routine}
-use Rattle.serial.specs.Serial.{Ended, done, stopped, andThen, movedTo, withSlot, goesOn, joined, forked, startedOn, argumentsFrom, wordAt, weightAt, effectAt, forkCalled, carried, runFrom, serialFrom}
+use Rattle.serial.specs.Serial.{Ended, done, stopped, andThen, movedTo, withSlot, goesOn, joined, forked, startedOn, argumentsFrom, weightAt, effectAt, forkCalled, carried, runFrom, serialFrom}
 use Rattle.serial.specs.Steps.{GoodRoutine}
 use Rattle.serial.proofs.CommandMet.{ForkMet, Known, Next, next-met, weighs, met, slots-few, fresh}
 use Rattle.serial.proofs.Unrolled.{Between, between, between-done, unrolled}
@@ -133,7 +134,7 @@ module _ (j : Job) (good : GoodJob j) where
     forks : (r d a e : ℕ) → ForkMet j good l g r d a e → GoodRoutine j (startedOn r (argumentsFrom j l r a) (childOf (l .window) e))
         → ((v : ℕ) → GoodRoutine j (withSlot d v (goesOn j (forked d e l))))
         → (n < 31 → theory n (stateOf l) ws u ≡ called r d a e) → (31 ≤ n → theory n (stateOf l) ws u ≡ t-stopped 26 ws u) → Dec (n < 31)
-        → Same (forkCalled j (runFrom j) (suc n) l r d a e m u) (theory n (stateOf l) ws u)
+        → Same (forkCalled j (runFrom j) (suc n) l (asked r d a e) m u) (theory n (stateOf l) ws u)
     unfolding Agree
     forks r d a e k child parent shallow deep (no h) =
         rw (le-leb 32 (suc n) (omega arith)) (along _ _ _ (deep (omega arith)) (record { same = refl; size = all }))

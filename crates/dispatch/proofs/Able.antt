@@ -63,5 +63,5 @@ module _ (j : Job) (s : State) (ok : Sound j s) where
   few-children p (suc n) = omega (arith, few-children p n, one-child p n)
 
   -- a thread in use has few children
-  pub children-few : (t : ℕ) → Used s t → threadAt s t .forks .children < 255
+  pub children-few : (t : ℕ) → Used s t → threadAt s t .family .children < 255
   children-few t u = omega (arith, ok .tree .counted t u, few-children t 32)

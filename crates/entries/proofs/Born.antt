@@ -18,7 +18,7 @@ use Rattle.rules.specs.declared.ForkKind.{ForkKind}
 use Rattle.rules.specs.State.{Job, State}
 use Rattle.rules.specs.Update.{accepted, refused, setThread, setTops, setFreeStacklets, setWords, charge}
 use Rattle.rules.specs.Turn.{Turn}
-use Rattle.rules.specs.Fork.{placeOf, goesAbove, Asked, born, forkOn, forkWith, forkOf, childGoes, isConnected}
+use Rattle.rules.specs.Fork.{placeOf, goesAbove, Asked, born, forkOn, forkWith, forkOf, childGoes, isConnected, handed}
 use Rattle.entries.specs.Given.{placeBy, bothRecords, leftBy, handsOutNumber}
 use Rattle.dispatch.specs.Orderly.{HeadBelow}
 use native.Mathlib.Omega.{arith}
@@ -69,7 +69,7 @@ module _ (j : Job) (s : State) (o : Turn) (f : Asked) where
     unfolding goesAbove
     place-found = rw (← e0, ← e4, ← e3, ← e5) (sym (place-by above (o .thread .origin .base / 64) (s .queues .freeStacklets) spot e6))
 
-    pub fork-found : forkOn j s kind o f n (restOf (s .queues .freeThreads)) (placeBy spot (leftBy above s .queues .freeStacklets)) ≡ forkOf j s kind o f
+    pub fork-found : forkOn s (λ x xs. born j s kind o f (handed n (restOf (s .queues .freeThreads)) x xs)) (placeBy spot (leftBy above s .queues .freeStacklets)) ≡ forkOf j s kind o f
     unfolding forkOf forkWith
     fork-found = rw (← place-found, number-first (s .queues .freeThreads) n (sym e1 ∙ e2))
 
@@ -103,7 +103,7 @@ module _ (j : Job) (s : State) (o : Turn) (f : Asked) where
         hw' : ws ≡ pushedWords (s .store .tops) (s .store .words) x size (argumentsAt (s .store .words) (o .thread .origin .base + f .first) ar)
         hw' = hw ∙ ap (λ (ts : List ℕ). pushedWords ts (s .store .words) x size (argumentsAt (s .store .words) (o .thread .origin .base + f .first) ar)) same4
 
-        go : accepted s6 ≡ forkOn j s kind o f n (restOf (s .queues .freeThreads)) (placeBy spot (leftBy above s .queues .freeStacklets))
+        go : accepted s6 ≡ forkOn s (λ x xs. born j s kind o f (handed n (restOf (s .queues .freeThreads)) x xs)) (placeBy spot (leftBy above s .queues .freeStacklets))
         go = rw (g6, g5', g4, g3, g2, g1, g0, hb', hw', ha, e4, e7)
 
 -- the stacklet that is found is one of 16

@@ -105,10 +105,10 @@ module _ {image starts parameters : List ℕ} {allowance : ℕ} {xs ws₀ ms₀ 
 
   -- its effect
   abbrev pub Does : List ℕ → ℕ → Effect → Type 0
-  Does ws place e = e ≡ effectOf (argumentsOf image) (viewOf (slotOf ws (th₀ .origin .base)) (isPending (th₀ .forks .pending)) (th₀ .forks .window)) (decodedAt image place)
+  Does ws place e = e ≡ effectOf (argumentsOf image) (viewOf (slotOf ws (th₀ .origin .base)) (isPending (th₀ .family .pending)) (th₀ .family .window)) (decodedAt image place)
 
   pub does : (th : Thread) (place : ℕ) (ws five : List ℕ) (command : Command) (e : Effect) → th ≡ th₀ → five ≡ fiveAt image place → command ≡ decodedAt five 0
-      → e ≡ effectOf (argumentsOf image) (viewOf (slotOf ws (th .origin .base)) (isPending (th .forks .pending)) (th .forks .window)) command → Does ws place e
+      → e ≡ effectOf (argumentsOf image) (viewOf (slotOf ws (th .origin .base)) (isPending (th .family .pending)) (th .family .window)) command → Does ws place e
   does th place ws five command e seen bytes is f = f ∙ rw (seen, is, bytes) refl
 
   many : length (s₀ .threads) ≡ 32
@@ -211,7 +211,7 @@ module _ {image starts parameters : List ℕ} {allowance : ℕ} {xs ws₀ ms₀ 
 
       -- whether it waits, and its weight
       abbrev waits : Bool
-      waits = eqb byte 10 && ltb 0 (th₀ .forks .children)
+      waits = eqb byte 10 && ltb 0 (th₀ .family .children)
 
       abbrev weight : ℕ
       weight = weightOf standardWeights byte
@@ -224,13 +224,13 @@ module _ {image starts parameters : List ℕ} {allowance : ℕ} {xs ws₀ ms₀ 
 
         wider : Widened (widthOf byte) e
         wider = subst (λ (b : ℕ). Widened (widthOf b) e) byte-is
-            (rw (is, at .there) (wide j (held p left ws ms) sound t (movedTo p th₀) met used (viewOf (slotOf ws (th₀ .origin .base)) (isPending (th₀ .forks .pending)) (th₀ .forks .window))))
+            (rw (is, at .there) (wide j (held p left ws ms) sound t (movedTo p th₀) met used (viewOf (slotOf ws (th₀ .origin .base)) (isPending (th₀ .family .pending)) (th₀ .family .window))))
 
-        pub guarded : Guarded (argumentsOf image) (viewOf (slotOf ws (th₀ .origin .base)) (isPending (th₀ .forks .pending)) (th₀ .forks .window)) e
-        guarded = rw (is, at .there) (tested j (held p left ws ms) sound t (movedTo p th₀) met used (viewOf (slotOf ws (th₀ .origin .base)) (isPending (th₀ .forks .pending)) (th₀ .forks .window)))
+        pub guarded : Guarded (argumentsOf image) (viewOf (slotOf ws (th₀ .origin .base)) (isPending (th₀ .family .pending)) (th₀ .family .window)) e
+        guarded = rw (is, at .there) (tested j (held p left ws ms) sound t (movedTo p th₀) met used (viewOf (slotOf ws (th₀ .origin .base)) (isPending (th₀ .family .pending)) (th₀ .family .window)))
 
         no-join : byte ≡ 10 → IsOther e
-        no-join ten = rw (is, ← at .first, ten) (joins (argumentsOf image) (viewOf (slotOf ws (th₀ .origin .base)) (isPending (th₀ .forks .pending)) (th₀ .forks .window))
+        no-join ten = rw (is, ← at .first, ten) (joins (argumentsOf image) (viewOf (slotOf ws (th₀ .origin .base)) (isPending (th₀ .family .pending)) (th₀ .family .window))
             (getD image (place + 1) 0) (getD image (place + 2) 0) (getD image (place + 3) 0) (getD image (place + 4) 0))
 
         -- its weight is left
@@ -293,8 +293,8 @@ module _ {image starts parameters : List ℕ} {allowance : ℕ} {xs ws₀ ms₀ 
                 units = omega (arith, units, enough, made .few, small);
                 base = rw same (based j (held p left ws ms) sound t (movedTo p th₀) met used);
               } in
-              carrying (argumentsOf image) (slotOf ws (th₀ .origin .base)) (isPending (th₀ .forks .pending)) (th₀ .forks .window) ys c t weight
-              (sym (ap (λ (h : Thread). h .forks .window) same)) seated (linked-below j (meaning ys ws ms) ok t) (rw same (few j (held p left ws ms) sound t (movedTo p th₀) met used))
+              carrying (argumentsOf image) (slotOf ws (th₀ .origin .base)) (isPending (th₀ .family .pending)) (th₀ .family .window) ys c t weight
+              (sym (ap (λ (h : Thread). h .family .window) same)) seated (linked-below j (meaning ys ws ms) ok t) (rw same (few j (held p left ws ms) sound t (movedTo p th₀) met used))
               (free-first j (meaning ys ws ms) ok) (stacklet-first j (meaning ys ws ms) ok) e (guarded e is) other
 
           pub ends-rest : (more : ℕ) (r : Carried) (zs vs : List ℕ) → k ≤ more → r .again ≡ k

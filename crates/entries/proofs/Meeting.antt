@@ -49,7 +49,7 @@ module _ (j : Job) (s : State) (ok : Sound j s) (t : ℕ) (th : Thread) (met : t
   pub wide : (own : Own) → Widened (widthOf (byteOf j th)) (effectOf (argumentsOf (j .image)) own (decodedAt (j .image) (offsetOf j th)))
   wide own = rw met (width-here j (ok .job) (threadAt s t .origin .routine) (threadAt s t .position) (ok .placed .routine t used) (ok .placed .position t used) own)
 
-  pub few : th .forks .children < 255
+  pub few : th .family .children < 255
   few = rw met (children-few j s ok t used)
 
   pub based : th .origin .base < 1024
@@ -91,8 +91,8 @@ module _ (arguments slot : ℕ → ℕ) (pending : ℕ → Bool) (w : Window) wh
   stored Yields g = tt
   stored (Returns v) g = tt
 
-  module _ (xs : List ℕ) (c t weight : ℕ) (is-window : w ≡ recordIn xs t .forks .window) (seated : Seated xs c t weight)
-      (linked : recordIn xs t .connected ≡ true → recordIn xs t .origin .parent < 32) (fewer : recordIn xs t .forks .children < 255)
+  module _ (xs : List ℕ) (c t weight : ℕ) (is-window : w ≡ recordIn xs t .family .window) (seated : Seated xs c t weight)
+      (linked : recordIn xs t .connected ≡ true → recordIn xs t .origin .parent < 32) (fewer : recordIn xs t .family .children < 255)
       (numbers : HeadBelow 32 (meaning xs [] [] .queues .freeThreads)) (stacklets : HeadBelow 16 (meaning xs [] [] .queues .freeStacklets)) where
     pub carrying : (e : Effect) → Guarded arguments (viewOf slot pending w) e → IsOther e → Carrying xs c t weight e
     carrying (Faults n) g o = seated .sized

@@ -8,9 +8,10 @@ use Rattle.command.specs.Command.{decoded}
 use Rattle.thread.specs.declared.Effect.{Effect}
 use Rattle.thread.specs.declared.Effect.the-variants.{Sets, Loads, Stores, Goes, Continues}
 use Rattle.thread.specs.Effect.{Own, effectOf}
+use Rattle.thread.specs.Job.{wordIn}
 use Rattle.rules.specs.Rules.{carriedOf}
 use Rattle.entries.specs.declared.own.Own.the-variants.{Moved}
-use Rattle.entries.specs.Own.{OwnAs, IsOther, wordIn}
+use Rattle.entries.specs.Own.{OwnAs, IsOther}
 
 module _ (e : Effect) (position base : ℕ) (ps ws ms : List ℕ) where
   pub own-sets : (d v p : ℕ) (vs : List ℕ) → p ≡ (position + 4) % 2 ^ 16 → e ≡ Sets d v → vs ≡ withSlot ws base d v

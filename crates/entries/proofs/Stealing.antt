@@ -109,10 +109,10 @@ fork-small byte r d a w (inr e) i = rw e at i
 
 -- what the seed's effect relies on
 pub seed-ready : (xs image words : List ℕ) (c t w r d a k : ℕ) (th : Thread) → length xs ≡ size
-    → (mayCut (th .forks .window) (slotOf words (th .origin .base) k) ≡ true → Forking xs c t w d (slotOf words (th .origin .base) k)) → Seed xs c t w (seedOf image words th r d a k)
+    → (mayCut (th .family .window) (slotOf words (th .origin .base) k) ≡ true → Forking xs c t w d (slotOf words (th .origin .base) k)) → Seed xs c t w (seedOf image words th r d a k)
 unfolding forking unlessPending provided
 seed-ready xs image words c t w r d a k th l f =
-    go (anyPending (isPending (th .forks .pending)) (d ∷ k ∷ run a (argumentsOf image r))) (mayCut (th .forks .window) (slotOf words (th .origin .base) k)) f
+    go (anyPending (isPending (th .family .pending)) (d ∷ k ∷ run a (argumentsOf image r))) (mayCut (th .family .window) (slotOf words (th .origin .base) k)) f
   where
     go : (p q : Bool) → (q ≡ true → Forking xs c t w d (slotOf words (th .origin .base) k))
         → Seed xs c t w (cond p (Faults 9) (cond q (Forks r d a (slotOf words (th .origin .base) k)) (Faults 11)))
@@ -129,5 +129,5 @@ pub seed-carried : (j : Job) (s : State) (c t w place next byte r d a k : ℕ) (
 unfolding effectAt
 seed-carried j s c t w place next byte r d a k th seed x met ep eb er ed ea ek which ew en es ex =
     ex ∙ ap (stolenOf j s (turnWith c t th w next place)) es
-    ∙ sym (either-fork j s (turnWith c t th w next place) (viewOf (slotOf (s .store .words) (th .origin .base)) (isPending (th .forks .pending)) (th .forks .window)) (argumentsOf (j .image)) byte r d a k which)
+    ∙ sym (either-fork j s (turnWith c t th w next place) (viewOf (slotOf (s .store .words) (th .origin .base)) (isPending (th .family .pending)) (th .family .window)) (argumentsOf (j .image)) byte r d a k which)
     ∙ rw (← met, ← ep, ← eb, ← er, ← ed, ← ea, ← ek, fork-wide byte which, ← ew, ← en)

@@ -46,9 +46,9 @@ metOf j s o e left waits = cond waits (waitsOf (o .core) (o .number) s) (cond (l
 module _ (j : Job) (s : State) (c t : ℕ) (going : isOver (s .outcome) ≡ false) (core : c < s .count) (on : t ≡ onCore s c) (busy : t < 32)
     (th : Thread) (met : th ≡ threadAt s t) (place byte left : ℕ) (e : Effect) (there : place ≡ offsetOf j th) (first : byte ≡ getD (j .image) place 0)
     (allowed : left ≡ j .allowance - s .units)
-    (does : e ≡ effectOf (argumentsOf (j .image)) (viewOf (slotOf (s .store .words) (th .origin .base)) (isPending (th .forks .pending)) (th .forks .window)) (decodedAt (j .image) place)) where
+    (does : e ≡ effectOf (argumentsOf (j .image)) (viewOf (slotOf (s .store .words) (th .origin .base)) (isPending (th .family .pending)) (th .family .window)) (decodedAt (j .image) place)) where
   abbrev waits : Bool
-  waits = eqb byte 10 && ltb 0 (th .forks .children)
+  waits = eqb byte 10 && ltb 0 (th .family .children)
 
   met-steps : metOf j s (turnWith c t th (weightOf (j .weights) byte) (th .position + widthOf byte) place) e left waits ≡ stepOf j s c
   unfolding stepOf turnOf effectAt

@@ -58,27 +58,27 @@ pub record Seated (xs : List ℕ) (c t weight : ℕ) : Type 0 where
 -- a fork with its result slot and its cut
 pub record Forking (xs : List ℕ) (c t weight d e : ℕ) : Type 0 where
   pub seated : Seated xs c t weight
-  pub children : recordIn xs t .forks .children < 255
+  pub children : recordIn xs t .family .children < 255
   pub numbers : HeadBelow 32 (meaning xs [] [] .queues .freeThreads)
   pub stacklets : HeadBelow 16 (meaning xs [] [] .queues .freeStacklets)
   pub result : d < 16
-  pub low : recordIn xs t .forks .window .mark ≤ e
-  pub high : e ≤ recordIn xs t .forks .window .hi
+  pub low : recordIn xs t .family .window .mark ≤ e
+  pub high : e ≤ recordIn xs t .family .window .hi
 
 -- both records of a fork can be stored: the numbers are in the tables, the slot and the cut in range
 pub record Cutting (th : Thread) (t n d e : ℕ) : Type 0 where
   pub parent : t < 32
   pub child : n < 32
-  pub children : th .forks .children < 255
+  pub children : th .family .children < 255
   pub result : d < 16
-  pub low : th .forks .window .mark ≤ e
-  pub high : e ≤ th .forks .window .hi
+  pub low : th .family .window .mark ≤ e
+  pub high : e ≤ th .family .window .hi
 
 -- thread t's record behind a fork, which was th, and its child's, thread n with its frame at a base
 abbrev pub bothRecords : ForkKind → ℕ → ℕ → Thread → ℕ → Asked → ℕ → State → State
 bothRecords kind t n th next f base s =
-    setThread n (newThread (originOf (f .routine) t (f .result) base) (childStatus kind) (isConnected kind) (childOf (th .forks .window) (f .cut)))
-    (setThread t (behindFork (parentStatus kind) next (f .result) (restOfWindow (th .forks .window) (f .cut)) th) s)
+    setThread n (newThread (originOf (f .routine) t (f .result) base) (childStatus kind) (isConnected kind) (childOf (th .family .window) (f .cut)))
+    (setThread t (behindFork (parentStatus kind) next (f .result) (restOfWindow (th .family .window) (f .cut)) th) s)
 
 -- the free stacklets that are left by a new frame: all where it goes above its parent's, or else all but the first
 abbrev pub leftBy : Bool → State → State
@@ -104,7 +104,7 @@ placeBy Nothing xs = nowhere
 -- the effect of a fork's operands on a thread, whichever of the two forks it is
 abbrev pub seedOf : List ℕ → List ℕ → Thread → ℕ → ℕ → ℕ → ℕ → Effect
 seedOf image words h r d a w =
-    forking (argumentsOf image) (viewOf (slotOf words (h .origin .base)) (isPending (h .forks .pending)) (h .forks .window)) r d a w (Forks r d a (slotOf words (h .origin .base) w))
+    forking (argumentsOf image) (viewOf (slotOf words (h .origin .base)) (isPending (h .family .pending)) (h .family .window)) r d a w (Forks r d a (slotOf words (h .origin .base) w))
 
 -- what carrying out a seed relies on: it forks, or it faults
 abbrev pub Seed : List ℕ → ℕ → ℕ → ℕ → Effect → Type 0

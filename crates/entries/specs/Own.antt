@@ -16,10 +16,6 @@ use Rattle.rules.specs.Rules.{carriedOf}
 use Rattle.entries.specs.declared.own.Own.{Own}
 use Rattle.entries.specs.declared.own.Own.the-variants.{Moved, Other}
 
--- the word at an address
-abbrev pub wordIn : List ℕ → List ℕ → ℕ → ℕ
-wordIn parameters memory a = cond (ltb a 32) (getD parameters a 0) (getD memory (a - 32) 0)
-
 -- a store is to a memory word: a window allows no other
 abbrev pub Stored : Effect → Type 0
 Stored (Faults n) = Unit {0}

@@ -109,7 +109,7 @@ fn put_records(
     requires { ⌜ Cutting th t n d e ⌝ }
     ensures { λ _. ⌜ Becomes (now (tables .entry)) (now (tables .exit)) (bothRecords kind t n th next (asked r d 0 e) base) ⌝ }
 {
-    let window = th.forks.window;
+    let window = th.family.window;
     let cut = window.cut(e);
     let Cut::Parts { child, rest } = cut else {
         return;

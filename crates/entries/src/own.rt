@@ -4,7 +4,8 @@ use std::num::wrapping_add_u16;
 use thread::Effect;
 ghost use mathlib.Core.Path.{_≡_};
 ghost use lib.ListN.{getD, set};
-ghost use Rattle.entries.specs.Own.{Stored, OwnAs, wordIn};
+ghost use Rattle.thread.specs.Job.{wordIn};
+ghost use Rattle.entries.specs.Own.{Stored, OwnAs};
 
 // What carrying out an effect gave.
 pub enum Own {

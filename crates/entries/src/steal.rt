@@ -29,12 +29,12 @@ ghost use Rattle.dispatch.specs.Orderly.{after};
 fn seed_of(th: Thread, five: [u8; 5], image: &[u8], words: &[u32]) -> Effect
     ensures { λ x. ⌜ x ≡ seedOf (now (image .entry)) (now (words .entry)) th (getD five 1 0) (getD five 2 0) (getD five 3 0) (getD five 4 0) ⌝ }
 {
-    let window = th.forks.window;
+    let window = th.family.window;
     effects::fork(
         image,
         words,
         th.origin.base,
-        th.forks.pending,
+        th.family.pending,
         window,
         five[1],
         five[2],

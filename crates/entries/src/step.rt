@@ -104,7 +104,7 @@ fn burst(
 {
     let th = thread_at(tables, t);
     let start = place_in_image(starts, th.origin.routine, 0);
-    let window = th.forks.window;
+    let window = th.family.window;
     // held by the loop: a constant table is laid out anew where it is named
     let weights = weights();
     let mut position = th.position;
@@ -114,7 +114,7 @@ fn burst(
         let place = start + (position as usize);
         let five = five_at(image, place);
         let cost = weights[five[0] as usize];
-        let waits = must_wait(five[0], th.forks.children);
+        let waits = must_wait(five[0], th.family.children);
         if falls_short(left, cost) {
             put_back(tables, t, position, allowance - left);
             return told(more - rest, fall_short(tables, c, t, waits));
@@ -124,7 +124,7 @@ fn burst(
             image,
             words,
             th.origin.base,
-            th.forks.pending,
+            th.family.pending,
             window,
         );
         let own = carry_own(done, position, th.origin.base, parameters, words, memory);

@@ -9,22 +9,13 @@ use Rattle.stacklets.specs.Frames.{argumentsAt, pushedWords}
 use Rattle.thread.specs.declared.Thread.{Thread}
 use Rattle.thread.specs.declared.Status.{Status}
 use Rattle.thread.specs.declared.Status.the-variants.{Running, Ready, Lent}
+pub use Rattle.thread.specs.Effect.{Asked, asked}
 use Rattle.thread.specs.Thread.{originOf, newThread, behindFork}
 use Rattle.rules.specs.declared.ForkKind.{ForkKind}
 use Rattle.rules.specs.declared.ForkKind.the-variants.{Called, Queued, Stolen}
 use Rattle.rules.specs.State.{Job, State, After}
 use Rattle.rules.specs.Update.{accepted, refused, setThread, setCore, setTops, setFreeThreads, setFreeStacklets, setWords, charge, enqueueReady}
 use Rattle.rules.specs.Turn.{Turn}
-
--- what a fork asks for: the routine, the result slot, the first argument's slot and the cut
-pub record Asked : Type 0 where
-  pub routine : ℕ
-  pub result : ℕ
-  pub first : ℕ
-  pub cut : ℕ
-
-abbrev pub asked : ℕ → ℕ → ℕ → ℕ → Asked
-asked r d a e = record { routine = r; result = d; first = a; cut = e }
 
 -- "the child runs on this core, connected; the parent is lent" (lfork); "the child is independent, joins the ready line's tail; the
 -- parent runs on" (fork); "its child independent and running on idle core c, .. t staying lent" (steal)
@@ -64,30 +55,55 @@ placeOf true x free = onStacklet x free
 placeOf false x [] = nowhere
 placeOf false x (y ∷ ys) = onStacklet y ys
 
--- the child's thread n on stacklet x, with the thread numbers and stacklets left
-unfoldable pub born : Job → State → ForkKind → Turn → Asked → ℕ → List ℕ → ℕ → List ℕ → State
-born j s kind o f n ns x xs =
-    childGoes kind (o .core) n
-    (setFreeThreads ns
-    (setFreeStacklets xs
-    (setTops (pushedTops (s .store .tops) x (slotsOf (j .image) (f .routine)))
-    (setWords (pushedWords (s .store .tops) (s .store .words) x (slotsOf (j .image) (f .routine))
-    (argumentsAt (s .store .words) (o .thread .origin .base + f .first) (argumentsOf (j .image) (f .routine))))
+-- what a child is handed: its thread number and its stacklet, with the free ones that are left
+pub record Handed : Type 0 where
+  pub number : ℕ
+  pub numbers : List ℕ
+  pub stacklet : ℕ
+  pub stacklets : List ℕ
+
+abbrev pub handed : ℕ → List ℕ → ℕ → List ℕ → Handed
+handed n ns x xs = record { number = n; numbers = ns; stacklet = x; stacklets = xs }
+
+-- a child's record: its value goes to the result slot of its parent, its window is what the cut gives it
+abbrev pub childThread : State → ForkKind → Turn → Asked → Handed → Thread
+childThread s kind o f g =
+    newThread (originOf (f .routine) (o .number) (f .result) (baseOn (s .store .tops) (g .stacklet))) (childStatus kind) (isConnected kind)
+    (childOf (o .thread .family .window) (f .cut))
+
+-- its parent's, behind the fork
+abbrev pub parentThread : ForkKind → Turn → Asked → Thread
+parentThread kind o f = behindFork (parentStatus kind) (o .next) (f .result) (restOf (o .thread .family .window) (f .cut)) (o .thread)
+
+-- the words with the child's frame: its arguments, which the parent's slots hold, and zeros
+abbrev pub wordsWithChild : Job → State → Turn → Asked → ℕ → List ℕ
+wordsWithChild j s o f x =
+    pushedWords (s .store .tops) (s .store .words) x (slotsOf (j .image) (f .routine))
+    (argumentsAt (s .store .words) (o .thread .origin .base + f .first) (argumentsOf (j .image) (f .routine)))
+
+-- the fork done, its child with what it was handed
+unfoldable pub born : Job → State → ForkKind → Turn → Asked → Handed → State
+born j s kind o f g =
+    childGoes kind (o .core) (g .number)
+    (setFreeThreads (g .numbers)
+    (setFreeStacklets (g .stacklets)
+    (setTops (pushedTops (s .store .tops) (g .stacklet) (slotsOf (j .image) (f .routine)))
+    (setWords (wordsWithChild j s o f (g .stacklet))
     (charge (o .weight)
-    (setThread n (newThread (originOf (f .routine) (o .number) (f .result) (baseOn (s .store .tops) x)) (childStatus kind) (isConnected kind)
-    (childOf (o .thread .forks .window) (f .cut)))
-    (setThread (o .number) (behindFork (parentStatus kind) (o .next) (f .result) (restOf (o .thread .forks .window) (f .cut)) (o .thread)) s)))))))
+    (setThread (g .number) (childThread s kind o f g)
+    (setThread (o .number) (parentThread kind o f) s)))))))
 
 -- "21: a stacklet is needed and none is free"
-unfoldable pub forkOn : Job → State → ForkKind → Turn → Asked → ℕ → List ℕ → Place → After
-forkOn j s kind o f n ns (onStacklet x xs) = accepted (born j s kind o f n ns x xs)
-forkOn j s kind o f n ns nowhere = refused 21 s
+unfoldable pub forkOn : State → (ℕ → List ℕ → State) → Place → After
+forkOn s child (onStacklet x xs) = accepted (child x xs)
+forkOn s child nowhere = refused 21 s
 
 -- "20: no free thread number"
 unfoldable pub forkWith : Job → State → ForkKind → Turn → Asked → List ℕ → After
 forkWith j s kind o f [] = refused 20 s
 forkWith j s kind o f (n ∷ ns) =
-    forkOn j s kind o f n ns (placeOf (goesAbove j s kind (o .thread) (f .routine)) (o .thread .origin .base / 64) (s .queues .freeStacklets))
+    forkOn s (λ x xs. born j s kind o f (handed n ns x xs))
+    (placeOf (goesAbove j s kind (o .thread) (f .routine)) (o .thread .origin .base / 64) (s .queues .freeStacklets))
 
 unfoldable pub forkOf : Job → State → ForkKind → Turn → Asked → After
 forkOf j s kind o f = forkWith j s kind o f (s .queues .freeThreads)

@@ -28,7 +28,7 @@ freed o s =
 
 -- "a waiting parent whose children have all ended joins the ready line and is ready"
 unfoldable pub wakes : Bool → Thread → Bool
-wakes connected q = not connected && (q .status is Waiting && eqb (q .forks .children) 1)
+wakes connected q = not connected && (q .status is Waiting && eqb (q .family .children) 1)
 
 -- "A connected child's parent runs on"
 unfoldable pub statusAfter : Bool → Thread → Status

@@ -10,10 +10,11 @@ use Rattle.thread.specs.declared.Effect.{Effect}
 use Rattle.thread.specs.declared.Effect.the-variants.{Faults, Sets, Loads, Stores, Goes, Continues, Lforks, Forks, Joins, Suspends, Yields, Returns}
 use Rattle.thread.specs.declared.Status.the-variants.{Ready, Suspended, Waiting, Lent}
 use Rattle.thread.specs.Thread.{withStatus, movedTo, joinedAt, _is_}
+use Rattle.thread.specs.Job.{wordAt}
 use Rattle.rules.specs.declared.ForkKind.the-variants.{Called, Queued, Stolen}
 use Rattle.rules.specs.State.{Job, State, After, isOver, threadAt, onCore, isBusy}
 use Rattle.rules.specs.Update.{accepted, refused, setThread, setReady, setSlot, setMemory, enqueueReady}
-use Rattle.rules.specs.Turn.{Turn, turnAt, byteOf, effectAt, tooDear, waits, wordAt, done, goesOn, faults}
+use Rattle.rules.specs.Turn.{Turn, turnAt, byteOf, effectAt, tooDear, waits, done, goesOn, faults}
 use Rattle.rules.specs.Leave.{runs, leaves}
 use Rattle.rules.specs.Fork.{asked, forkOf}
 use Rattle.rules.specs.Return.{returnOf}
@@ -23,7 +24,7 @@ use Rattle.rules.specs.Return.{returnOf}
 unfoldable pub carriedOf : Job → State → Turn → Effect → After
 carriedOf j s o (Faults n) = faults o n s
 carriedOf j s o (Sets d v) = accepted (goesOn o (setSlot (o .thread) d v s))
-carriedOf j s o (Loads d a) = accepted (goesOn o (setSlot (o .thread) d (wordAt j s a) s))
+carriedOf j s o (Loads d a) = accepted (goesOn o (setSlot (o .thread) d (wordAt j (s .store .memory) a) s))
 carriedOf j s o (Stores a v) = accepted (goesOn o (setMemory a v s))
 carriedOf j s o (Goes p) = accepted (done o (movedTo p (o .thread)) s)
 carriedOf j s o Continues = accepted (goesOn o s)

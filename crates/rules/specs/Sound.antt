@@ -43,7 +43,7 @@ pub record Sized (j : Job) (s : State) : Type 0 where
 pub record Placed (j : Job) (s : State) : Type 0 where
   pub routine : (t : ℕ) → Used s t → threadAt s t .origin .routine < countOf (j .image)
   pub position : (t : ℕ) → Used s t → isStart (commandsOf (codeOf (j .image) (threadAt s t .origin .routine))) (threadAt s t .position) ≡ true
-  pub pending : (t : ℕ) → Used s t → threadAt s t .forks .pending < 65536
+  pub pending : (t : ℕ) → Used s t → threadAt s t .family .pending < 65536
   pub result : (t : ℕ) → Used s t → threadAt s t .origin .result < 16
   pub join : (t : ℕ) → IsWaiting s t → byteOf j (threadAt s t) ≡ 10
 
@@ -77,8 +77,8 @@ childrenAmong s t (suc n) = isChild s t n + childrenAmong s t n
 -- "child counts agree with the fork tree, whose root is thread 0 .. (once finished, and only then, no thread is in use)";
 -- "a waiting thread has a child that has not ended". Ranks rise from parent to child, so there is no cycle
 pub record Tree (s : State) : Type 0 where
-  pub waits : (t : ℕ) → IsWaiting s t → 0 < threadAt s t .forks .children
-  pub counted : (t : ℕ) → Used s t → threadAt s t .forks .children ≡ childrenAmong s t 32
+  pub waits : (t : ℕ) → IsWaiting s t → 0 < threadAt s t .family .children
+  pub counted : (t : ℕ) → Used s t → threadAt s t .family .children ≡ childrenAmong s t 32
   pub rank : ℕ → ℕ
   pub deep : ℕ
   pub low : (t : ℕ) → rank t < deep
@@ -89,17 +89,17 @@ pub record Tree (s : State) : Type 0 where
 
 -- "unended children's result slots are pending and distinct"
 pub record Results (s : State) : Type 0 where
-  pub pending : (u : ℕ) → Used s u → (u ≡ 0 → ⊥) → isPending (threadAt s (threadAt s u .origin .parent) .forks .pending) (threadAt s u .origin .result) ≡ true
+  pub pending : (u : ℕ) → Used s u → (u ≡ 0 → ⊥) → isPending (threadAt s (threadAt s u .origin .parent) .family .pending) (threadAt s u .origin .result) ≡ true
   pub distinct : (u v : ℕ) → Used s u → Used s v → threadAt s u .origin .parent ≡ threadAt s v .origin .parent → threadAt s u .origin .result ≡ threadAt s v .origin .result → u ≡ v
 
 -- windows are good; the root's is 32 to 1,024; children's "lie apart in what the parent cut off"
 pub record Windows (s : State) : Type 0 where
-  pub fits : (t : ℕ) → Used s t → Fits (threadAt s t .forks .window)
-  pub root : Used s 0 → (threadAt s 0 .forks .window .lo ≡ 32) × (threadAt s 0 .forks .window .hi ≡ 1024)
+  pub fits : (t : ℕ) → Used s t → Fits (threadAt s t .family .window)
+  pub root : Used s 0 → (threadAt s 0 .family .window .lo ≡ 32) × (threadAt s 0 .family .window .hi ≡ 1024)
   pub inside : (u : ℕ) → Used s u → (u ≡ 0 → ⊥)
-      → (threadAt s (threadAt s u .origin .parent) .forks .window .lo ≤ threadAt s u .forks .window .lo) × (threadAt s u .forks .window .hi ≤ threadAt s (threadAt s u .origin .parent) .forks .window .mark)
+      → (threadAt s (threadAt s u .origin .parent) .family .window .lo ≤ threadAt s u .family .window .lo) × (threadAt s u .family .window .hi ≤ threadAt s (threadAt s u .origin .parent) .family .window .mark)
   pub apart : (u v : ℕ) → Used s u → Used s v → (u ≡ v → ⊥) → threadAt s u .origin .parent ≡ threadAt s v .origin .parent
-      → (threadAt s u .forks .window .hi ≤ threadAt s v .forks .window .lo) ⊎ (threadAt s v .forks .window .hi ≤ threadAt s u .forks .window .lo)
+      → (threadAt s u .family .window .hi ≤ threadAt s v .family .window .lo) ⊎ (threadAt s v .family .window .hi ≤ threadAt s u .family .window .lo)
 
 -- "each thread number .. is either in use or once in its free line"
 pub record FreeThreads (s : State) : Type 0 where

@@ -28,7 +28,7 @@ pub record Queues : Type 0 where
   pub ready : List ℕ
 
 -- the words: of each stacklet how many hold frames, all stacklets' words, and the memory words
-pub record Store : Type 0 where
+pub record Storage : Type 0 where
   pub tops : List ℕ
   pub words : List ℕ
   pub memory : List ℕ
@@ -40,7 +40,7 @@ pub record State : Type 0 where
   -- how many cores there are
   pub count : ℕ
   pub queues : Queues
-  pub store : Store
+  pub store : Storage
   pub units : ℕ
   pub outcome : Outcome
 

@@ -47,7 +47,7 @@ turnAt j s c t = record {
 -- what the next command of a thread does to it
 unfoldable pub effectAt : Job → State → Thread → Effect
 effectAt j s h =
-    effectOf (argumentsOf (j .image)) (viewOf (slotOf (s .store .words) (h .origin .base)) (isPending (h .forks .pending)) (h .forks .window)) (decodedAt (j .image) (offsetOf j h))
+    effectOf (argumentsOf (j .image)) (viewOf (slotOf (s .store .words) (h .origin .base)) (isPending (h .family .pending)) (h .family .window)) (decodedAt (j .image) (offsetOf j h))
 
 -- "22: units plus the command's weight pass the allowance"
 abbrev pub tooDear : Job → State → Turn → Bool
@@ -55,11 +55,7 @@ tooDear j s o = ltb (j .allowance - s .units) (o .weight)
 
 -- "passes when every child has ended"; otherwise it waits: "a join that waits is not tested" for 22
 abbrev pub waits : Job → Thread → Bool
-waits j h = eqb (byteOf j h) 10 && ltb 0 (h .forks .children)
-
--- the word at an address: "Addresses 0 to 31 are parameter words"
-abbrev pub wordAt : Job → State → ℕ → ℕ
-wordAt j s a = cond (ltb a 32) (getD (j .parameters) a 0) (getD (s .store .memory) (a - 32) 0)
+waits j h = eqb (byteOf j h) 10 && ltb 0 (h .family .children)
 
 -- the command is done, the thread's record is h, and the weight is charged
 abbrev pub done : Turn → Thread → State → State

@@ -4,7 +4,7 @@ use Prim.Native.Nat.{ℕ, _+_, _-_}
 use lib.ListN.{set}
 use Rattle.queue.specs.Contents.{appended, capacity}
 use Rattle.thread.specs.declared.Thread.{Thread}
-use Rattle.rules.specs.State.{Queues, Store, State, Outcome, After}
+use Rattle.rules.specs.State.{Queues, Storage, State, Outcome, After}
 
 -- "0 or its number": an accepted entry, and one that is refused, "changing nothing"
 abbrev pub accepted : State → After
@@ -18,7 +18,7 @@ abbrev pub withQueues : Queues → State → State
 withQueues queues s =
     record { threads = s .threads; cores = s .cores; count = s .count; queues = queues; store = s .store; units = s .units; outcome = s .outcome }
 
-abbrev pub withStore : Store → State → State
+abbrev pub withStore : Storage → State → State
 withStore store s =
     record { threads = s .threads; cores = s .cores; count = s .count; queues = s .queues; store = store; units = s .units; outcome = s .outcome }
 

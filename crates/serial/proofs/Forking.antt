@@ -15,6 +15,7 @@ use Rattle.window.specs.Rights.{childOf, cutAt}
 use Rattle.window.proofs.Laws.{Cutting, cut-means, cut-made}
 use Rattle.thread.specs.Thread.{withPending}
 use Rattle.thread.specs.Job.{Job}
+use Rattle.thread.specs.Effect.{asked}
 use Rattle.serial.specs.declared.Routine.{Routine}
 use Rattle.serial.specs.declared.row.Fork.{Fork}
 use Rattle.serial.specs.declared.Ending.{Ending}
@@ -30,7 +31,7 @@ module _ {j : Job} {n : ℕ} {whole : Ended} {l : Routine} {m : List ℕ} {left 
   abbrev u : ℕ
   u = j .allowance - left
 
-  called : (runFrom j n l m u ≡ forkCalled j (runFrom j) n l (f .routine) (f .result) (f .first) (f .cut) m u)
+  called : (runFrom j n l m u ≡ forkCalled j (runFrom j) n l (asked (f .routine) (f .result) (f .first) (f .cut)) m u)
       × Calls j n l m u (f .cut) (f .routine) (f .result) (f .first) (effectAt j l)
   called =
       turn-calls j n l m u (far .job) (far .routine) (omega (arith, fork .weight, fork .paid, far .most)) (effectAt j l) refl (f .cut) (f .routine) (f .result) (f .first) (fork .asked)

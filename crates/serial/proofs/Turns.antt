@@ -14,6 +14,7 @@ use Rattle.thread.specs.declared.Effect.the-variants.{Faults, Sets, Loads, Stor
 use Rattle.thread.specs.Job.{Job, GoodJob, byteAt}
 use Rattle.met.proofs.CommandMet.{ForkMet}
 use Rattle.thread.proofs.Widths.{Widened}
+use Rattle.thread.specs.Effect.{asked}
 use Rattle.serial.specs.declared.Routine.{Routine}
 use Rattle.serial.specs.declared.Ask.{Ask}
 use Rattle.serial.specs.declared.Ask.the-variants.{GoOn, Join, Call, Stop, Return}
@@ -126,7 +127,7 @@ module _ (j : Job) (n : ℕ) (l : Routine) (m : List ℕ) (u : ℕ) where
 
   -- what a fork leads to: the run's equation, what it asks for, and good routines; slots and memory are as they were
   pub record Calls (c r d a : ℕ) (e : Effect) : Type 0 where
-    pub is : carried j (runFrom j) n l m u e ≡ forkCalled j (runFrom j) n l r d a c m u
+    pub is : carried j (runFrom j) n l m u e ≡ forkCalled j (runFrom j) n l (asked r d a c) m u
     pub asks : ForkMet (j .image) (slotsOf (j .image) (l .routine)) (l .window) r d a c
     pub child : GoodRoutine j (startedOn r (argumentsFrom j l r a) (childOf (l .window) c))
     pub parent : (v : ℕ) → GoodRoutine j (withSlot d v (goesOn j (forked d c l)))
@@ -201,5 +202,5 @@ module _ (j : Job) (n : ℕ) (l : Routine) (m : List ℕ) (u : ℕ) where
         turn-returns v q = sym (turned ∙ returns e v q)
 
         pub turn-calls : (c r d a : ℕ) → askedOf e (l .position) ≡ Call c r d a
-            → (runFrom j n l m u ≡ forkCalled j (runFrom j) n l r d a c m u) × Calls c r d a e
+            → (runFrom j n l m u ≡ forkCalled j (runFrom j) n l (asked r d a c) m u) × Calls c r d a e
         turn-calls c r d a q = let x = calls e c r d a q wide-here known next in (turned ∙ x .is, x)

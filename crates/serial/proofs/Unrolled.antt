@@ -11,9 +11,10 @@ use lib.ListN.{set, length, length-set}
 use Rattle.window.specs.Rights.{childOf}
 use Rattle.thread.specs.declared.Effect.{Effect}
 use Rattle.thread.specs.declared.Effect.the-variants.{Faults, Sets, Loads, Stores, Goes, Continues, Lforks, Forks, Joins, Suspends, Yields, Returns}
-use Rattle.thread.specs.Job.{Job, GoodJob}
+use Rattle.thread.specs.Job.{Job, GoodJob, wordAt}
+use Rattle.thread.specs.Effect.{asked}
 use Rattle.serial.specs.declared.Routine.{Routine}
-use Rattle.serial.specs.Serial.{Ended, done, stopped, andThen, Call, movedTo, withSlot, goesOn, joined, forked, startedOn, argumentsFrom, wordAt, weightAt, effectAt, forkCalled, carried, callWithin, runFrom}
+use Rattle.serial.specs.Serial.{Ended, done, stopped, andThen, Call, movedTo, withSlot, goesOn, joined, forked, startedOn, argumentsFrom, weightAt, effectAt, forkCalled, carried, callWithin, runFrom}
 use Rattle.serial.specs.Steps.{GoodRoutine}
 use Rattle.serial.proofs.CommandMet.{Next, next-met, weighs}
 
@@ -48,7 +49,7 @@ module _ (j : Job) where
   Bounded f = (n : ℕ) (l : Routine) (m : List ℕ) (u : ℕ) → u ≤ j .allowance → Between u (j .allowance) (length m) (callWithin j f n l m u)
 
   fork-between : (f : ℕ) → Bounded f → (n : ℕ) (l : Routine) (r d a e : ℕ) (m : List ℕ) (u : ℕ) → u + weightAt j l ≤ j .allowance
-      → Between u (j .allowance) (length m) (forkCalled j (within f) n l r d a e m u)
+      → Between u (j .allowance) (length m) (forkCalled j (within f) n l (asked r d a e) m u)
   unfolding Bounded
   fork-between f ih n l r d a e m u h = go (leb 32 n)
     where
@@ -104,7 +105,7 @@ module _ (j : Job) where
     fork-stable : (f : ℕ) → Stable f → (n : ℕ) (l : Routine) (r d a e : ℕ) (m : List ℕ) (u : ℕ) → 1 ≤ weightAt j l → u + weightAt j l ≤ j .allowance
         → j .allowance < u + suc f → GoodRoutine j (startedOn r (argumentsFrom j l r a) (childOf (l .window) e))
         → ((v : ℕ) → GoodRoutine j (withSlot d v (goesOn j (forked d e l))))
-        → forkCalled j (within f) n l r d a e m u ≡ forkCalled j (within (suc f)) n l r d a e m u
+        → forkCalled j (within f) n l (asked r d a e) m u ≡ forkCalled j (within (suc f)) n l (asked r d a e) m u
     unfolding Stable Bounded
     fork-stable f ih n l r d a e m u w h k child parent = ap (cond (leb 32 n) (stopped 26 m u))
         (then-alike (λ v m' u'. within f n (withSlot d v (goesOn j (forked d e l))) m' u')

@@ -16,10 +16,10 @@ use Rattle.window.specs.Rights.{rootWindow, childOf, restOf, rejoined}
 use Rattle.stacklets.specs.Frames.{slotOf}
 use Rattle.thread.specs.declared.Effect.{Effect}
 use Rattle.thread.specs.declared.Effect.the-variants.{Faults, Sets, Loads, Stores, Goes, Continues, Lforks, Forks, Joins, Suspends, Yields, Returns}
-use Rattle.thread.specs.Effect.{effectOf}
+use Rattle.thread.specs.Effect.{Asked, asked, effectOf}
 use Rattle.thread.specs.View.{viewOf}
 use Rattle.thread.specs.Thread.{isPending, withPending}
-use Rattle.thread.specs.Job.{Job, offsetAt, byteAt}
+use Rattle.thread.specs.Job.{Job, offsetAt, byteAt, wordAt}
 use Rattle.serial.specs.declared.Routine.{Routine}
 use Rattle.serial.specs.declared.SerialAnswer.{SerialAnswer}
 use Rattle.serial.specs.declared.SerialAnswer.the-variants.{Finished, Stopped}
@@ -76,10 +76,6 @@ effectAt j l =
     effectOf (argumentsOf (j .image)) (viewOf (slotOf (l .slots) 0) (isPending (l .pending)) (l .window))
     (decodedAt (j .image) (offsetAt j (l .routine) (l .position)))
 
--- the word at an address
-abbrev pub wordAt : Job → List ℕ → ℕ → ℕ
-wordAt j m a = cond (ltb a 32) (getD (j .parameters) a 0) (getD m (a - 32) 0)
-
 -- an ended call, and what follows it
 abbrev pub andThen : Ended → (ℕ → List ℕ → ℕ → Ended) → Ended
 andThen (done v m u) f = f v m u
@@ -89,28 +85,29 @@ andThen (stopped n m u) f = stopped n m u
 abbrev pub Call : Type 0
 Call = ℕ → Routine → List ℕ → ℕ → Ended
 
--- "ends before the parent goes on"; "Its returned value goes into d, still pending"; "A fork from 32 deep, the root being 1, meets 26";
--- "A fork's weight counts before its child starts"
-abbrev pub forkCalled : Job → Call → ℕ → Routine → ℕ → ℕ → ℕ → ℕ → List ℕ → ℕ → Ended
-forkCalled j call n l r d a e m u =
-    cond (leb 32 n) (stopped 26 m u)
-    (andThen (call (suc n) (startedOn r (argumentsFrom j l r a) (childOf (l .window) e)) m (u + weightAt j l))
-    (λ v m' u'. call n (withSlot d v (goesOn j (forked d e l))) m' u'))
+module _ (j : Job) (call : Call) where
+  -- "ends before the parent goes on"; "Its returned value goes into d, still pending"; "A fork from 32 deep, the root being 1, meets 26";
+  -- "A fork's weight counts before its child starts"
+  abbrev pub forkCalled : ℕ → Routine → Asked → List ℕ → ℕ → Ended
+  forkCalled n l f m u =
+      cond (leb 32 n) (stopped 26 m u)
+      (andThen (call (suc n) (startedOn (f .routine) (argumentsFrom j l (f .routine) (f .first)) (childOf (l .window) (f .cut))) m (u + weightAt j l))
+      (λ v m' u'. call n (withSlot (f .result) v (goesOn j (forked (f .result) (f .cut) l))) m' u'))
 
--- a command by its effect: "01 to 07 act by the table"; "suspend and yield only cost"
-unfoldable pub carried : Job → Call → ℕ → Routine → List ℕ → ℕ → Effect → Ended
-carried j call n l m u (Faults x) = stopped x m u
-carried j call n l m u (Sets d v) = call n (goesOn j (withSlot d v l)) m (u + weightAt j l)
-carried j call n l m u (Loads d a) = call n (goesOn j (withSlot d (wordAt j m a) l)) m (u + weightAt j l)
-carried j call n l m u (Stores a v) = call n (goesOn j l) (set m (a - 32) v) (u + weightAt j l)
-carried j call n l m u (Goes p) = call n (movedTo p l) m (u + weightAt j l)
-carried j call n l m u Continues = call n (goesOn j l) m (u + weightAt j l)
-carried j call n l m u (Lforks r d a e) = forkCalled j call n l r d a e m u
-carried j call n l m u (Forks r d a e) = forkCalled j call n l r d a e m u
-carried j call n l m u Joins = call n (goesOn j (joined l)) m (u + weightAt j l)
-carried j call n l m u Suspends = call n (goesOn j l) m (u + weightAt j l)
-carried j call n l m u Yields = call n (goesOn j l) m (u + weightAt j l)
-carried j call n l m u (Returns v) = done v m (u + weightAt j l)
+  -- a command by its effect: "01 to 07 act by the table"; "suspend and yield only cost"
+  unfoldable pub carried : ℕ → Routine → List ℕ → ℕ → Effect → Ended
+  carried n l m u (Faults x) = stopped x m u
+  carried n l m u (Sets d v) = call n (goesOn j (withSlot d v l)) m (u + weightAt j l)
+  carried n l m u (Loads d a) = call n (goesOn j (withSlot d (wordAt j m a) l)) m (u + weightAt j l)
+  carried n l m u (Stores a v) = call n (goesOn j l) (set m (a - 32) v) (u + weightAt j l)
+  carried n l m u (Goes p) = call n (movedTo p l) m (u + weightAt j l)
+  carried n l m u Continues = call n (goesOn j l) m (u + weightAt j l)
+  carried n l m u (Lforks r d a e) = forkCalled n l (asked r d a e) m u
+  carried n l m u (Forks r d a e) = forkCalled n l (asked r d a e) m u
+  carried n l m u Joins = call n (goesOn j (joined l)) m (u + weightAt j l)
+  carried n l m u Suspends = call n (goesOn j l) m (u + weightAt j l)
+  carried n l m u Yields = call n (goesOn j l) m (u + weightAt j l)
+  carried n l m u (Returns v) = done v m (u + weightAt j l)
 
 -- "The first test met ends it before that command": 22 first. At most `left` commands in a row; each weighs 1 at least, so one more than
 -- the allowance is never used up, and `unrolled` (proofs) is the run's equation without that number

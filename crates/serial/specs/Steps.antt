@@ -12,7 +12,7 @@ use Rattle.window.specs.Rights.{Fits, rejoined}
 use Rattle.thread.specs.declared.Effect.{Effect}
 use Rattle.thread.specs.declared.Effect.the-variants.{Faults, Sets, Loads, Stores, Goes, Continues, Lforks, Forks, Joins, Suspends, Yields, Returns}
 use Rattle.thread.specs.Thread.{withPending}
-use Rattle.thread.specs.Job.{Job, jobOf, GoodJob}
+use Rattle.thread.specs.Job.{Job, jobOf, wordIn, GoodJob}
 use Rattle.serial.specs.declared.Routine.{Routine}
 use Rattle.serial.specs.declared.place.Place.{Place}
 use Rattle.serial.specs.declared.Ask.{Ask}
@@ -51,10 +51,6 @@ askedOf Joins p = Join
 askedOf Suspends p = GoOn (p + 1)
 askedOf Yields p = GoOn (p + 1)
 askedOf (Returns v) p = Return v
-
--- the word at an address
-abbrev pub wordIn : List ℕ → List ℕ → ℕ → ℕ
-wordIn parameters m a = cond (ltb a 32) (getD parameters a 0) (getD m (a - 32) 0)
 
 -- the slots behind a command by which the routine goes on
 unfoldable pub slotsAfter : List ℕ → List ℕ → List ℕ → Effect → List ℕ

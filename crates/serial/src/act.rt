@@ -8,7 +8,8 @@ ghost use Prim.Native.Nat.{_+_, _<_};
 ghost use lib.ListN.{length, getD};
 ghost use Rattle.command.specs.Weight.{weightOf};
 ghost use Rattle.thread.specs.Effect.{bytesBy};
-ghost use Rattle.serial.specs.Steps.{wordIn, slotsAfter, memoryAfter, askedOf, InReach};
+ghost use Rattle.thread.specs.Job.{wordIn};
+ghost use Rattle.serial.specs.Steps.{slotsAfter, memoryAfter, askedOf, InReach};
 
 // Where a routine's code starts.
 pub fn code_start(starts: &[u16; 32], routine: u8) -> usize

@@ -28,7 +28,7 @@ use Rattle.rules.specs.State.{Job, State, After, going, finished, faulted, thre
 use Rattle.rules.specs.Update.{accepted, refused, setThread, setCore, setReady}
 use Rattle.rules.specs.Turn.{Turn, turnAt, effectAt, goesOn, faults, offsetOf}
 use Rattle.rules.specs.Leave.{leaves, runs}
-use Rattle.rules.specs.Fork.{Asked, asked, born}
+use Rattle.rules.specs.Fork.{Asked, asked, born, handed}
 use Rattle.rules.specs.Return.{returnOf, returnToParent}
 use Rattle.rules.specs.Rules.{entryOf}
 use Rattle.rules.specs.Sound.{GoodJob, Sound, Used}
@@ -132,7 +132,7 @@ leaves-outcome c t x s = go (threadAt s t .connected)
     go false = refl
 
 born-outcome : (j : Job) (s : State) (kind : ForkKind) (o : Turn) (f : Asked) (n : ℕ) (ns : List ℕ) (x : ℕ) (xs : List ℕ)
-    → born j s kind o f n ns x xs .outcome ≡ s .outcome
+    → born j s kind o f (handed n ns x xs) .outcome ≡ s .outcome
 unfolding born
 born-outcome j s Called o f n ns x xs = refl
 born-outcome j s Queued o f n ns x xs = refl
@@ -187,18 +187,18 @@ module _ (j : Job) (good : GoodJob j) (s : State) (ok : Sound j s) (results : Re
 
   lfork-moves : (kind : ForkKind) (c t : ℕ) → s .outcome ≡ going → Used s t → (r d a e : ℕ) → effectAt j s (threadAt s t) ≡ Lforks r d a e
       → (n : ℕ) (ns : List ℕ) (x : ℕ) (xs : List ℕ) → Forked j s kind (threadAt s t) r n ns x xs
-      → Moves j good s (accepted (born j s kind (turnAt j s c t) (asked r d a e) n ns x xs))
+      → Moves j good s (accepted (born j s kind (turnAt j s c t) (asked r d a e) (handed n ns x xs)))
   lfork-moves kind c t o u r d a e met n ns x xs f =
       let range = effect-slots j good s ok c t u (Lforks r d a e) met .0 in
-      step-of t (born j s kind (turnAt j s c t) (asked r d a e) n ns x xs) o (born-outcome j s kind (turnAt j s c t) (asked r d a e) n ns x xs)
+      step-of t (born j s kind (turnAt j s c t) (asked r d a e) (handed n ns x xs)) o (born-outcome j s kind (turnAt j s c t) (asked r d a e) n ns x xs)
       (lforks-goes j good s ok c t u kind r d a e n ns x xs (room kind (threadAt s t) r n ns x xs f (range .routine)) range met)
 
   fork-moves : (kind : ForkKind) (c t : ℕ) → s .outcome ≡ going → Used s t → (r d a e : ℕ) → effectAt j s (threadAt s t) ≡ Forks r d a e
       → (n : ℕ) (ns : List ℕ) (x : ℕ) (xs : List ℕ) → Forked j s kind (threadAt s t) r n ns x xs
-      → Moves j good s (accepted (born j s kind (turnAt j s c t) (asked r d a e) n ns x xs))
+      → Moves j good s (accepted (born j s kind (turnAt j s c t) (asked r d a e) (handed n ns x xs)))
   fork-moves kind c t o u r d a e met n ns x xs f =
       let range = effect-slots j good s ok c t u (Forks r d a e) met .0 in
-      step-of t (born j s kind (turnAt j s c t) (asked r d a e) n ns x xs) o (born-outcome j s kind (turnAt j s c t) (asked r d a e) n ns x xs)
+      step-of t (born j s kind (turnAt j s c t) (asked r d a e) (handed n ns x xs)) o (born-outcome j s kind (turnAt j s c t) (asked r d a e) n ns x xs)
       (forks-goes j good s ok c t u kind r d a e n ns x xs (room kind (threadAt s t) r n ns x xs f (range .routine)) range met)
 
   return-moves : (c t : ℕ) → Stepped j s c t → (v : ℕ) → effectAt j s (threadAt s t) ≡ Returns v → Moves j good s (accepted (returnOf s (turnAt j s c t) v))

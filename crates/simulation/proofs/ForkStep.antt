@@ -39,7 +39,7 @@ use Rattle.rules.specs.declared.ForkKind.{ForkKind}
 use Rattle.rules.specs.declared.ForkKind.the-variants.{Called, Queued, Stolen}
 use Rattle.rules.specs.State.{Job, State, threadAt}
 use Rattle.rules.specs.Turn.{turnAt, effectAt}
-use Rattle.rules.specs.Fork.{asked, born, childGoes, childStatus, parentStatus, isConnected, goesAbove}
+use Rattle.rules.specs.Fork.{asked, born, childGoes, childStatus, parentStatus, isConnected, goesAbove, handed}
 use Rattle.rules.specs.Lists.{Every}
 use Rattle.rules.specs.Sound.{GoodJob, Sound, Used, sizeAt, statusAt, Unused}
 use Rattle.simulation.proofs.JobCode.{codeOf}
@@ -107,7 +107,7 @@ frame-new tops ws x n b m a k fit all h h' =
     go i (no l) (no y) = ap (λ t. cond t (frame ws b m (a + i)) 0) (sym (le-ltb i k (omega arith)))
 
 module _ (j : Job) (good : GoodJob j) (s : State) (ok : Sound j s) (c t : ℕ) (in-use : Used s t) (kind : ForkKind) (r d a e n : ℕ) (ns : List ℕ)
-    (x : ℕ) (xs : List ℕ) (room : Room j s r n x) (range : ForkMet (j .image) (sizeAt j s t) (threadAt s t .forks .window) r d a e) where
+    (x : ℕ) (xs : List ℕ) (room : Room j s r n x) (range : ForkMet (j .image) (sizeAt j s t) (threadAt s t .family .window) r d a e) where
   abbrev h : Thread
   h = threadAt s t
 
@@ -119,10 +119,10 @@ module _ (j : Job) (good : GoodJob j) (s : State) (ok : Sound j s) (c t : ℕ) (
   ws = pushedWords (s .store .tops) (s .store .words) x (slotsOf (j .image) r) (argumentsAt (s .store .words) (h .origin .base + a) (argumentsOf (j .image) r))
 
   abbrev parent : Thread
-  parent = behindFork (parentStatus kind) (turnAt j s c t .next) d (restOf (h .forks .window) e) h
+  parent = behindFork (parentStatus kind) (turnAt j s c t .next) d (restOf (h .family .window) e) h
 
   abbrev kid : Thread
-  kid = newThread (originOf r t d (baseOn (s .store .tops) x)) (childStatus kind) (isConnected kind) (childOf (h .forks .window) e)
+  kid = newThread (originOf r t d (baseOn (s .store .tops) x)) (childStatus kind) (isConnected kind) (childOf (h .family .window) e)
 
   some-slots : 0 < slotsOf (j .image) r
   some-slots = let z = slots-some (j .image) (accepted (j .image) (good .image)) r (range .routine) in omega arith
@@ -132,20 +132,20 @@ module _ (j : Job) (good : GoodJob j) (s : State) (ok : Sound j s) (c t : ℕ) (
       (threadAt s u .origin .base) (sizeAt j s u) (pushed-apart (s .store .tops) x (slotsOf (j .image) r) (room .fits) some-slots (threadAt s u .origin .base) (sizeAt j s u)
       (ok .frames .under u k) (ok .frames .most (threadAt s u .origin .base / 64)))
 
-  parent-cell : cellOf j ws parent ≡ used (behind-fork (codeOf j good) l (l .slots) d (restOf (h .forks .window) e)) (linkOf h)
+  parent-cell : cellOf j ws parent ≡ used (behind-fork (codeOf j good) l (l .slots) d (restOf (h .family .window) e)) (linkOf h)
   parent-cell = cell-used j ws parent (parent-in-use kind)
       ∙ (λ ι. used (record {
         routine = h .origin .routine;
         position = sym (position-here j good s ok c t in-use) ι;
         slots = kept t in-use ι;
-        pending = more-pending (h .forks .pending) d ι;
-        window = restOf (h .forks .window) e;
+        pending = more-pending (h .family .pending) d ι;
+        window = restOf (h .family .window) e;
       }) (linkOf h))
 
   thread-low : t < 32
   thread-low = let b = thread-below j good s ok c t in-use in let m = ok .sized .threads in omega arith
 
-  child-cell : cellOf j ws kid ≡ used (started (codeOf j good) r (l .slots) a (childOf (h .forks .window) e)) (child t d)
+  child-cell : cellOf j ws kid ≡ used (started (codeOf j good) r (l .slots) a (childOf (h .family .window) e)) (child t d)
   child-cell = cell-used j ws kid (child-in-use kind)
       ∙ (λ ι. used (record {
         routine = r;
@@ -153,23 +153,23 @@ module _ (j : Job) (good : GoodJob j) (s : State) (ok : Sound j s) (c t : ℕ) (
         slots = frame-new (s .store .tops) (s .store .words) x (slotsOf (j .image) r) (h .origin .base) (sizeAt j s t) a (argumentsOf (j .image) r) (room .fits)
             (ok .sized .words) (range .arguments) (arguments-most (j .image) (accepted (j .image) (good .image)) r (range .routine)) ι;
         pending = none-pending ι;
-        window = childOf (h .forks .window) e;
+        window = childOf (h .family .window) e;
       }) (cond (lt-leb none t thread-low ι) root (child t d)))
 
   born-cells : cellsOf j ws (set (set (s .threads) t parent) n kid)
-      ≡ update (update (cellsOf j (s .store .words) (s .threads)) t (used (behind-fork (codeOf j good) l (l .slots) d (restOf (h .forks .window) e)) (linkOf h))) n
-      (used (started (codeOf j good) r (l .slots) a (childOf (h .forks .window) e)) (child t d))
+      ≡ update (update (cellsOf j (s .store .words) (s .threads)) t (used (behind-fork (codeOf j good) l (l .slots) d (restOf (h .family .window) e)) (linkOf h))) n
+      (used (started (codeOf j good) r (l .slots) a (childOf (h .family .window) e)) (child t d))
   born-cells =
       cells-set j ws (set (s .threads) t parent) n kid (omega (arith, length-set (s .threads) t parent, ok .sized .threads, room .low))
       ∙ ap (λ f. update f n (cellOf j ws kid)) (cells-set j ws (s .threads) t parent (thread-below j good s ok c t in-use))
       ∙ ap (λ f. update (update f t (cellOf j ws parent)) n (cellOf j ws kid)) (cells-words j (s .store .words) ws (s .threads) kept)
       ∙ ap (λ z. update (update (cellsOf j (s .store .words) (s .threads)) t z) n (cellOf j ws kid)) parent-cell
-      ∙ ap (update (update (cellsOf j (s .store .words) (s .threads)) t (used (behind-fork (codeOf j good) l (l .slots) d (restOf (h .forks .window) e)) (linkOf h))) n)
+      ∙ ap (update (update (cellsOf j (s .store .words) (s .threads)) t (used (behind-fork (codeOf j good) l (l .slots) d (restOf (h .family .window) e)) (linkOf h))) n)
       child-cell
 
   -- the pool after the fork
   born-pool : forked windows window-tests (codeOf j good) (poolOf j s) t l (linkOf h) (cell-here j good s ok c t in-use) r d a
-      (childOf (h .forks .window) e) (restOf (h .forks .window) e) n ≡ poolOf j (born j s kind (turnAt j s c t) (asked r d a e) n ns x xs)
+      (childOf (h .family .window) e) (restOf (h .family .window) e) n ≡ poolOf j (born j s kind (turnAt j s c t) (asked r d a e) (handed n ns x xs))
   unfolding born
   born-pool = (λ ι. record { cell = sym born-cells ι; words = words-from 32 (s .store .memory); units = units-here j good s ok c t in-use ι })
       ∙ sym (child-goes-pool j kind c n _)
@@ -178,15 +178,15 @@ module _ (j : Job) (good : GoodJob j) (s : State) (ok : Sound j s) (c t : ℕ) (
   unused-cell = cell-free j (s .store .words) (threadAt s n) (room .unused)
 
   -- the parts of the cut
-  parts : partsOf (cutAt (h .forks .window) e) ≡ some (childOf (h .forks .window) e, restOf (h .forks .window) e)
-  parts = ap partsOf (cut-made (h .forks .window) e (range .low) (range .high))
+  parts : partsOf (cutAt (h .family .window) e) ≡ some (childOf (h .family .window) e, restOf (h .family .window) e)
+  parts = ap partsOf (cut-made (h .family .window) e (range .low) (range .high))
 
-  pub lforks-goes : effectAt j s h ≡ Lforks r d a e → StepsTo j good s ok c t in-use (born j s kind (turnAt j s c t) (asked r d a e) n ns x xs)
+  pub lforks-goes : effectAt j s h ≡ Lforks r d a e → StepsTo j good s ok c t in-use (born j s kind (turnAt j s c t) (asked r d a e) (handed n ns x xs))
   lforks-goes met = subst (ThreadStep windows window-tests (codeOf j good) t (poolOf j s)) born-pool
       (lforks-step windows window-tests (codeOf j good) (poolOf j s) t l (linkOf h) (cell-here j good s ok c t in-use) r d a e
-      (childOf (h .forks .window) e) (restOf (h .forks .window) e) n (effect-met j good s ok c t in-use (Lforks r d a e) met) parts unused-cell)
+      (childOf (h .family .window) e) (restOf (h .family .window) e) n (effect-met j good s ok c t in-use (Lforks r d a e) met) parts unused-cell)
 
-  pub forks-goes : effectAt j s h ≡ Forks r d a e → StepsTo j good s ok c t in-use (born j s kind (turnAt j s c t) (asked r d a e) n ns x xs)
+  pub forks-goes : effectAt j s h ≡ Forks r d a e → StepsTo j good s ok c t in-use (born j s kind (turnAt j s c t) (asked r d a e) (handed n ns x xs))
   forks-goes met = subst (ThreadStep windows window-tests (codeOf j good) t (poolOf j s)) born-pool
       (forks-step windows window-tests (codeOf j good) (poolOf j s) t l (linkOf h) (cell-here j good s ok c t in-use) r d a e
-      (childOf (h .forks .window) e) (restOf (h .forks .window) e) n (effect-met j good s ok c t in-use (Forks r d a e) met) parts unused-cell)
+      (childOf (h .family .window) e) (restOf (h .family .window) e) n (effect-met j good s ok c t in-use (Forks r d a e) met) parts unused-cell)

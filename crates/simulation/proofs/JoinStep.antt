@@ -30,9 +30,9 @@ use Rattle.simulation.proofs.StatePool.{threadOf, linkOf, cellIn, cellO
 use Rattle.simulation.proofs.OwnSteps.{here, StepsTo, cell-here, units-here, position-here, effect-met, own-cells}
 
 -- a join that does not wait has no children left
-no-child-left : (j : Job) (s : State) (t : ℕ) → effectAt j s (threadAt s t) ≡ Joins → waits j (threadAt s t) ≡ false → threadAt s t .forks .children ≡ 0
+no-child-left : (j : Job) (s : State) (t : ℕ) → effectAt j s (threadAt s t) ≡ Joins → waits j (threadAt s t) ≡ false → threadAt s t .family .children ≡ 0
 no-child-left j s t met w =
-    let l = ltb-false 0 (threadAt s t .forks .children) (rw (eq-eqb (byteOf j (threadAt s t)) 10 (join-tested j s t met)) at w) in
+    let l = ltb-false 0 (threadAt s t .family .children) (rw (eq-eqb (byteOf j (threadAt s t)) 10 (join-tested j s t met)) at w) in
     omega arith
 
 -- a count of 0 leaves no child
@@ -86,7 +86,7 @@ module _ (j : Job) (good : GoodJob j) (s : State) (ok : Sound j s) (c t : ℕ) (
         position = sym (position-here j good s ok c t in-use) ι;
         slots = here j good s ok c t in-use .slots;
         pending = none-pending ι;
-        window = rejoined (h .forks .window);
+        window = rejoined (h .family .window);
       }) (linkOf h))
 
   -- 0A

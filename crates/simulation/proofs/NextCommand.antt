@@ -63,10 +63,10 @@ module _ (j : Job) (good : GoodJob j) (s : State) (placed : Placed j s) (t : ℕ
   pub effect-here : effect windows window-tests (codeOf j good) (threadOf j (s .store .words) h) ≡ effectAt j s h
   unfolding effectAt
   effect-here =
-      ap (effectOf (argumentsOf (j .image)) (viewOf (frame (s .store .words) (h .origin .base) (sizeAt j s t)) (isPending (h .forks .pending)) (h .forks .window)))
+      ap (effectOf (argumentsOf (j .image)) (viewOf (frame (s .store .words) (h .origin .base) (sizeAt j s t)) (isPending (h .family .pending)) (h .family .window)))
       (fetch-is (j .image) (h .origin .routine) (h .position) command-here)
       ∙ effect-alike (j .image) (sizeAt j s t) (frame (s .store .words) (h .origin .base) (sizeAt j s t)) (slotOf (s .store .words) (h .origin .base))
-      (frame-slot (s .store .words) (h .origin .base) (sizeAt j s t)) (isPending (h .forks .pending)) (h .forks .window)
+      (frame-slot (s .store .words) (h .origin .base) (sizeAt j s t)) (isPending (h .family .pending)) (h .family .window)
       (decodedAt (j .image) (startOf (j .image) (h .origin .routine) + h .position)) (stands-here .operands)
-      ∙ ap (λ z. effectOf (argumentsOf (j .image)) (viewOf (slotOf (s .store .words) (h .origin .base)) (isPending (h .forks .pending)) (h .forks .window)) (decodedAt (j .image) z))
+      ∙ ap (λ z. effectOf (argumentsOf (j .image)) (viewOf (slotOf (s .store .words) (h .origin .base)) (isPending (h .family .pending)) (h .family .window)) (decodedAt (j .image) z))
       (sym offset-here)

@@ -24,9 +24,10 @@ use Rattle.thread.proofs.ThreadState.{ThreadState, effect, view, onward, at-tar
 use Rattle.thread.proofs.LawfulThreads.{effect-facts}
 use Rattle.thread.proofs.MarkedWindows.{window-tests}
 use Rattle.thread.proofs.ThreadSteps.{ThreadStep, moved, sets-step, goes-step, continues-step, suspends-step, yields-step, loads-parameter-step, loads-step, stores-step}
+use Rattle.thread.specs.Job.{wordAt}
 use Rattle.rules.specs.State.{Job, State, threadAt}
 use Rattle.rules.specs.Update.{setSlot, setMemory}
-use Rattle.rules.specs.Turn.{turnAt, effectAt, wordAt, done, goesOn}
+use Rattle.rules.specs.Turn.{turnAt, effectAt, done, goesOn}
 use Rattle.rules.specs.Sound.{GoodJob, Sound, Used, sizeAt}
 use Rattle.soundness.proofs.CommandMet.{MetAt, met-at}
 use Rattle.simulation.proofs.JobCode.{weightIn, codeOf}
@@ -97,8 +98,8 @@ module _ (j : Job) (good : GoodJob j) (s : State) (ok : Sound j s) (c t : ℕ) (
         routine = h .origin .routine;
         position = sym position-here ι;
         slots = frame-own (s .store .words) (h .origin .base) (sizeAt j s t) d v l (frame-within j s ok t in-use) ι;
-        pending = isPending (h .forks .pending);
-        window = h .forks .window;
+        pending = isPending (h .family .pending);
+        window = h .family .window;
       }) (linkOf h))
 
   slot-step : (d v : ℕ) → d < sizeAt j s t
@@ -119,14 +120,14 @@ module _ (j : Job) (good : GoodJob j) (s : State) (ok : Sound j s) (c t : ℕ) (
       (sets-step windows window-tests (codeOf j good) (poolOf j s) t here (linkOf h) cell-here d v (effect-met (Sets d v) met))
 
   -- 04
-  pub loads-goes : (d a : ℕ) → effectAt j s h ≡ Loads d a → StepsTo (goesOn (turnAt j s c t) (setSlot h d (wordAt j s a) s))
+  pub loads-goes : (d a : ℕ) → effectAt j s h ≡ Loads d a → StepsTo (goesOn (turnAt j s c t) (setSlot h d (wordAt j (s .store .memory) a) s))
   loads-goes d a met = go (decLt a 32)
     where
       word : (o : Dec (32 ≤ a)) → 32 ≤ a → ite o (getD (s .store .memory) (a - 32) 0) 0 ≡ getD (s .store .memory) (a - 32) 0
       word (yes _) l = refl
       word (no x) l = absurd (x l)
 
-      go : Dec (a < 32) → StepsTo (goesOn (turnAt j s c t) (setSlot h d (wordAt j s a) s))
+      go : Dec (a < 32) → StepsTo (goesOn (turnAt j s c t) (setSlot h d (wordAt j (s .store .memory) a) s))
       go (yes l) = rw (lt-ltb a 32 l) (slot-step d (getD (j .parameters) a 0) (effect-slots (Loads d a) met .0)
           (loads-parameter-step windows window-tests (codeOf j good) (poolOf j s) t here (linkOf h) cell-here d a (effect-met (Loads d a) met) l))
       go (no l) = rw (le-ltb a 32 (omega arith)) (slot-step d (getD (s .store .memory) (a - 32) 0) (effect-slots (Loads d a) met .0)
@@ -142,8 +143,8 @@ module _ (j : Job) (good : GoodJob j) (s : State) (ok : Sound j s) (c t : ℕ) (
         routine = h .origin .routine;
         position = sym position-here ι;
         slots = here .slots;
-        pending = isPending (h .forks .pending);
-        window = h .forks .window;
+        pending = isPending (h .family .pending);
+        window = h .family .window;
       }) (linkOf h))
 
   onward-step : ThreadStep windows window-tests (codeOf j good) t (poolOf j s)
@@ -177,7 +178,7 @@ module _ (j : Job) (good : GoodJob j) (s : State) (ok : Sound j s) (c t : ℕ) (
   }) (stores-step windows window-tests (codeOf j good) (poolOf j s) t here (linkOf h) cell-here a v (effect-met (Stores a v) met))
     where
       place : (32 ≤ a) × (a < 1024)
-      place = store-in-memory (h .forks .window) a (ok .windows .fits t in-use) (effect-tested (Stores a v) met)
+      place = store-in-memory (h .family .window) a (ok .windows .fits t in-use) (effect-tested (Stores a v) met)
 
   -- 07, and 06 where the slot is 0
   pub goes-goes : (p : ℕ) → effectAt j s h ≡ Goes p → StepsTo (done (turnAt j s c t) (movedTo p h) s)

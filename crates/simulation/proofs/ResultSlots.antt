@@ -23,7 +23,7 @@ use Rattle.rules.specs.State.{Job, State, threadAt}
 use Rattle.rules.specs.Update.{setThread, setCore}
 use Rattle.rules.specs.Turn.{turnAt, effectAt, goesOn}
 use Rattle.rules.specs.Leave.{leaves, runs}
-use Rattle.rules.specs.Fork.{asked, born, childGoes, childStatus, parentStatus, isConnected}
+use Rattle.rules.specs.Fork.{asked, born, childGoes, childStatus, parentStatus, isConnected, handed}
 use Rattle.rules.specs.Return.{returnOf, returnToParent, statusAfter}
 use Rattle.rules.specs.Rules.{entryOf}
 use Rattle.rules.specs.Lists.{Every}
@@ -110,15 +110,15 @@ child-goes-results j Stolen c n s r = r
 
 module _ (j : Job) (good : GoodJob j) (s : State) (ok : Sound j s) (results : ResultsInFrame j s) where
   born-results : (kind : ForkKind) (c t : ℕ) → Used s t → (r d a e n : ℕ) (ns : List ℕ) (x : ℕ) (xs : List ℕ) → n < 32 → statusAt s n ≡ 0
-      → d < sizeAt j s t → ResultsInFrame j (born j s kind (turnAt j s c t) (asked r d a e) n ns x xs)
+      → d < sizeAt j s t → ResultsInFrame j (born j s kind (turnAt j s c t) (asked r d a e) (handed n ns x xs))
   unfolding born
   born-results kind c t used r d a e n ns x xs low unused inside = child-goes-results j kind c n _ put
     where
       parent : Thread
-      parent = behindFork (parentStatus kind) (turnAt j s c t .next) d (restOf (threadAt s t .forks .window) e) (threadAt s t)
+      parent = behindFork (parentStatus kind) (turnAt j s c t .next) d (restOf (threadAt s t .family .window) e) (threadAt s t)
 
       kid : Thread
-      kid = newThread (originOf r t d (baseOn (s .store .tops) x)) (childStatus kind) (isConnected kind) (childOf (threadAt s t .forks .window) e)
+      kid = newThread (originOf r t d (baseOn (s .store .tops) x)) (childStatus kind) (isConnected kind) (childOf (threadAt s t .family .window) e)
 
       not-new : ¬ (t ≡ n)
       not-new z = let y = ap (statusAt s) z in omega arith
@@ -158,8 +158,8 @@ module _ (j : Job) (good : GoodJob j) (s : State) (ok : Sound j s) (results : Re
       → threadAt s u .origin .parent ≡ t → ⊥
   no-children c t used v met u k first e =
       let clear = return-tested j s t v met (threadAt s u .origin .result) (ok .placed .result u k) in
-      let held : isPending (threadAt s t .forks .pending) (threadAt s u .origin .result) ≡ true =
-      subst (λ z. isPending (threadAt s z .forks .pending) (threadAt s u .origin .result) ≡ true) e (ok .results .pending u k first) in
+      let held : isPending (threadAt s t .family .pending) (threadAt s u .origin .result) ≡ true =
+      subst (λ z. isPending (threadAt s z .family .pending) (threadAt s u .origin .result) ≡ true) e (ok .results .pending u k first) in
       true≢false (sym held ∙ clear)
 
   freed-results : (c t : ℕ) (used : Used s t) (v : ℕ) → effectAt j s (threadAt s t) ≡ Returns v → ResultsInFrame j (setThread t blankThread s)
@@ -199,7 +199,7 @@ module _ (j : Job) (good : GoodJob j) (s : State) (ok : Sound j s) (results : Re
 
   lforked : (kind : ForkKind) (c t : ℕ) → Used s t → (r d a e : ℕ) → effectAt j s (threadAt s t) ≡ Lforks r d a e
       → (n : ℕ) (ns : List ℕ) (x : ℕ) (xs : List ℕ) → Forked j s kind (threadAt s t) r n ns x xs
-      → ResultsInFrame j (born j s kind (turnAt j s c t) (asked r d a e) n ns x xs)
+      → ResultsInFrame j (born j s kind (turnAt j s c t) (asked r d a e) (handed n ns x xs))
   lforked kind c t used r d a e met n ns x xs f =
       let range = effect-slots j good s ok c t used (Lforks r d a e) met .0 in
       let m = free-number n ns (f .number) in
@@ -207,7 +207,7 @@ module _ (j : Job) (good : GoodJob j) (s : State) (ok : Sound j s) (results : Re
 
   forked : (kind : ForkKind) (c t : ℕ) → Used s t → (r d a e : ℕ) → effectAt j s (threadAt s t) ≡ Forks r d a e
       → (n : ℕ) (ns : List ℕ) (x : ℕ) (xs : List ℕ) → Forked j s kind (threadAt s t) r n ns x xs
-      → ResultsInFrame j (born j s kind (turnAt j s c t) (asked r d a e) n ns x xs)
+      → ResultsInFrame j (born j s kind (turnAt j s c t) (asked r d a e) (handed n ns x xs))
   forked kind c t used r d a e met n ns x xs f =
       let range = effect-slots j good s ok c t used (Forks r d a e) met .0 in
       let m = free-number n ns (f .number) in

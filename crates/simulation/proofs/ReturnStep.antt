@@ -100,8 +100,8 @@ module _ (j : Job) (good : GoodJob j) (s : State) (ok : Sound j s) (results : Re
           routine = q .origin .routine;
           position = q .position;
           slots = frame-own (s .store .words) (q .origin .base) (sizeAt j s p) (h .origin .result) v slot-inside (frame-within j s ok p (above .used-parent)) ι;
-          pending = isPending (q .forks .pending);
-          window = q .forks .window;
+          pending = isPending (q .family .pending);
+          window = q .family .window;
         }) (linkOf q))
 
     -- a thread in use once t is freed is another that was

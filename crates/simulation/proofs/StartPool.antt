@@ -81,7 +81,7 @@ module _ (j : Job) (good : GoodJob j) (count : ℕ) (arguments memory : List ℕ
     position = 0;
     slots = root-frame ι;
     pending = none-pending ι;
-    window = rootThread .forks .window;
+    window = rootThread .family .window;
   }) root
 
   start-cells : cellsOf j ws startThreads ≡ first-pool (root-job (codeOf j good) (rootSlots arguments)) (j .allowance) (words-from 32 memory) .cell

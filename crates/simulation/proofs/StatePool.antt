@@ -28,8 +28,8 @@ threadOf j ws h = record {
   routine = h .origin .routine;
   position = h .position;
   slots = frame ws (h .origin .base) (slotsOf (j .image) (h .origin .routine));
-  pending = isPending (h .forks .pending);
-  window = h .forks .window;
+  pending = isPending (h .family .pending);
+  window = h .family .window;
 }
 
 -- whose child it is, and by which slot
@@ -87,7 +87,7 @@ pub cell-words : (j : Job) (ws ws' : List ℕ) (h : Thread)
 cell-words j ws ws' h f = go (h .status) f
   where
     with-slots : (ℕ → ℕ) → ThreadState Window
-    with-slots z = record { routine = h .origin .routine; position = h .position; slots = z; pending = isPending (h .forks .pending); window = h .forks .window }
+    with-slots z = record { routine = h .origin .routine; position = h .position; slots = z; pending = isPending (h .family .pending); window = h .family .window }
 
     go : (x : Status) → (0 < statusNumber x → frame ws' (h .origin .base) (slotsOf (j .image) (h .origin .routine)) ≡ frame ws (h .origin .base) (slotsOf (j .image) (h .origin .routine)))
         → cellIn x (threadOf j ws' h) (linkOf h) ≡ cellIn x (threadOf j ws h) (linkOf h)
@@ -135,8 +135,8 @@ pub record Alike (h h' : Thread) : Type 0 where
   pub routine : h' .origin .routine ≡ h .origin .routine
   pub position : h' .position ≡ h .position
   pub base : h' .origin .base ≡ h .origin .base
-  pub pending : h' .forks .pending ≡ h .forks .pending
-  pub window : h' .forks .window ≡ h .forks .window
+  pub pending : h' .family .pending ≡ h .family .pending
+  pub window : h' .family .window ≡ h .family .window
   pub parent : h' .origin .parent ≡ h .origin .parent
   pub result : h' .origin .result ≡ h .origin .result
   pub used : InUse h

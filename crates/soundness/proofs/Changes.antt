@@ -22,10 +22,10 @@ abbrev pub parentAt : State → ℕ → ℕ
 parentAt s t = threadAt s t .origin .parent
 
 abbrev pub childrenAt : State → ℕ → ℕ
-childrenAt s t = threadAt s t .forks .children
+childrenAt s t = threadAt s t .family .children
 
 abbrev pub pendingAt : State → ℕ → ℕ
-pendingAt s t = threadAt s t .forks .pending
+pendingAt s t = threadAt s t .family .pending
 
 abbrev pub resultAt : State → ℕ → ℕ
 resultAt s t = threadAt s t .origin .result

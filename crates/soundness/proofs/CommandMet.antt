@@ -17,10 +17,10 @@ abbrev pub MetAt : Job → State → ℕ → Effect → Type 0
 MetAt j s t e =
     Facts (j .image) (slotsOf (j .image) (threadAt s t .origin .routine)) (isStart (commandsOf (codeOf (j .image) (threadAt s t .origin .routine))))
     (threadAt s t .position + widthOf (byteOf j (threadAt s t))) (slotOf (s .store .words) (threadAt s t .origin .base))
-    (isPending (threadAt s t .forks .pending)) (threadAt s t .forks .window) e
+    (isPending (threadAt s t .family .pending)) (threadAt s t .family .window) e
 
 pub met-at : (j : Job) (s : State) → GoodJob j → Placed j s → (t : ℕ) → Used s t → (e : Effect) → effectAt j s (threadAt s t) ≡ e → MetAt j s t e
 unfolding effectAt
 met-at j s g p t u e f =
     (rw f at (met-here j g (threadAt s t .origin .routine) (threadAt s t .position) (p .routine t u) (p .position t u)
-    (slotOf (s .store .words) (threadAt s t .origin .base)) (isPending (threadAt s t .forks .pending)) (threadAt s t .forks .window))) .facts
+    (slotOf (s .store .words) (threadAt s t .origin .base)) (isPending (threadAt s t .family .pending)) (threadAt s t .family .window))) .facts

@@ -8,12 +8,13 @@ use Rattle.schedule.specs.declared.Entry.{Entry}
 use Rattle.thread.specs.declared.Effect.the-variants.{Faults, Sets, Loads, Stores, Goes, Continues, Lforks, Forks, Joins, Suspends, Yields, Returns}
 use Rattle.thread.specs.declared.Status.the-variants.{Ready, Suspended, Waiting}
 use Rattle.thread.specs.Thread.{movedTo, joinedAt, withStatus, _is_}
+use Rattle.thread.specs.Job.{wordAt}
 use Rattle.rules.specs.declared.ForkKind.the-variants.{Called, Queued, Stolen}
 use Rattle.rules.specs.State.{Job, State, going, faulted, threadAt}
 use Rattle.rules.specs.Update.{setThread, setReady, setSlot, setMemory, setOutcome, enqueueReady}
-use Rattle.rules.specs.Turn.{turnAt, offsetOf, effectAt, wordAt, done, goesOn}
+use Rattle.rules.specs.Turn.{turnAt, offsetOf, effectAt, done, goesOn}
 use Rattle.rules.specs.Leave.{runs, leaves}
-use Rattle.rules.specs.Fork.{asked, born}
+use Rattle.rules.specs.Fork.{asked, born, handed}
 use Rattle.rules.specs.Return.{returnOf}
 use Rattle.rules.specs.Rules.{entryOf}
 pub use Rattle.soundness.proofs.EntryCases.{Waits, Stepped, Seeded, Chosen, above, onFree, Forked, Taken, Enabled, Seed, seed-true, not-over, or-true}
@@ -30,7 +31,7 @@ pub record Kept (P : State → Type 0) (j : Job) (s : State) : Type 0 where
   pub sets : (c t : ℕ) → Stepped j s c t → (d v : ℕ) → effectAt j s (threadAt s t) ≡ Sets d v
       → P (goesOn (turnAt j s c t) (setSlot (threadAt s t) d v s))
   pub loads : (c t : ℕ) → Stepped j s c t → (d a : ℕ) → effectAt j s (threadAt s t) ≡ Loads d a
-      → P (goesOn (turnAt j s c t) (setSlot (threadAt s t) d (wordAt j s a) s))
+      → P (goesOn (turnAt j s c t) (setSlot (threadAt s t) d (wordAt j (s .store .memory) a) s))
   pub stores : (c t : ℕ) → Stepped j s c t → (a v : ℕ) → effectAt j s (threadAt s t) ≡ Stores a v
       → P (goesOn (turnAt j s c t) (setMemory a v s))
   pub goes : (c t : ℕ) → Stepped j s c t → (p : ℕ) → effectAt j s (threadAt s t) ≡ Goes p
@@ -39,10 +40,10 @@ pub record Kept (P : State → Type 0) (j : Job) (s : State) : Type 0 where
       → P (goesOn (turnAt j s c t) s)
   pub lforks : (c t : ℕ) → Stepped j s c t → (r d a e : ℕ) → effectAt j s (threadAt s t) ≡ Lforks r d a e
       → (n : ℕ) (ns : List ℕ) (x : ℕ) (xs : List ℕ) → Forked j s Called (threadAt s t) r n ns x xs
-      → P (born j s Called (turnAt j s c t) (asked r d a e) n ns x xs)
+      → P (born j s Called (turnAt j s c t) (asked r d a e) (handed n ns x xs))
   pub forks : (c t : ℕ) → Stepped j s c t → (r d a e : ℕ) → effectAt j s (threadAt s t) ≡ Forks r d a e
       → (n : ℕ) (ns : List ℕ) (x : ℕ) (xs : List ℕ) → Forked j s Queued (threadAt s t) r n ns x xs
-      → P (born j s Queued (turnAt j s c t) (asked r d a e) n ns x xs)
+      → P (born j s Queued (turnAt j s c t) (asked r d a e) (handed n ns x xs))
   pub joins : (c t : ℕ) → Stepped j s c t → effectAt j s (threadAt s t) ≡ Joins
       → P (done (turnAt j s c t) (joinedAt (turnAt j s c t .next) (threadAt s t)) s)
   pub suspends : (c t : ℕ) → Stepped j s c t → effectAt j s (threadAt s t) ≡ Suspends
@@ -56,7 +57,7 @@ pub record Kept (P : State → Type 0) (j : Job) (s : State) : Type 0 where
   pub steals : (c t : ℕ) → Seeded j s c t → (r d a e : ℕ)
       → (effectAt j s (threadAt s t) ≡ Lforks r d a e) ⊎ (effectAt j s (threadAt s t) ≡ Forks r d a e)
       → (n : ℕ) (ns : List ℕ) (x : ℕ) (xs : List ℕ) → Forked j s Stolen (threadAt s t) r n ns x xs
-      → P (born j s Stolen (turnAt j s c t) (asked r d a e) n ns x xs)
+      → P (born j s Stolen (turnAt j s c t) (asked r d a e) (handed n ns x xs))
   pub enables : (t : ℕ) → Enabled s t → P (enqueueReady t (setThread t (withStatus Ready (threadAt s t)) s))
 
 module _ (P : State → Type 0) (j : Job) (s : State) (kept : Kept P j s) where

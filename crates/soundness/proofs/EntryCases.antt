@@ -16,13 +16,14 @@ use Rattle.thread.specs.declared.Effect.the-variants.{Faults, Sets, Loads, Stor
 use Rattle.thread.specs.declared.Status.the-variants.{Ready, Suspended, Waiting, Lent}
 use Rattle.thread.specs.declared.Thread.{Thread}
 use Rattle.thread.specs.Thread.{movedTo, joinedAt, withStatus, none, _is_}
+use Rattle.thread.specs.Job.{wordAt}
 use Rattle.rules.specs.declared.ForkKind.{ForkKind}
 use Rattle.rules.specs.declared.ForkKind.the-variants.{Called, Queued, Stolen}
 use Rattle.rules.specs.State.{Job, State, After, Outcome, going, finished, faulted, isOver, threadAt, onCore, isBusy}
 use Rattle.rules.specs.Update.{setThread, setReady, setSlot, setMemory, enqueueReady, accepted, refused}
-use Rattle.rules.specs.Turn.{Turn, turnAt, byteOf, effectAt, tooDear, waits, wordAt, done, goesOn, faults}
+use Rattle.rules.specs.Turn.{Turn, turnAt, byteOf, effectAt, tooDear, waits, done, goesOn, faults}
 use Rattle.rules.specs.Leave.{runs, leaves}
-use Rattle.rules.specs.Fork.{Asked, asked, goesAbove, placeOf, born, forkOn, forkWith, forkOf}
+use Rattle.rules.specs.Fork.{Asked, asked, goesAbove, placeOf, born, forkOn, forkWith, forkOf, handed}
 use Rattle.rules.specs.Return.{returnOf}
 use Rattle.rules.specs.Rules.{carriedOf, turnOf, stepOf, takeInto, takeOf, isSeed, stolenOf, stealOf, enableOf, entryOf}
 use Rattle.rules.specs.Sound.{statusAt}
@@ -35,7 +36,7 @@ pub record Waits (j : Job) (s : State) (c t : ℕ) : Type 0 where
   pub seat : onCore s c ≡ t
   pub low : t < 32
   pub byte : byteOf j (threadAt s t) ≡ 10
-  pub children : 0 < threadAt s t .forks .children
+  pub children : 0 < threadAt s t .family .children
 
 -- the stacklet x of a new frame, and the free stacklets xs that are left
 pub data Chosen (j : Job) (s : State) (kind : ForkKind) (h : Thread) (r x : ℕ) (xs : List ℕ) : Type 0 where
@@ -69,7 +70,7 @@ pub record Cases (P : After → Type 0) (j : Job) (s : State) : Type 0 where
   pub sets : (c t : ℕ) → Stepped j s c t → (d v : ℕ) → effectAt j s (threadAt s t) ≡ Sets d v
       → P (accepted (goesOn (turnAt j s c t) (setSlot (threadAt s t) d v s)))
   pub loads : (c t : ℕ) → Stepped j s c t → (d a : ℕ) → effectAt j s (threadAt s t) ≡ Loads d a
-      → P (accepted (goesOn (turnAt j s c t) (setSlot (threadAt s t) d (wordAt j s a) s)))
+      → P (accepted (goesOn (turnAt j s c t) (setSlot (threadAt s t) d (wordAt j (s .store .memory) a) s)))
   pub stores : (c t : ℕ) → Stepped j s c t → (a v : ℕ) → effectAt j s (threadAt s t) ≡ Stores a v
       → P (accepted (goesOn (turnAt j s c t) (setMemory a v s)))
   pub goes : (c t : ℕ) → Stepped j s c t → (p : ℕ) → effectAt j s (threadAt s t) ≡ Goes p
@@ -78,10 +79,10 @@ pub record Cases (P : After → Type 0) (j : Job) (s : State) : Type 0 where
       → P (accepted (goesOn (turnAt j s c t) s))
   pub lforks : (c t : ℕ) → Stepped j s c t → (r d a e : ℕ) → effectAt j s (threadAt s t) ≡ Lforks r d a e
       → (n : ℕ) (ns : List ℕ) (x : ℕ) (xs : List ℕ) → Forked j s Called (threadAt s t) r n ns x xs
-      → P (accepted (born j s Called (turnAt j s c t) (asked r d a e) n ns x xs))
+      → P (accepted (born j s Called (turnAt j s c t) (asked r d a e) (handed n ns x xs)))
   pub forks : (c t : ℕ) → Stepped j s c t → (r d a e : ℕ) → effectAt j s (threadAt s t) ≡ Forks r d a e
       → (n : ℕ) (ns : List ℕ) (x : ℕ) (xs : List ℕ) → Forked j s Queued (threadAt s t) r n ns x xs
-      → P (accepted (born j s Queued (turnAt j s c t) (asked r d a e) n ns x xs))
+      → P (accepted (born j s Queued (turnAt j s c t) (asked r d a e) (handed n ns x xs)))
   pub joins : (c t : ℕ) → Stepped j s c t → effectAt j s (threadAt s t) ≡ Joins
       → P (accepted (done (turnAt j s c t) (joinedAt (turnAt j s c t .next) (threadAt s t)) s))
   pub suspends : (c t : ℕ) → Stepped j s c t → effectAt j s (threadAt s t) ≡ Suspends
@@ -95,7 +96,7 @@ pub record Cases (P : After → Type 0) (j : Job) (s : State) : Type 0 where
   pub steals : (c t : ℕ) → Seeded j s c t → (r d a e : ℕ)
       → (effectAt j s (threadAt s t) ≡ Lforks r d a e) ⊎ (effectAt j s (threadAt s t) ≡ Forks r d a e)
       → (n : ℕ) (ns : List ℕ) (x : ℕ) (xs : List ℕ) → Forked j s Stolen (threadAt s t) r n ns x xs
-      → P (accepted (born j s Stolen (turnAt j s c t) (asked r d a e) n ns x xs))
+      → P (accepted (born j s Stolen (turnAt j s c t) (asked r d a e) (handed n ns x xs)))
   pub enables : (t : ℕ) → Enabled s t → P (accepted (enqueueReady t (setThread t (withStatus Ready (threadAt s t)) s)))
 
 -- a machine that is not over is going
@@ -119,13 +120,13 @@ seed-true j s t h =
 module _ (P : After → Type 0) (j : Job) (s : State) (cases : Cases P j s) where
   -- a fork of any kind: 20, 21 or a child
   fork-by : (kind : ForkKind) (o : Turn) (f : Asked)
-      → ((n : ℕ) (ns : List ℕ) (x : ℕ) (xs : List ℕ) → Forked j s kind (o .thread) (f .routine) n ns x xs → P (accepted (born j s kind o f n ns x xs)))
+      → ((n : ℕ) (ns : List ℕ) (x : ℕ) (xs : List ℕ) → Forked j s kind (o .thread) (f .routine) n ns x xs → P (accepted (born j s kind o f (handed n ns x xs))))
       → P (forkOf j s kind o f)
   unfolding forkOf forkWith forkOn placeOf
   fork-by kind o f make = with-number (s .queues .freeThreads) refl
     where
       on-place : (n : ℕ) (ns : List ℕ) → s .queues .freeThreads ≡ n ∷ ns → (b : Bool) → goesAbove j s kind (o .thread) (f .routine) ≡ b
-          → (ys : List ℕ) → s .queues .freeStacklets ≡ ys → P (forkOn j s kind o f n ns (placeOf b (o .thread .origin .base / 64) ys))
+          → (ys : List ℕ) → s .queues .freeStacklets ≡ ys → P (forkOn s (λ x xs. born j s kind o f (handed n ns x xs)) (placeOf b (o .thread .origin .base / 64) ys))
       on-place n ns e true g ys q = make n ns (o .thread .origin .base / 64) ys (record { number = e; place = above g refl (sym q) })
       on-place n ns e false g [] q = cases .refuses 21 (omega arith) (omega arith)
       on-place n ns e false g (y ∷ ys) q = make n ns y ys (record { number = e; place = onFree g q })
@@ -163,7 +164,7 @@ module _ (P : After → Type 0) (j : Job) (s : State) (cases : Cases P j s) wher
       go true _ y _ z _ v _ b _ = cases .refuses 19 (omega arith) (omega arith)
       go false e true _ z _ v _ b _ = cases .refuses 14 (omega arith) (omega arith)
       go false e false f false _ v _ b _ = cases .refuses 15 (omega arith) (omega arith)
-      go false e false f true g true h b _ = let w = both (eqb (byteOf j (threadAt s (onCore s c))) 10) (ltb 0 (threadAt s (onCore s c) .forks .children)) h in
+      go false e false f true g true h b _ = let w = both (eqb (byteOf j (threadAt s (onCore s c))) 10) (ltb 0 (threadAt s (onCore s c) .family .children)) h in
           cases .waiting c (onCore s c) (record {
             ongoing = not-over _ e;
             core = leb-false _ _ f;

@@ -130,8 +130,8 @@ module _ (j : Job) (s : State) (ok : Sound j s) where
       h' = joinedAt (turnAt j s c t .next) (threadAt s t)
 
       Seen : ℕ → Thread → Type 0
-      Seen u g = Stays (threadAt s u) g × (g .forks .window .lo ≡ threadAt s u .forks .window .lo) × (g .forks .window .hi ≡ threadAt s u .forks .window .hi)
-          × ((g .forks .window .mark ≡ threadAt s u .forks .window .mark) ⊎ ((g .forks .window .mark ≡ threadAt s u .forks .window .lo) × Childless s u))
+      Seen u g = Stays (threadAt s u) g × (g .family .window .lo ≡ threadAt s u .family .window .lo) × (g .family .window .hi ≡ threadAt s u .family .window .hi)
+          × ((g .family .window .mark ≡ threadAt s u .family .window .mark) ⊎ ((g .family .window .mark ≡ threadAt s u .family .window .lo) × Childless s u))
 
       view : (u : ℕ) → Dec (u ≡ t) → Seen u (getD (set (s .threads) t h') u blankThread)
       view u (yes q) = rw (q, getD-set-same (s .threads) t h' blankThread (used-below s t (runner j s ok c t k)))
@@ -148,8 +148,8 @@ module _ (j : Job) (s : State) (ok : Sound j s) where
   -- a fork of any kind: s' is the state with the child
   fork-change : (kind : ForkKind) (c t r d a e n : ℕ) (ns : List ℕ) (x : ℕ) (xs : List ℕ) (s' : State) → s .outcome ≡ going → Used s t
       → MetAt j s t (Lforks r d a e) → Forked j s kind (threadAt s t) r n ns x xs
-      → s' .threads ≡ set (set (s .threads) t (behindFork (parentStatus kind) (turnAt j s c t .next) d (restOf (threadAt s t .forks .window) e) (threadAt s t)))
-      n (newThread (originOf r t d (baseOn (s .store .tops) x)) (childStatus kind) (isConnected kind) (childOf (threadAt s t .forks .window) e))
+      → s' .threads ≡ set (set (s .threads) t (behindFork (parentStatus kind) (turnAt j s c t .next) d (restOf (threadAt s t .family .window) e) (threadAt s t)))
+      n (newThread (originOf r t d (baseOn (s .store .tops) x)) (childStatus kind) (isConnected kind) (childOf (threadAt s t .family .window) e))
       → s' .store .tops ≡ pushedTops (s .store .tops) x (slotsOf (j .image) r) → s' .queues .freeStacklets ≡ xs → Change j s s'
   fork-change kind c t r d a e n ns x xs s' ongoing h m f threads tops free = birth t n r d x e (record {
     parent-used = h;
@@ -172,10 +172,10 @@ module _ (j : Job) (s : State) (ok : Sound j s) where
   })
     where
       p : Thread
-      p = behindFork (parentStatus kind) (turnAt j s c t .next) d (restOf (threadAt s t .forks .window) e) (threadAt s t)
+      p = behindFork (parentStatus kind) (turnAt j s c t .next) d (restOf (threadAt s t .family .window) e) (threadAt s t)
 
       q : Thread
-      q = newThread (originOf r t d (baseOn (s .store .tops) x)) (childStatus kind) (isConnected kind) (childOf (threadAt s t .forks .window) e)
+      q = newThread (originOf r t d (baseOn (s .store .tops) x)) (childStatus kind) (isConnected kind) (childOf (threadAt s t .family .window) e)
 
       head : (n < 32) × (statusAt s n ≡ 0)
       head = let all : Every (λ y. (y < 32) × (statusAt s y ≡ 0)) (n ∷ ns) = rw (f .number) at (ok .freeThreads .free) in all .0

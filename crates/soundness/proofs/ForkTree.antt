@@ -116,7 +116,7 @@ pub record Stays (h h' : Thread) : Type 0 where
   pub result : h' .origin .result ≡ h .origin .result
   pub to : 0 < standing h → 0 < standing h'
   pub from : 0 < standing h' → 0 < standing h
-  pub waits : standing h' ≡ 4 → 0 < h' .forks .children
+  pub waits : standing h' ≡ 4 → 0 < h' .family .children
 
 pub stays-refl : (s : State) → Tree s → (u : ℕ) → Stays (threadAt s u) (threadAt s u)
 stays-refl s ok u = record { parent = refl; result = refl; to = λ h. h; from = λ h. h; waits = ok .waits u }

@@ -32,7 +32,7 @@ pub record Stays (h h' : Thread) : Type 0 where
 -- and with the same window
 pub record Like (h h' : Thread) : Type 0 where
   pub stays : Stays h h'
-  pub window : h' .forks .window ≡ h .forks .window
+  pub window : h' .family .window ≡ h .family .window
 
 pub stays-refl : (h : Thread) → Stays h h
 stays-refl h = record { routine = refl; parent = refl; result = refl; base = refl; was = λ u. u; still = λ u. u }
@@ -55,7 +55,7 @@ like-trans p q = record {
 
 -- only status, connection, position, children and pending slots differ, and both are in use
 pub like-used : {h h' : Thread} → 0 < statusNumber (h .status) → 0 < statusNumber (h' .status) → h' .origin .routine ≡ h .origin .routine → h' .origin .parent ≡ h .origin .parent → h' .origin .result ≡ h .origin .result
-    → h' .origin .base ≡ h .origin .base → h' .forks .window ≡ h .forks .window → Like h h'
+    → h' .origin .base ≡ h .origin .base → h' .family .window ≡ h .family .window → Like h h'
 like-used u v r p d b w = record { stays = record { routine = r; parent = p; result = d; base = b; was = λ x. u; still = λ x. v }; window = w }
 
 -- a table in which one record was replaced
@@ -70,9 +70,9 @@ like-replaced ts t h l u = go (ℕ-discrete u t) (decLt t (length ts))
 -- NO FRAME comes or goes, and no window changes but by a join, which puts the mark back to lo
 pub record Steady (s s' : State) : Type 0 where
   pub stays : (u : ℕ) → Stays (threadAt s u) (threadAt s' u)
-  pub lo : (u : ℕ) → threadAt s' u .forks .window .lo ≡ threadAt s u .forks .window .lo
-  pub hi : (u : ℕ) → threadAt s' u .forks .window .hi ≡ threadAt s u .forks .window .hi
-  pub mark : (u : ℕ) → (threadAt s' u .forks .window .mark ≡ threadAt s u .forks .window .mark) ⊎ ((threadAt s' u .forks .window .mark ≡ threadAt s u .forks .window .lo) × Childless s u)
+  pub lo : (u : ℕ) → threadAt s' u .family .window .lo ≡ threadAt s u .family .window .lo
+  pub hi : (u : ℕ) → threadAt s' u .family .window .hi ≡ threadAt s u .family .window .hi
+  pub mark : (u : ℕ) → (threadAt s' u .family .window .mark ≡ threadAt s u .family .window .mark) ⊎ ((threadAt s' u .family .window .mark ≡ threadAt s u .family .window .lo) × Childless s u)
   pub tops : s' .store .tops ≡ s .store .tops
   pub free : s' .queues .freeStacklets ≡ s .queues .freeStacklets
 
@@ -88,17 +88,17 @@ pub record Birth (j : Job) (s s' : State) (t n r d x cut : ℕ) : Type 0 where
   pub unused : statusAt s n ≡ 0
   pub not-root : n ≡ 0 → ⊥
   pub routine : r < countOf (j .image)
-  pub low : threadAt s t .forks .window .mark ≤ cut
-  pub high : cut ≤ threadAt s t .forks .window .hi
+  pub low : threadAt s t .family .window .mark ≤ cut
+  pub high : cut ≤ threadAt s t .family .window .hi
   pub fit : fitsOn (s .store .tops) x (slotsOf (j .image) r) ≡ true
   pub place : NewPlace j s s' t x
   pub tops : s' .store .tops ≡ pushedTops (s .store .tops) x (slotsOf (j .image) r)
   pub status : Status
   pub connected : Bool
   pub used : 0 < statusNumber status
-  pub child : threadAt s' n ≡ newThread (originOf r t d (baseOn (s .store .tops) x)) status connected (childOf (threadAt s t .forks .window) cut)
+  pub child : threadAt s' n ≡ newThread (originOf r t d (baseOn (s .store .tops) x)) status connected (childOf (threadAt s t .family .window) cut)
   pub parent : Stays (threadAt s t) (threadAt s' t)
-  pub rest : threadAt s' t .forks .window ≡ restOf (threadAt s t .forks .window) cut
+  pub rest : threadAt s' t .family .window ≡ restOf (threadAt s t .family .window) cut
   pub others : (u : ℕ) → (u ≡ t → ⊥) → (u ≡ n → ⊥) → threadAt s' u ≡ threadAt s u
 
 -- A RETURN of thread t, which has no children
@@ -122,7 +122,7 @@ pub data Family (s s' : State) (n : ℕ) (child : Thread) (u : ℕ) : Type 0 whe
 
 module _ {j : Job} {s s' : State} {t n r d x cut : ℕ} (b : Birth j s s' t n r d x cut) where
   abbrev pub childOfBirth : Thread
-  childOfBirth = newThread (originOf r t d (baseOn (s .store .tops) x)) (b .status) (b .connected) (childOf (threadAt s t .forks .window) cut)
+  childOfBirth = newThread (originOf r t d (baseOn (s .store .tops) x)) (b .status) (b .connected) (childOf (threadAt s t .family .window) cut)
 
   pub family : (u : ℕ) → Family s s' n childOfBirth u
   family u = go (ℕ-discrete u n) (ℕ-discrete u t)

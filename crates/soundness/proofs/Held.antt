@@ -42,7 +42,7 @@ sound-held j s ok = record {
 -- a thread that lives on: the same parent, result slot and children, in use as before, and its pending slots stay where they matter
 pub record Lives (s : State) (u : ℕ) (h h' : Thread) : Type 0 where
   pub stays : Stays h h'
-  pub children : h' .forks .children ≡ h .forks .children
+  pub children : h' .family .children ≡ h .family .children
   pub pends : Childless s u ⊎ Pends h h'
 
 pub lives-refl : (s : State) → Held s → (u : ℕ) → Lives s u (threadAt s u) (threadAt s u)

@@ -41,7 +41,7 @@ use Rattle.soundness.proofs.Pending.{pending-bound}
 pub record WellPlaced (j : Job) (h : Thread) : Type 0 where
   pub routine : h .origin .routine < countOf (j .image)
   pub position : isStart (commandsOf (codeOf (j .image) (h .origin .routine))) (h .position) ≡ true
-  pub pending : h .forks .pending < 65536
+  pub pending : h .family .pending < 65536
   pub result : h .origin .result < 16
   pub join : statusNumber (h .status) ≡ 4 → byteOf j h ≡ 10
 
@@ -152,17 +152,17 @@ module _ (j : Job) (s : State) (ok : Sound j s) where
   -- a fork of any kind
   fork-placed : (kind : ForkKind) (t r d a e n x next : ℕ) (s' : State) → Used s t → MetAt j s t (Lforks r d a e)
       → isStart (commandsOf (codeOf (j .image) (threadAt s t .origin .routine))) next ≡ true
-      → s' .threads ≡ set (set (s .threads) t (behindFork (parentStatus kind) next d (restOf (threadAt s t .forks .window) e) (threadAt s t)))
-      n (newThread (originOf r t d (baseOn (s .store .tops) x)) (childStatus kind) (isConnected kind) (childOf (threadAt s t .forks .window) e))
+      → s' .threads ≡ set (set (s .threads) t (behindFork (parentStatus kind) next d (restOf (threadAt s t .family .window) e) (threadAt s t)))
+      n (newThread (originOf r t d (baseOn (s .store .tops) x)) (childStatus kind) (isConnected kind) (childOf (threadAt s t .family .window) e))
       → Placed j s'
   fork-placed kind t r d a e n x next s' h m st threads = good-placed j s' (λ u. rw threads
       (good-replaced j (set (s .threads) t p) (good-replaced j (s .threads) all t p (λ _. parent)) n q (λ _. child) u))
     where
       p : Thread
-      p = behindFork (parentStatus kind) next d (restOf (threadAt s t .forks .window) e) (threadAt s t)
+      p = behindFork (parentStatus kind) next d (restOf (threadAt s t .family .window) e) (threadAt s t)
 
       q : Thread
-      q = newThread (originOf r t d (baseOn (s .store .tops) x)) (childStatus kind) (isConnected kind) (childOf (threadAt s t .forks .window) e)
+      q = newThread (originOf r t d (baseOn (s .store .tops) x)) (childStatus kind) (isConnected kind) (childOf (threadAt s t .family .window) e)
 
       good : Accepts (j .image)
       good = accepted (j .image) (ok .job .image)
@@ -184,7 +184,7 @@ module _ (j : Job) (s : State) (ok : Sound j s) where
       parent = let g = all t h in record {
         routine = g .routine;
         position = st;
-        pending = pending-bound (threadAt s t .forks .pending) d (g .pending) d16;
+        pending = pending-bound (threadAt s t .family .pending) d (g .pending) d16;
         result = g .result;
         join = λ z. absurd (parent-runs kind z);
       }

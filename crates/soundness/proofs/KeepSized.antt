@@ -21,7 +21,7 @@ use Rattle.rules.specs.State.{Job, State, finished, threadAt}
 use Rattle.rules.specs.Update.{setThread, setCore, setOutcome, enqueueReady}
 use Rattle.rules.specs.Turn.{Turn, turnAt, goesOn}
 use Rattle.rules.specs.Leave.{runs, leaves}
-use Rattle.rules.specs.Fork.{Asked, asked, born}
+use Rattle.rules.specs.Fork.{Asked, asked, born, handed}
 use Rattle.rules.specs.Return.{freed, returnToParent, returnOf}
 use Rattle.rules.specs.Rules.{entryOf}
 use Rattle.rules.specs.Sound.{Sound, Sized}
@@ -73,7 +73,7 @@ leaves-sizes c t status s = go (threadAt s t .connected)
 
 -- a fork of any kind
 born-sizes : (j : Job) (s : State) (kind : ForkKind) (o : Turn) (f : Asked) (n : ℕ) (ns : List ℕ) (x : ℕ) (xs : List ℕ)
-    → SameSizes s (born j s kind o f n ns x xs) × (born j s kind o f n ns x xs .units ≡ s .units + o .weight)
+    → SameSizes s (born j s kind o f (handed n ns x xs)) × (born j s kind o f (handed n ns x xs) .units ≡ s .units + o .weight)
 unfolding born
 born-sizes j s kind o f n ns x xs = go kind
   where
@@ -86,7 +86,7 @@ born-sizes j s kind o f n ns x xs = go kind
     words : length (pushedWords (s .store .tops) (s .store .words) x size (argumentsAt (s .store .words) (o .thread .origin .base + f .first) (argumentsOf (j .image) (f .routine)))) ≡ length (s .store .words)
     words = length-pushed (s .store .tops) (s .store .words) x size (argumentsAt (s .store .words) (o .thread .origin .base + f .first) (argumentsOf (j .image) (f .routine)))
 
-    go : (kind : ForkKind) → SameSizes s (born j s kind o f n ns x xs) × (born j s kind o f n ns x xs .units ≡ s .units + o .weight)
+    go : (kind : ForkKind) → SameSizes s (born j s kind o f (handed n ns x xs)) × (born j s kind o f (handed n ns x xs) .units ≡ s .units + o .weight)
     go Called = (record { threads = simp length-set; cores = simp length-set; tops = tops; words = words; memory = refl; count = refl }, refl)
     go Queued = (record { threads = simp length-set; cores = refl; tops = tops; words = words; memory = refl; count = refl }, refl)
     go Stolen = (record { threads = simp length-set; cores = simp length-set; tops = tops; words = words; memory = refl; count = refl }, refl)

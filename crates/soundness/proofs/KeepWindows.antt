@@ -24,7 +24,7 @@ same-ends w w' l h (inr e) f = record { memory = omega arith; behind = omega ari
 module _ (j : Job) (s : State) (ok : Sound j s) where
   steady-windows : (s' : State) → Steady s s' → Windows s'
   steady-windows s' f = record {
-    fits = λ t u. same-ends (threadAt s t .forks .window) (threadAt s' t .forks .window) (f .lo t) (f .hi t) (⊎-elim (λ z. inl z) (λ z. inr (z .0)) (f .mark t))
+    fits = λ t u. same-ends (threadAt s t .family .window) (threadAt s' t .family .window) (f .lo t) (f .hi t) (⊎-elim (λ z. inl z) (λ z. inr (z .0)) (f .mark t))
         (ok .windows .fits t (f .stays t .was u));
     root = λ u. let w = ok .windows .root (f .stays 0 .was u) in (f .lo 0 ∙ w .0, f .hi 0 ∙ w .1);
     inside = λ u h n. inside u (f .stays u .was h) n (f .mark (threadAt s u .origin .parent));
@@ -36,8 +36,8 @@ module _ (j : Job) (s : State) (ok : Sound j s) where
       p u = threadAt s u .origin .parent
 
       inside : (u : ℕ) → Used s u → (u ≡ 0 → ⊥)
-          → (threadAt s' (p u) .forks .window .mark ≡ threadAt s (p u) .forks .window .mark) ⊎ ((threadAt s' (p u) .forks .window .mark ≡ threadAt s (p u) .forks .window .lo) × Childless s (p u))
-          → (threadAt s' (threadAt s' u .origin .parent) .forks .window .lo ≤ threadAt s' u .forks .window .lo) × (threadAt s' u .forks .window .hi ≤ threadAt s' (threadAt s' u .origin .parent) .forks .window .mark)
+          → (threadAt s' (p u) .family .window .mark ≡ threadAt s (p u) .family .window .mark) ⊎ ((threadAt s' (p u) .family .window .mark ≡ threadAt s (p u) .family .window .lo) × Childless s (p u))
+          → (threadAt s' (threadAt s' u .origin .parent) .family .window .lo ≤ threadAt s' u .family .window .lo) × (threadAt s' u .family .window .hi ≤ threadAt s' (threadAt s' u .origin .parent) .family .window .mark)
       inside u h n (inl e) = let w = ok .windows .inside u h n in
           rw (f .stays u .parent, f .lo u, f .hi u, f .lo (threadAt s u .origin .parent), e) w
       inside u h n (inr e) = absurd (e .1 u h refl)
@@ -46,12 +46,12 @@ module _ (j : Job) (s : State) (ok : Sound j s) where
   module _ (s' : State) (t n r d x cut : ℕ) (b : Birth j s s' t n r d x cut) where
     -- a thread that was there: its window has the same ends, and its mark is where it was or behind
     elder-window : (u : ℕ) → Used s u
-        → (threadAt s' u .forks .window .lo ≡ threadAt s u .forks .window .lo) × (threadAt s' u .forks .window .hi ≡ threadAt s u .forks .window .hi)
-        × (threadAt s u .forks .window .mark ≤ threadAt s' u .forks .window .mark) × Fits (threadAt s' u .forks .window)
+        → (threadAt s' u .family .window .lo ≡ threadAt s u .family .window .lo) × (threadAt s' u .family .window .hi ≡ threadAt s u .family .window .hi)
+        × (threadAt s u .family .window .mark ≤ threadAt s' u .family .window .mark) × Fits (threadAt s' u .family .window)
     elder-window u h = go (ℕ-discrete u t)
       where
-        go : Dec (u ≡ t) → (threadAt s' u .forks .window .lo ≡ threadAt s u .forks .window .lo) × (threadAt s' u .forks .window .hi ≡ threadAt s u .forks .window .hi)
-            × (threadAt s u .forks .window .mark ≤ threadAt s' u .forks .window .mark) × Fits (threadAt s' u .forks .window)
+        go : Dec (u ≡ t) → (threadAt s' u .family .window .lo ≡ threadAt s u .family .window .lo) × (threadAt s' u .family .window .hi ≡ threadAt s u .family .window .hi)
+            × (threadAt s u .family .window .mark ≤ threadAt s' u .family .window .mark) × Fits (threadAt s' u .family .window)
         go (yes e) = let w = ok .windows .fits t (b .parent-used) in rw (e, b .rest) (
           refl,
           refl,
@@ -61,7 +61,7 @@ module _ (j : Job) (s : State) (ok : Sound j s) where
         go (no m) = rw (b .others u m (not-newborn b u h)) (refl, refl, omega arith, ok .windows .fits u h)
 
     -- what was apart, and what the child is given
-    apart-elder : (v : ℕ) → Used s v → threadAt s v .origin .parent ≡ t → threadAt s v .forks .window .hi ≤ threadAt s t .forks .window .mark
+    apart-elder : (v : ℕ) → Used s v → threadAt s v .origin .parent ≡ t → threadAt s v .family .window .hi ≤ threadAt s t .family .window .mark
     apart-elder v h e = rw e at (ok .windows .inside v h (child-not-root j s ok t v (used-low s (ok .sized .threads) t (b .parent-used)) h e) .1)
 
     birth-windows : Windows s'
@@ -72,17 +72,17 @@ module _ (j : Job) (s : State) (ok : Sound j s) where
       apart = λ u v h k m e. apart u v h k m e (family b u) (family b v);
     }
       where
-        fits : (u : ℕ) → Used s' u → Family s s' n (childOfBirth b) u → Fits (threadAt s' u .forks .window)
+        fits : (u : ℕ) → Used s' u → Family s s' n (childOfBirth b) u → Fits (threadAt s' u .family .window)
         fits u h (newborn _ e) = let w = ok .windows .fits t (b .parent-used) in
             rw e (record { memory = (let z = w .memory in let y = w .behind in omega arith); behind = omega arith; before = b .low; within = (let z = w .within in let y = b .high in omega arith) })
         fits u h (elder _ k) = elder-window u (k .was h) .3
 
-        root : Used s' 0 → Family s s' n (childOfBirth b) 0 → (threadAt s' 0 .forks .window .lo ≡ 32) × (threadAt s' 0 .forks .window .hi ≡ 1024)
+        root : Used s' 0 → Family s s' n (childOfBirth b) 0 → (threadAt s' 0 .family .window .lo ≡ 32) × (threadAt s' 0 .family .window .hi ≡ 1024)
         root h (newborn e _) = absurd (b .not-root (sym e))
         root h (elder _ k) = let w = ok .windows .root (k .was h) in let q = elder-window 0 (k .was h) in (q .0 ∙ w .0, q .1 ∙ w .1)
 
         inside : (u : ℕ) → Used s' u → (u ≡ 0 → ⊥) → Family s s' n (childOfBirth b) u
-            → (threadAt s' (threadAt s' u .origin .parent) .forks .window .lo ≤ threadAt s' u .forks .window .lo) × (threadAt s' u .forks .window .hi ≤ threadAt s' (threadAt s' u .origin .parent) .forks .window .mark)
+            → (threadAt s' (threadAt s' u .origin .parent) .family .window .lo ≤ threadAt s' u .family .window .lo) × (threadAt s' u .family .window .hi ≤ threadAt s' (threadAt s' u .origin .parent) .family .window .mark)
         inside u h m (newborn _ e) = let w = ok .windows .fits t (b .parent-used) in rw (e, b .rest) (w .behind, omega arith)
         inside u h m (elder _ k) =
             let w = ok .windows .inside u (k .was h) m in
@@ -94,7 +94,7 @@ module _ (j : Job) (s : State) (ok : Sound j s) where
             within a c e l m = omega arith
 
         apart : (u v : ℕ) → Used s' u → Used s' v → (u ≡ v → ⊥) → threadAt s' u .origin .parent ≡ threadAt s' v .origin .parent → Family s s' n (childOfBirth b) u → Family s s' n (childOfBirth b) v
-            → (threadAt s' u .forks .window .hi ≤ threadAt s' v .forks .window .lo) ⊎ (threadAt s' v .forks .window .hi ≤ threadAt s' u .forks .window .lo)
+            → (threadAt s' u .family .window .hi ≤ threadAt s' v .family .window .lo) ⊎ (threadAt s' v .family .window .hi ≤ threadAt s' u .family .window .lo)
         apart u v h k m q (newborn e _) (newborn e' _) = absurd (m (e ∙ sym e'))
         apart u v h k m q (newborn _ e) (elder _ f) = let w = elder-window v (f .was k) in
             rw (e, w .1) (inr (apart-elder v (f .was k) (sym (f .parent) ∙ sym q ∙ ap (λ g. g .origin .parent) e)))

@@ -17,7 +17,7 @@ use Rattle.rules.specs.declared.ForkKind.{ForkKind}
 use Rattle.rules.specs.declared.ForkKind.the-variants.{Called, Queued, Stolen}
 use Rattle.rules.specs.State.{Job, State, threadAt, onCore}
 use Rattle.rules.specs.Turn.{turnAt}
-use Rattle.rules.specs.Fork.{asked, childStatus, parentStatus, isConnected, born}
+use Rattle.rules.specs.Fork.{asked, childStatus, parentStatus, isConnected, born, handed}
 use Rattle.rules.specs.Sound.{statusAt, Used, Seats, Links}
 use Rattle.soundness.proofs.Changes.{standing, connectedAt, pendingAt, two-changed, used-low, used-below}
 use Rattle.soundness.proofs.CoreSeats.{Same, same-refl, neither, Seat, came, went, sits, seats-move, seats-same}
@@ -117,14 +117,14 @@ module _ (s s' : State) (ok : Held s) (kind : ForkKind) (t n d : ℕ) (b : Birth
     seats = seats;
     links = links;
     turns = lined-turns s' many-now ready line turns;
-    tree = tree-born s s' (ok .tree) t n (b .used) was-free low (b .over) (b .over') old-stays (ap (λ h. h .forks .children) parent-record)
-        (changed (λ u h h'. ¬ (u ≡ t) → ¬ (u ≡ n) → h' .forks .children ≡ h .forks .children) (λ u x y k m. refl) (λ x. absurd (x refl)) (λ x y. absurd (y refl)))
-        (child-used (child-active kind)) (ap (λ h. h .origin .parent) child-record) (ap (λ h. h .forks .children) child-record)
+    tree = tree-born s s' (ok .tree) t n (b .used) was-free low (b .over) (b .over') old-stays (ap (λ h. h .family .children) parent-record)
+        (changed (λ u h h'. ¬ (u ≡ t) → ¬ (u ≡ n) → h' .family .children ≡ h .family .children) (λ u x y k m. refl) (λ x. absurd (x refl)) (λ x y. absurd (y refl)))
+        (child-used (child-active kind)) (ap (λ h. h .origin .parent) child-record) (ap (λ h. h .family .children) child-record)
         (child-awake (child-active kind));
     results = results-born s s' (ok .many) (ok .tree) (ok .results) t n d (b .used) was-free (b .clear) old-stays
         (changed (λ u h h'. ¬ (u ≡ n) → Pends h h') (λ u x y m k e. e) (λ m k e. pending-stays (pendingAt s t) d k e) (λ m. absurd (m refl)))
         (ap (λ h. h .origin .parent) child-record) (ap (λ h. h .origin .result) child-record)
-        (ap (λ h. isPending (h .forks .pending) d) parent-record ∙ pending-set (pendingAt s t) d);
+        (ap (λ h. isPending (h .family .pending) d) parent-record ∙ pending-set (pendingAt s t) d);
     freeThreads = lined-free s' (b .left) (b .free) (lined-took 0 s s' n (b .left) lined
         (λ e. let z = child-used (child-active kind) in omega arith)
         (λ u m. same-free (threadAt s u) (threadAt s' u) (old-stays u m)));
@@ -220,22 +220,22 @@ held-queued s s' ok t n d b running cores ready = held-forked s s' ok Queued t n
 module _ (j : Job) (s : State) (ok : Held s) (c t r d a e n : ℕ) (ns : List ℕ) (x : ℕ) (xs : List ℕ) (over : Unfinished s)
     (head : s .queues .freeThreads ≡ n ∷ ns) (clear : isPending (pendingAt s t) d ≡ false) where
   -- what a fork of any kind does
-  birth : (kind : ForkKind) → Used s t → Birth s (born j s kind (turnAt j s c t) (asked r d a e) n ns x xs) kind t n d
+  birth : (kind : ForkKind) → Used s t → Birth s (born j s kind (turnAt j s c t) (asked r d a e) (handed n ns x xs)) kind t n d
   unfolding born
   birth kind used = go kind
     where
       whole : (k : ForkKind) (s' : State) → s' .queues .freeThreads ≡ ns → s' .count ≡ s .count → s' .outcome ≡ s .outcome
-          → s' .threads ≡ set (set (s .threads) t (behindFork (parentStatus k) (turnAt j s c t .next) d (restOf (threadAt s t .forks .window) e)
+          → s' .threads ≡ set (set (s .threads) t (behindFork (parentStatus k) (turnAt j s c t .next) d (restOf (threadAt s t .family .window) e)
           (threadAt s t))) n
-          (newThread (originOf r t d (baseOn (s .store .tops) x)) (childStatus k) (isConnected k) (childOf (threadAt s t .forks .window) e))
+          (newThread (originOf r t d (baseOn (s .store .tops) x)) (childStatus k) (isConnected k) (childOf (threadAt s t .family .window) e))
           → Birth s s' k t n d
       whole k s' free count outcome threads = record {
         left = ns;
         next = turnAt j s c t .next;
         routine = r;
         base = baseOn (s .store .tops) x;
-        rest = restOf (threadAt s t .forks .window) e;
-        part = childOf (threadAt s t .forks .window) e;
+        rest = restOf (threadAt s t .family .window) e;
+        part = childOf (threadAt s t .family .window) e;
         used = used;
         head = head;
         clear = clear;
@@ -246,19 +246,19 @@ module _ (j : Job) (s : State) (ok : Held s) (c t r d a e n : ℕ) (ns : List �
         threads = threads;
       }
 
-      go : (k : ForkKind) → Birth s (born j s k (turnAt j s c t) (asked r d a e) n ns x xs) k t n d
+      go : (k : ForkKind) → Birth s (born j s k (turnAt j s c t) (asked r d a e) (handed n ns x xs)) k t n d
       go Called = whole Called _ refl refl refl refl
       go Queued = whole Queued _ refl refl refl refl
       go Stolen = whole Stolen _ refl refl refl refl
 
-  pub held-lforks : c < s .count → onCore s c ≡ t → statusAt s t ≡ 1 → Held (born j s Called (turnAt j s c t) (asked r d a e) n ns x xs)
+  pub held-lforks : c < s .count → onCore s c ≡ t → statusAt s t ≡ 1 → Held (born j s Called (turnAt j s c t) (asked r d a e) (handed n ns x xs))
   unfolding born
   held-lforks l seat running = held-called s _ ok c t n d (birth Called (omega arith)) l seat running refl refl
 
-  pub held-steals : c < s .count → none ≤ onCore s c → statusAt s t ≡ 5 → Held (born j s Stolen (turnAt j s c t) (asked r d a e) n ns x xs)
+  pub held-steals : c < s .count → none ≤ onCore s c → statusAt s t ≡ 5 → Held (born j s Stolen (turnAt j s c t) (asked r d a e) (handed n ns x xs))
   unfolding born
   held-steals l idle lent = held-stolen s _ ok c t n d (birth Stolen (omega arith)) l idle lent refl refl
 
-  pub held-forks : statusAt s t ≡ 1 → Held (born j s Queued (turnAt j s c t) (asked r d a e) n ns x xs)
+  pub held-forks : statusAt s t ≡ 1 → Held (born j s Queued (turnAt j s c t) (asked r d a e) (handed n ns x xs))
   unfolding born
   held-forks running = held-queued s _ ok t n d (birth Queued (omega arith)) running refl refl

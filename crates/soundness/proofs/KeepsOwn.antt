@@ -34,7 +34,7 @@ module _ (s s' : State) (ok : Held s) (t : ℕ) (H : Thread) (low : t < 32) (thr
     (count : s' .count ≡ s .count) (ready : s' .queues .ready ≡ s .queues .ready) (free : s' .queues .freeThreads ≡ s .queues .freeThreads) (over : Unfinished s)
     (over' : Unfinished s')
     (status : standing H ≡ statusAt s t) (connected : H .connected ≡ threadAt s t .connected) (parent : H .origin .parent ≡ threadAt s t .origin .parent)
-    (result : H .origin .result ≡ threadAt s t .origin .result) (children : H .forks .children ≡ threadAt s t .forks .children)
+    (result : H .origin .result ≡ threadAt s t .origin .result) (children : H .family .children ≡ threadAt s t .family .children)
     (pends : Childless s t ⊎ Pends (threadAt s t) H) where
   below : t < length (s .threads)
   below = let m = ok .many in omega arith

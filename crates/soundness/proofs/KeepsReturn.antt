@@ -76,8 +76,8 @@ module _ (s s' : State) (ok : Held s) (c t p : ℕ) (status : Status) (l : c < s
     links = links;
     turns = lined-turns s' (rw (threads, length-set, length-set) (ok .many)) ready line turns;
     tree = tree-gone s s' (ok .many) (ok .tree) t p used-t used-p parent childless over over' old-stays
-        (let z = ap (λ h. h .forks .children) parent-record in let y = some in omega arith)
-        (changed (λ u h h'. ¬ (u ≡ t) → ¬ (u ≡ p) → h' .forks .children ≡ h .forks .children) (λ u a b x y. refl) (λ x. absurd (x refl)) (λ x y. absurd (y refl)))
+        (let z = ap (λ h. h .family .children) parent-record in let y = some in omega arith)
+        (changed (λ u h h'. ¬ (u ≡ t) → ¬ (u ≡ p) → h' .family .children ≡ h .family .children) (λ u a b x y. refl) (λ x. absurd (x refl)) (λ x y. absurd (y refl)))
         gone;
     results = results-living s s' (ok .results) (λ u h. old-stays u (λ e. let z = ap (statusAt s') e in let y = gone in omega arith))
         (changed (λ u h h'. Childless s u ⊎ Pends h h') (λ u a b. inr (λ k e. e)) (inl childless) (inr (λ k e. e)));
@@ -233,7 +233,7 @@ held-returns j s ok c t v l seat low over childless = ⊎-elim at-root inside (o
         outside = lt-leb none (parentAt s t) (used-low s (ok .many) (parentAt s t) (z .1))
 
         woken : Thread → Bool
-        woken q = q .status is Waiting && eqb (q .forks .children) 1
+        woken q = q .status is Waiting && eqb (q .family .children) 1
 
         some-child : 0 < childrenAt s (parentAt s t)
         some-child = parent-counts s (ok .many) (ok .tree) t used-t (z .1)

@@ -19,7 +19,7 @@ use Rattle.rules.specs.State.{Job, State, going, isOver, threadAt, onCore, isBu
 use Rattle.rules.specs.Update.{accepted, refused, setThread, enqueueReady}
 use Rattle.rules.specs.Turn.{Turn, turnAt, byteOf, effectAt, tooDear, waits}
 use Rattle.rules.specs.Leave.{leaves}
-use Rattle.rules.specs.Fork.{Asked, asked, goesAbove, placeOf, forkOn, forkWith, forkOf}
+use Rattle.rules.specs.Fork.{Asked, asked, goesAbove, placeOf, forkOn, forkWith, forkOf, born, handed}
 use Rattle.rules.specs.Rules.{carriedOf, turnOf, stepOf, takeInto, takeOf, isSeed, stolenOf, stealOf, enableOf}
 use Rattle.rules.specs.Sound.{statusAt, Sound}
 use Rattle.soundness.proofs.Entries.{Stepped, Seed, Seeded, seed-true, not-over}
@@ -39,7 +39,7 @@ fork-log j s kind o f = with-number (s .queues .freeThreads) refl
   where
     on-place : (n : ℕ) (ns : List ℕ) → s .queues .freeThreads ≡ n ∷ ns → (b : Bool) → goesAbove j s kind (o .thread) (f .routine) ≡ b
         → (ys : List ℕ) → s .queues .freeStacklets ≡ ys → ForkLog j s kind (o .thread) (f .routine)
-        (forkOn j s kind o f n ns (placeOf b (o .thread .origin .base / 64) ys) .log)
+        (forkOn s (λ x xs. born j s kind o f (handed n ns x xs)) (placeOf b (o .thread .origin .base / 64) ys) .log)
     on-place n ns e true g ys q = hasBoth refl
     on-place n ns e false g [] q = fewStacklets refl (λ z. let y : _≡_ {A = ℕ} 0 1 = cc in omega arith) g q
     on-place n ns e false g (y ∷ ys) q = hasBoth refl

@@ -13,7 +13,7 @@ use Rattle.thread.specs.Thread.{none, _is_}
 use Rattle.rules.specs.declared.ForkKind.{ForkKind}
 use Rattle.rules.specs.State.{Job, State, going, isOver, threadAt, onCore}
 use Rattle.rules.specs.Turn.{Turn, turnAt, effectAt}
-use Rattle.rules.specs.Fork.{Asked, asked, goesAbove, placeOf, forkOn, forkWith, forkOf}
+use Rattle.rules.specs.Fork.{Asked, asked, goesAbove, placeOf, forkOn, forkWith, forkOf, born, handed}
 use Rattle.rules.specs.Rules.{carriedOf, turnOf, stepOf}
 use Rattle.rules.specs.Sound.{Sound}
 use Rattle.soundness.specs.Numbers.{FewThreads, FewStacklets}
@@ -39,8 +39,8 @@ few-stacklets j s kind o f some above none = go (s .queues .freeThreads) some
     go : (ns : List ℕ) → ¬ (ns ≡ []) → forkWith j s kind o f ns .log ≡ 21
     go [] k = absurd (k refl)
     go (n ∷ ns) k =
-        ap (λ b. forkOn j s kind o f n ns (placeOf b (o .thread .origin .base / 64) (s .queues .freeStacklets)) .log) above
-        ∙ ap (λ ys. forkOn j s kind o f n ns (placeOf false (o .thread .origin .base / 64) ys) .log) none
+        ap (λ b. forkOn s (λ x xs. born j s kind o f (handed n ns x xs)) (placeOf b (o .thread .origin .base / 64) (s .queues .freeStacklets)) .log) above
+        ∙ ap (λ ys. forkOn s (λ x xs. born j s kind o f (handed n ns x xs)) (placeOf false (o .thread .origin .base / 64) ys) .log) none
 
 -- STEP
 module _ (j : Job) (s : State) (sound : Sound j s) (c : ℕ) where

@@ -28,7 +28,7 @@ clear-childless s many tree ok ranged t h clear u k e =
 
 -- slots pending in a record stay pending in the other
 abbrev pub Pends : Thread → Thread → Type 0
-Pends h h' = (k : ℕ) → isPending (h .forks .pending) k ≡ true → isPending (h' .forks .pending) k ≡ true
+Pends h h' = (k : ℕ) → isPending (h .family .pending) k ≡ true → isPending (h' .family .pending) k ≡ true
 
 -- no child is born; a thread with children keeps its pending slots
 pub results-living : (s s' : State) → Results s → ((u : ℕ) → Used s' u → Stays (threadAt s u) (threadAt s' u))

@@ -105,7 +105,7 @@ module _ (j : Job) (s : State) (t : ℕ) where
   commandOf = decodedAt (j .image) (offsetOf j (threadAt s t))
 
   abbrev pub ownOf : Own
-  ownOf = viewOf (slotOf (s .store .words) (threadAt s t .origin .base)) (isPending (threadAt s t .forks .pending)) (threadAt s t .forks .window)
+  ownOf = viewOf (slotOf (s .store .words) (threadAt s t .origin .base)) (isPending (threadAt s t .family .pending)) (threadAt s t .family .window)
 
   -- a condition of it
   abbrev pub Next : ((ℕ → ℕ) → Own → Command → Type 0) → Type 0

@@ -8,22 +8,7 @@ use Prim.Native.Nat.{ℕ, zero, suc, _+_, _-_, _≤_, _<_}
 use native.Mathlib.Decide.{ℕ-discrete, decLt}
 use native.Mathlib.Nat.{add-zero}
 use native.Mathlib.Omega.{arith}
-use lib.ListN.{
-  getD,
-  set,
-  take,
-  drop,
-  replicate,
-  length,
-  length-set,
-  length-take,
-  length-drop,
-  length-append,
-  length-replicate,
-  getD-replicate,
-  List·getD-eq-default,
-  List·getD-append,
-}
+use lib.ListN.{getD, set, take, drop, replicate, length, length-set, length-take, length-drop, length-append, length-replicate, getD-replicate, List·getD-eq-default, List·getD-append}
 use lib.Seq.{set-comm, getD-set-same, getD-set-other, getD-take, getD-drop, ext-getD, getD-append-add, drop-set-add, take-set-lt}
 use Rattle.stacklets.specs.Tops.{fitsOn, baseOn}
 use Rattle.stacklets.proofs.Places.{base-below}

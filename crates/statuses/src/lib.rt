@@ -58,7 +58,7 @@ pub fn does_wake(connected: bool, q: Thread) -> bool
     if !same_status(status, Status::Waiting) {
         return false;
     }
-    q.forks.children == 1
+    q.family.children == 1
 }
 
 // A parent's status, whose record was q, once a child of its has ended.

@@ -42,29 +42,41 @@ sum x y = (x + y) % 2 ^ 32
 abbrev pub difference : ℕ → ℕ → ℕ
 difference x y = (x + (2 ^ 32 - y)) % 2 ^ 32
 
--- "a fork writes its d"; it reads its cut's slot and its arguments' slots; "11: cut out of range"
-unfoldable pub forking : (ℕ → ℕ) → Own → ℕ → ℕ → ℕ → ℕ → Effect → Effect
-forking arguments own r d a w e =
-    unlessPending 9 (own .pending) (d ∷ w ∷ run a (arguments r))
-    (provided (own .mayCut (own .slot w)) 11 e)
+-- `arguments` gives each routine's number of arguments
+module _ (arguments : ℕ → ℕ) (own : Own) where
+  -- "a fork writes its d"; it reads its cut's slot and its arguments' slots; "11: cut out of range"
+  unfoldable pub forking : ℕ → ℕ → ℕ → ℕ → Effect → Effect
+  forking r d a w e =
+      unlessPending 9 (own .pending) (d ∷ w ∷ run a (arguments r))
+      (provided (own .mayCut (own .slot w)) 11 e)
 
--- the effect of a command; `arguments` gives each routine's number of arguments
-unfoldable pub effectOf : (ℕ → ℕ) → Own → Command → Effect
-effectOf arguments own (Set d v) = unlessPending 9 (own .pending) (d ∷ []) (Sets d v)
-effectOf arguments own (Add d a b) = unlessPending 9 (own .pending) (d ∷ a ∷ b ∷ []) (Sets d (sum (own .slot a) (own .slot b)))
-effectOf arguments own (Subtract d a b) = unlessPending 9 (own .pending) (d ∷ a ∷ b ∷ []) (Sets d (difference (own .slot a) (own .slot b)))
-effectOf arguments own (Load d a) =
-    unlessPending 9 (own .pending) (d ∷ a ∷ []) (provided (own .mayLoad (own .slot a)) 10 (Loads d (own .slot a)))
-effectOf arguments own (Store a b) =
-    unlessPending 9 (own .pending) (a ∷ b ∷ []) (provided (own .mayStore (own .slot a)) 10 (Stores (own .slot a) (own .slot b)))
-effectOf arguments own (JumpIfZero a t) = unlessPending 9 (own .pending) (a ∷ []) (cond (eqb (own .slot a) 0) (Goes t) Continues)
-effectOf arguments own (Jump t) = Goes t
-effectOf arguments own (Lfork r d a w) = forking arguments own r d a w (Lforks r d a (own .slot w))
-effectOf arguments own (Fork r d a w) = forking arguments own r d a w (Forks r d a (own .slot w))
-effectOf arguments own Join = Joins
-effectOf arguments own Suspend = Suspends
-effectOf arguments own Yield = Yields
-effectOf arguments own (Return a) = unlessPending 12 (own .pending) (run 0 16) (Returns (own .slot a))
+  -- the effect of a command
+  unfoldable pub effectOf : Command → Effect
+  effectOf (Set d v) = unlessPending 9 (own .pending) (d ∷ []) (Sets d v)
+  effectOf (Add d a b) = unlessPending 9 (own .pending) (d ∷ a ∷ b ∷ []) (Sets d (sum (own .slot a) (own .slot b)))
+  effectOf (Subtract d a b) = unlessPending 9 (own .pending) (d ∷ a ∷ b ∷ []) (Sets d (difference (own .slot a) (own .slot b)))
+  effectOf (Load d a) =
+      unlessPending 9 (own .pending) (d ∷ a ∷ []) (provided (own .mayLoad (own .slot a)) 10 (Loads d (own .slot a)))
+  effectOf (Store a b) =
+      unlessPending 9 (own .pending) (a ∷ b ∷ []) (provided (own .mayStore (own .slot a)) 10 (Stores (own .slot a) (own .slot b)))
+  effectOf (JumpIfZero a t) = unlessPending 9 (own .pending) (a ∷ []) (cond (eqb (own .slot a) 0) (Goes t) Continues)
+  effectOf (Jump t) = Goes t
+  effectOf (Lfork r d a w) = forking r d a w (Lforks r d a (own .slot w))
+  effectOf (Fork r d a w) = forking r d a w (Forks r d a (own .slot w))
+  effectOf Join = Joins
+  effectOf Suspend = Suspends
+  effectOf Yield = Yields
+  effectOf (Return a) = unlessPending 12 (own .pending) (run 0 16) (Returns (own .slot a))
+
+-- what a fork asks for: the routine, the result slot, the first argument's slot and the cut
+pub record Asked : Type 0 where
+  pub routine : ℕ
+  pub result : ℕ
+  pub first : ℕ
+  pub cut : ℕ
+
+abbrev pub asked : ℕ → ℕ → ℕ → ℕ → Asked
+asked r d a e = record { routine = r; result = d; first = a; cut = e }
 
 -- the number of bytes of a command with such an effect, where its thread goes on behind it
 abbrev pub bytesBy : Effect → ℕ

@@ -1,7 +1,9 @@
 -- A job: what stays the same in a run of the machine and in a serial run; and where a routine's commands stand in its image.
+use mathlib.Core.Bool.{cond}
 use mathlib.Core.List.{List}
 use mathlib.Core.Path.{_≡_}
-use Prim.Native.Nat.{ℕ, _+_, _≤_, _<_}
+use Prim.Native.Nat.{ℕ, _+_, _-_, _≤_, _<_}
+use lib.Dec.{ltb}
 use lib.ListN.{getD, length}
 use Rattle.command.specs.Command.{widthOf}
 use Rattle.command.specs.Weight.{standardWeights, weightOf}
@@ -32,6 +34,13 @@ offsetAt j r p = getD (j .starts) r 0 + p
 
 abbrev pub byteAt : Job → ℕ → ℕ → ℕ
 byteAt j r p = getD (j .image) (offsetAt j r p) 0
+
+-- the word at an address, with this memory: "Addresses 0 to 31 are parameter words, lent for reading; 32 to 1,023 are 992 lent memory words"
+abbrev pub wordIn : List ℕ → List ℕ → ℕ → ℕ
+wordIn parameters memory a = cond (ltb a 32) (getD parameters a 0) (getD memory (a - 32) 0)
+
+abbrev pub wordAt : Job → List ℕ → ℕ → ℕ
+wordAt j memory a = wordIn (j .parameters) memory a
 
 -- an accepted image, with its codes' starts, 32 parameter words and a weight for each command
 pub record GoodJob (j : Job) : Type 0 where

@@ -6,7 +6,7 @@ use lib.Dec.{eqb, leb}
 use Rattle.window.specs.declared.Window.{Window}
 use Rattle.window.specs.Rights.{rootWindow, rejoined}
 use Rattle.thread.specs.declared.Origin.{Origin}
-use Rattle.thread.specs.declared.Forks.{Forks}
+use Rattle.thread.specs.declared.Family.{Family}
 use Rattle.thread.specs.declared.Thread.{Thread}
 use Rattle.thread.specs.declared.Status.{Status}
 use Rattle.thread.specs.declared.Status.the-variants.{Free, Running, Ready, Suspended, Waiting, Lent}
@@ -43,9 +43,9 @@ isRoot h = leb none (h .origin .parent)
 abbrev pub originOf : ℕ → ℕ → ℕ → ℕ → Origin
 originOf r t d base = record { routine = r; parent = t; result = d; base = base }
 
--- no fork yet: the whole window
-abbrev pub unforked : Window → Forks
-unforked w = record { children = 0; window = w; pending = 0 }
+-- no child, and the whole window
+abbrev pub childless : Window → Family
+childless w = record { children = 0; window = w; pending = 0 }
 
 -- a free record
 abbrev pub blankThread : Thread
@@ -54,41 +54,41 @@ blankThread = record {
   status = Free;
   connected = false;
   position = 0;
-  forks = unforked (record { lo = 0; mark = 0; hi = 0 });
+  family = childless (record { lo = 0; mark = 0; hi = 0 });
 }
 
 -- a thread at its routine's start
 abbrev pub newThread : Origin → Status → Bool → Window → Thread
-newThread origin status connected w = record { origin = origin; status = status; connected = connected; position = 0; forks = unforked w }
+newThread origin status connected w = record { origin = origin; status = status; connected = connected; position = 0; family = childless w }
 
 -- the root, on routine 0, "in the root's window", its frame at the first word of stacklet 0
 abbrev pub rootThread : Thread
 rootThread = newThread (originOf 0 none 0 0) Running false rootWindow
 
 abbrev pub withStatus : Status → Thread → Thread
-withStatus status h = record { origin = h .origin; status = status; connected = h .connected; position = h .position; forks = h .forks }
+withStatus status h = record { origin = h .origin; status = status; connected = h .connected; position = h .position; family = h .family }
 
 -- "is disconnected": no longer on a core, and unconnected for good
 abbrev pub disconnected : Status → Thread → Thread
-disconnected status h = record { origin = h .origin; status = status; connected = false; position = h .position; forks = h .forks }
+disconnected status h = record { origin = h .origin; status = status; connected = false; position = h .position; family = h .family }
 
 -- its next command is at p
 abbrev pub movedTo : ℕ → Thread → Thread
-movedTo p h = record { origin = h .origin; status = h .status; connected = h .connected; position = p; forks = h .forks }
+movedTo p h = record { origin = h .origin; status = h .status; connected = h .connected; position = p; family = h .family }
 
--- other forks, and a status
-abbrev pub withForks : Forks → Status → Thread → Thread
-withForks forks status h = record { origin = h .origin; status = status; connected = h .connected; position = h .position; forks = forks }
+-- another family, and a status
+abbrev pub withFamily : Family → Status → Thread → Thread
+withFamily family status h = record { origin = h .origin; status = status; connected = h .connected; position = h .position; family = family }
 
 -- behind a join, at p: "clearing pending slots", "A join puts the mark back to lo"
 abbrev pub joinedAt : ℕ → Thread → Thread
-joinedAt p h = movedTo p (withForks (record { children = h .forks .children; window = rejoined (h .forks .window); pending = 0 }) (h .status) h)
+joinedAt p h = movedTo p (withFamily (record { children = h .family .children; window = rejoined (h .family .window); pending = 0 }) (h .status) h)
 
 -- a parent behind a fork, at p: one child more, slot d pending, the window w left to it
 abbrev pub behindFork : Status → ℕ → ℕ → Window → Thread → Thread
 behindFork status p d w h =
-    movedTo p (withForks (record { children = h .forks .children + 1; window = w; pending = withPending (h .forks .pending) d }) status h)
+    movedTo p (withFamily (record { children = h .family .children + 1; window = w; pending = withPending (h .family .pending) d }) status h)
 
 -- a parent whose child has ended
 abbrev pub withoutChild : Status → Thread → Thread
-withoutChild status h = withForks (record { children = h .forks .children - 1; window = h .forks .window; pending = h .forks .pending }) status h
+withoutChild status h = withFamily (record { children = h .family .children - 1; window = h .family .window; pending = h .family .pending }) status h

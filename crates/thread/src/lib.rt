@@ -27,24 +27,24 @@ pub struct Origin {
     pub base: u16,
 }
 
-// What its forks have left of a thread.
-pub struct Forks {
-    // its children that have not ended
-    pub children: u8,
+// A thread's children, and what its forks have left to it beside them.
+pub struct Family {
     pub window: Window,
     // one bit for each pending slot
     pub pending: u16,
+    // its children that have not ended
+    pub children: u8,
 }
 
-// A thread record.
+// A thread record. Its parts stand as its bytes do in the tables, so that they are copied together.
 pub struct Thread {
-    pub origin: Origin,
+    // its next command's first byte, from its routine's start
+    pub position: u16,
     pub status: Status,
     // its parent is lent, and runs on when it leaves the core
     pub connected: bool,
-    // its next command's first byte, from its routine's start
-    pub position: u16,
-    pub forks: Forks,
+    pub origin: Origin,
+    pub family: Family,
 }
 
 // The effect of a command, computed from the thread's own slots, pending slots and window alone.

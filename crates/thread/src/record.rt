@@ -1,5 +1,5 @@
 // A thread's record: how each rule of the machine changes it.
-use crate::Forks;
+use crate::Family;
 use crate::Origin;
 use crate::Status;
 use crate::Thread;
@@ -46,7 +46,7 @@ pub fn blank_thread() -> Thread
         mark: 0,
         hi: 0,
     };
-    let forks = Forks {
+    let family = Family {
         children: 0,
         window,
         pending: 0,
@@ -56,7 +56,7 @@ pub fn blank_thread() -> Thread
         status: Status::Free,
         connected: false,
         position: 0,
-        forks,
+        family,
     }
 }
 
@@ -64,7 +64,7 @@ pub fn blank_thread() -> Thread
 pub fn new_thread(origin: Origin, status: Status, connected: bool, window: Window) -> Thread
     ensures { λ r. ⌜ r ≡ newThread origin status connected window ⌝ }
 {
-    let forks = Forks {
+    let family = Family {
         children: 0,
         window,
         pending: 0,
@@ -74,7 +74,7 @@ pub fn new_thread(origin: Origin, status: Status, connected: bool, window: Windo
         status,
         connected,
         position: 0,
-        forks,
+        family,
     }
 }
 
@@ -104,13 +104,13 @@ pub fn with_status(h: Thread, status: Status) -> Thread
     ensures { λ r. ⌜ r ≡ withStatus status h ⌝ }
 {
     let origin = h.origin;
-    let forks = h.forks;
+    let family = h.family;
     Thread {
         origin,
         status,
         connected: h.connected,
         position: h.position,
-        forks,
+        family,
     }
 }
 
@@ -119,13 +119,13 @@ pub fn disconnected(h: Thread, status: Status) -> Thread
     ensures { λ r. ⌜ r ≡ disconnected status h ⌝ }
 {
     let origin = h.origin;
-    let forks = h.forks;
+    let family = h.family;
     Thread {
         origin,
         status,
         connected: false,
         position: h.position,
-        forks,
+        family,
     }
 }
 
@@ -135,10 +135,10 @@ pub fn joined_at(h: Thread, position: u16) -> Thread
 {
     let origin = h.origin;
     let status = h.status;
-    let held = h.forks.window;
+    let held = h.family.window;
     let window = held.rejoin();
-    let forks = Forks {
-        children: h.forks.children,
+    let family = Family {
+        children: h.family.children,
         window,
         pending: 0,
     };
@@ -147,25 +147,25 @@ pub fn joined_at(h: Thread, position: u16) -> Thread
         status,
         connected: h.connected,
         position,
-        forks,
+        family,
     }
 }
 
 // The parent behind a fork: its next command at a position, one child more, slot d pending, and a window left to it. A record whose children
 // cannot be counted further, or a slot from 16 on, stays as it is.
 pub fn behind_fork(h: Thread, status: Status, position: u16, d: u8, window: Window) -> Thread
-    ensures { λ r. ⌜ (d < 16 → h .forks .children < 255 → r ≡ behindFork status position d window h) × ((16 ≤ d) ⊎ (255 ≤ h .forks .children) → r ≡ h) ⌝ }
+    ensures { λ r. ⌜ (d < 16 → h .family .children < 255 → r ≡ behindFork status position d window h) × ((16 ≤ d) ⊎ (255 ≤ h .family .children) → r ≡ h) ⌝ }
 {
     if 16 <= d {
         return h;
     }
-    if 255 <= h.forks.children {
+    if 255 <= h.family.children {
         return h;
     }
     let origin = h.origin;
-    let pending = with_pending(h.forks.pending, d);
-    let forks = Forks {
-        children: h.forks.children + 1,
+    let pending = with_pending(h.family.pending, d);
+    let family = Family {
+        children: h.family.children + 1,
         window,
         pending,
     };
@@ -174,7 +174,7 @@ pub fn behind_fork(h: Thread, status: Status, position: u16, d: u8, window: Wind
         status,
         connected: h.connected,
         position,
-        forks,
+        family,
     }
 }
 
@@ -193,18 +193,18 @@ pub fn without_child(h: Thread, status: Status) -> Thread
     ensures { λ r. ⌜ r ≡ withoutChild status h ⌝ }
 {
     let origin = h.origin;
-    let window = h.forks.window;
-    let children = one_less(h.forks.children);
-    let forks = Forks {
+    let window = h.family.window;
+    let children = one_less(h.family.children);
+    let family = Family {
         children,
         window,
-        pending: h.forks.pending,
+        pending: h.family.pending,
     };
     Thread {
         origin,
         status,
         connected: h.connected,
         position: h.position,
-        forks,
+        family,
     }
 }

@@ -205,7 +205,7 @@ carry-seed-requires c κs =
     let sound = pre' .sound in
     let same : th ≡ recordIn (args' .tables .now) (args' .t) = thread-seen (pre' .sized) [] [] (args' .t) th (if4' .left) (thread-at' .ensures) in
     rw (c .before .before .before .seed-of .ensures) (seed-ready (args' .tables .now) (args' .image .now) (args' .words .now) (args' .c) (args' .t) (c .before .before .before .before .before .before .before .before .weight .result) _ _ _ _ th (pre' .sized)
-    (λ allowed. let inside = cut-inside (th .forks .window) _ allowed in record {
+    (λ allowed. let inside = cut-inside (th .family .window) _ allowed in record {
       seated = record { sized = (pre' .sized); core = low; number = if4' .left; units = omega (arith, c .before .before .before .before .before .if7 .left, c .before .before .before .before .before .before .units .ensures .means (pre' .sized) (args' .words .now) (pre' .memory), sound .sized .units, c .before .before .before .before .before .before .before .before .before .before .before .before .before .before .before .before .before .before .before .before .before .before .before .before .before .before .before .before .before .before .before .fits .allowance .fits); base = rw (← same) (based _ _ sound (args' .t) th met used) };
       children = rw (← same) (few _ _ sound (args' .t) th met used);
       numbers = free-first _ _ sound;

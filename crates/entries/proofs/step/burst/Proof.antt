@@ -184,7 +184,7 @@ returns c =
     let weight = weightOf standardWeights byte in
     let dear : loop' .left < weight = omega (arith, paid, ltb-true (loop' .left) (getD (weights' .result) byte 0) (sym (falls-short' .ensures) ∙ c .before .before .before .before .before .before .before .before .before .if1 .taken)) in
     let zs = fall-short' .last .0 in
-    let waits = must-wait' .ensures ∙ ap (λ (h : Thread). eqb byte 10 && ltb 0 (h .forks .children)) seen in
+    let waits = must-wait' .ensures ∙ ap (λ (h : Thread). eqb byte 10 && ltb 0 (h .family .children)) seen in
     ends-short busy made at back dear (a .more) (c .told .result) zs (omega arith) (c .told .ensures .0)
     (ap (λ (n : ℕ). after n zs (loop' .words) (loop' .memory)) (c .told .ensures .1) ∙ fall-short' .ensures (loop' .words) (loop' .memory)
     ∙ ap (λ (b : Bool). shortOf (a .c) (a .t) b (meaning ys (loop' .words) (loop' .memory))) waits)
@@ -475,7 +475,7 @@ returns-3 c =
     let used = a .allowance - loop' .left in
     let back : Becomes (a .tables .now) ys (standsAt (a .t % 32) (loop' .position) used) = subst (λ (l : List ℕ). Becomes l ys (standsAt (a .t % 32) (loop' .position) used)) (loop' .inv .0) (put-back3' .ensures) in
     let told = rw (enum-told' .given .1) at (carry-own' .ensures) in
-    let waits = must-wait' .ensures ∙ ap (λ (h : Thread). eqb byte 10 && ltb 0 (h .forks .children)) seen in
+    let waits = must-wait' .ensures ∙ ap (λ (h : Thread). eqb byte 10 && ltb 0 (h .family .children)) seen in
     let job = jobOf (a .image .now) (a .starts .now) (a .parameters .now) (a .allowance) in
     let next = (loop' .position + bytesBy e) % 2 ^ 16 in
     let place = place-in-image' .result + loop' .position in
