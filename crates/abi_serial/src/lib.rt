@@ -13,7 +13,7 @@ fn serial_words(answer: SerialAnswer) -> [u32; 3]
     ensures { λ r. ⌜ ((memory : List ℕ) → r ≡ serialWords (endedBy answer memory)) ⌝ }
 {
     match answer {
-        SerialAnswer::Finished(result, units) => [1, result, units],
+        SerialAnswer::Returned(result, units) => [1, result, units],
         SerialAnswer::Stopped(number, units) => [0, number as u32, units],
     }
 }

@@ -6,7 +6,7 @@ use image::Refusal;
 use image::Verdict;
 
 fn number_of(verdict: Verdict) -> u64 {
-    let Verdict::Refused(refusal) = verdict else {
+    let Verdict::Rejected(refusal) = verdict else {
         return 0;
     };
     match refusal {

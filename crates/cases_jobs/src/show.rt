@@ -33,7 +33,7 @@ pub fn print(format: usize, a: u32, b: u32, c: u32) {
 
 pub fn print_serial(answer: SerialAnswer) {
     match answer {
-        SerialAnswer::Finished(result, units) => print(SERIAL_FINISHED, result, units, 0),
+        SerialAnswer::Returned(result, units) => print(SERIAL_FINISHED, result, units, 0),
         SerialAnswer::Stopped(number, units) => print(SERIAL_STOPPED, number as u32, units, 0),
     }
 }

@@ -33,7 +33,7 @@ fn print_cut(cut: Cut) {
             print_ends(CHILD, child);
             print_ends(REST, rest);
         }
-        Cut::OutOfRange => print(OUT_OF_RANGE, 0, 0, 0),
+        Cut::BadCut => print(OUT_OF_RANGE, 0, 0, 0),
     }
 }
 

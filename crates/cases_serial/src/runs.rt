@@ -22,7 +22,7 @@ fn print(format: usize, a: u32, b: u32, c: u32) {
 
 fn print_answer(answer: SerialAnswer) {
     match answer {
-        SerialAnswer::Finished(result, units) => print(FINISHED, result, units, 0),
+        SerialAnswer::Returned(result, units) => print(FINISHED, result, units, 0),
         SerialAnswer::Stopped(reason, units) => print(STOPPED, reason as u32, units, 0),
     }
 }

@@ -11,7 +11,7 @@ use Rattle.command.specs.declared.Command.{Command}
 use Rattle.command.specs.declared.CommandRead.{CommandRead}
 use Rattle.command.specs.declared.CommandRead.the-variants.{Found, Unknown, CutOff}
 use Rattle.command.specs.declared.CommandWritten.the-variants.{Bytes, TooShort}
-use Rattle.command.specs.Command.{commandAt, decodedAt, bytesOf, widthOf, numberOfCommandRead}
+use Rattle.command.specs.Command.{commandAt, decodedAt, bytesOfCommand, widthOf, numberOfCommandRead}
 use Rattle.command.specs.Write.{numberOfCommandWritten}
 
 -- what a command's reading meets, seen with the reason
@@ -58,15 +58,15 @@ module _ (s : List ℕ) (at : ℕ) where
   read-0 (whole w l) = (λ e. refl, λ c. refl)
 
 -- a command that is written, and one that is not
-module _ (command : Command) (before : List ℕ) (width : ℕ) (all : width ≡ length (bytesOf command)) where
-  pub wrote-25 : width ≤ length before → (numberOfCommandWritten (Bytes width) ≡ 25) ↔ (length before < length (bytesOf command))
+module _ (command : Command) (before : List ℕ) (width : ℕ) (all : width ≡ length (bytesOfCommand command)) where
+  pub wrote-25 : width ≤ length before → (numberOfCommandWritten (Bytes width) ≡ 25) ↔ (length before < length (bytesOfCommand command))
   wrote-25 h = (λ e. absurd (omega arith), λ l. absurd (omega arith))
 
-  pub wrote-0 : (numberOfCommandWritten (Bytes width) ≡ 0) ↔ (Bytes width ≡ Bytes (length (bytesOf command)))
+  pub wrote-0 : (numberOfCommandWritten (Bytes width) ≡ 0) ↔ (Bytes width ≡ Bytes (length (bytesOfCommand command)))
   wrote-0 = (λ e. ap Bytes all, λ c. refl)
 
-  pub left-25 : length before < width → (numberOfCommandWritten TooShort ≡ 25) ↔ (length before < length (bytesOf command))
+  pub left-25 : length before < width → (numberOfCommandWritten TooShort ≡ 25) ↔ (length before < length (bytesOfCommand command))
   left-25 h = (λ e. omega arith, λ l. refl)
 
-  pub left-0 : (numberOfCommandWritten TooShort ≡ 0) ↔ (TooShort ≡ Bytes (length (bytesOf command)))
+  pub left-0 : (numberOfCommandWritten TooShort ≡ 0) ↔ (TooShort ≡ Bytes (length (bytesOfCommand command)))
   left-0 = (λ e. absurd (omega arith), ap numberOfCommandWritten)

@@ -13,10 +13,10 @@ use Rattle.command.specs.declared.Command.{Command}
 use Rattle.command.specs.declared.Command.the-variants.{Set, Add, Subtract, Load, Store, JumpIfZero, Jump, Lfork, Fork, Join, Suspend, Yield, Return}
 use Rattle.command.specs.declared.CommandRead.{CommandRead}
 use Rattle.command.specs.declared.CommandRead.the-variants.{Found, Unknown, CutOff}
-use Rattle.command.specs.Encoded.{Fits}
+use Rattle.command.specs.Encoded.{OperandsFit}
 use Rattle.command.proofs.Tables.{width-most}
 use Rattle.command.proofs.Numbers.{Read, read, read-4, read-5, read-0}
-use Rattle.command.specs.Command.{commandAt, decoded, decodedAt, bytesOf, pair, low, high, widthOf, ReadAs}
+use Rattle.command.specs.Command.{commandAt, decoded, decodedAt, bytesOfCommand, pair, low, high, widthOf, ReadAs}
 
 two-bytes : (v : ℕ) → v < 65536 → pair (low v) (high v) ≡ v
 two-bytes v h = omega arith
@@ -27,21 +27,21 @@ unfolding commandAt
 accepts s at n w h = simp (w, lt-leb (length s) at (omega arith), ne-eqb (suc n) 0 (λ e. omega arith), le-ltb (length s - at) (suc n) (omega arith))
 
 -- "A written command reads back as itself", whatever follows it
-pub reads-back : (command : Command) (rest : List ℕ) → Fits command → commandAt (bytesOf command ++ rest) 0 ≡ Found command (length (bytesOf command))
-unfolding bytesOf decoded
-reads-back (Set d v) rest h = rw (two-bytes v h) at (accepts (bytesOf (Set d v) ++ rest) 0 3 refl (omega arith))
-reads-back (Add d a b) rest h = accepts (bytesOf (Add d a b) ++ rest) 0 3 refl (omega arith)
-reads-back (Subtract d a b) rest h = accepts (bytesOf (Subtract d a b) ++ rest) 0 3 refl (omega arith)
-reads-back (Load d a) rest h = accepts (bytesOf (Load d a) ++ rest) 0 2 refl (omega arith)
-reads-back (Store a b) rest h = accepts (bytesOf (Store a b) ++ rest) 0 2 refl (omega arith)
-reads-back (JumpIfZero a t) rest h = rw (two-bytes t h) at (accepts (bytesOf (JumpIfZero a t) ++ rest) 0 3 refl (omega arith))
-reads-back (Jump t) rest h = rw (two-bytes t h) at (accepts (bytesOf (Jump t) ++ rest) 0 2 refl (omega arith))
-reads-back (Lfork r d a w) rest h = accepts (bytesOf (Lfork r d a w) ++ rest) 0 4 refl (omega arith)
-reads-back (Fork r d a w) rest h = accepts (bytesOf (Fork r d a w) ++ rest) 0 4 refl (omega arith)
-reads-back Join rest h = accepts (bytesOf Join ++ rest) 0 0 refl (omega arith)
-reads-back Suspend rest h = accepts (bytesOf Suspend ++ rest) 0 0 refl (omega arith)
-reads-back Yield rest h = accepts (bytesOf Yield ++ rest) 0 0 refl (omega arith)
-reads-back (Return a) rest h = accepts (bytesOf (Return a) ++ rest) 0 1 refl (omega arith)
+pub reads-back : (command : Command) (rest : List ℕ) → OperandsFit command → commandAt (bytesOfCommand command ++ rest) 0 ≡ Found command (length (bytesOfCommand command))
+unfolding bytesOfCommand decoded
+reads-back (Set d v) rest h = rw (two-bytes v h) at (accepts (bytesOfCommand (Set d v) ++ rest) 0 3 refl (omega arith))
+reads-back (Add d a b) rest h = accepts (bytesOfCommand (Add d a b) ++ rest) 0 3 refl (omega arith)
+reads-back (Subtract d a b) rest h = accepts (bytesOfCommand (Subtract d a b) ++ rest) 0 3 refl (omega arith)
+reads-back (Load d a) rest h = accepts (bytesOfCommand (Load d a) ++ rest) 0 2 refl (omega arith)
+reads-back (Store a b) rest h = accepts (bytesOfCommand (Store a b) ++ rest) 0 2 refl (omega arith)
+reads-back (JumpIfZero a t) rest h = rw (two-bytes t h) at (accepts (bytesOfCommand (JumpIfZero a t) ++ rest) 0 3 refl (omega arith))
+reads-back (Jump t) rest h = rw (two-bytes t h) at (accepts (bytesOfCommand (Jump t) ++ rest) 0 2 refl (omega arith))
+reads-back (Lfork r d a w) rest h = accepts (bytesOfCommand (Lfork r d a w) ++ rest) 0 4 refl (omega arith)
+reads-back (Fork r d a w) rest h = accepts (bytesOfCommand (Fork r d a w) ++ rest) 0 4 refl (omega arith)
+reads-back Join rest h = accepts (bytesOfCommand Join ++ rest) 0 0 refl (omega arith)
+reads-back Suspend rest h = accepts (bytesOfCommand Suspend ++ rest) 0 0 refl (omega arith)
+reads-back Yield rest h = accepts (bytesOfCommand Yield ++ rest) 0 0 refl (omega arith)
+reads-back (Return a) rest h = accepts (bytesOfCommand (Return a) ++ rest) 0 1 refl (omega arith)
 
 -- what a found command says of the bytes
 pub record Stands (s : List ℕ) (at : ℕ) (command : Command) (n : ℕ) : Type 0 where
@@ -109,8 +109,8 @@ high-pair x y h k = omega arith
 
 -- a decoded command's bytes are those that it was decoded from
 module _ (x y z w : ℕ) (hx : x < 256) (hy : y < 256) (hz : z < 256) where
-  encoded-again : (byte : ℕ) → 1 ≤ widthOf byte → bytesOf (decoded byte x y z w) ≡ take (widthOf byte) (byte ∷ x ∷ y ∷ z ∷ w ∷ [])
-  unfolding bytesOf decoded
+  encoded-again : (byte : ℕ) → 1 ≤ widthOf byte → bytesOfCommand (decoded byte x y z w) ≡ take (widthOf byte) (byte ∷ x ∷ y ∷ z ∷ w ∷ [])
+  unfolding bytesOfCommand decoded
   encoded-again zero h = absurd (omega arith)
   encoded-again (suc zero) h = rw (low-pair y z hy hz, high-pair y z hy hz)
   encoded-again (suc (suc zero)) h = refl
@@ -133,7 +133,7 @@ Bytes s = (i : ℕ) → getD s i 0 < 256
 
 -- "an accepted command's bytes are written again unchanged"
 pub writes-again : (s : List ℕ) → Bytes s → (at : ℕ) (command : Command) (n : ℕ) → commandAt s at ≡ Found command n
-    → bytesOf command ≡ take n (drop at s)
+    → bytesOfCommand command ≡ take n (drop at s)
 writes-again s small at command n found =
     let f = stands s at command n found in
     rw (f .is, taken s at n (f .whole), ← fewer s at n 5 (rw (f .width) (width-most (getD s at 0))), from-five s at, f .width)

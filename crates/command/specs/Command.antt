@@ -70,20 +70,20 @@ abbrev pub high : ℕ → ℕ
 high v = v / 256 % 256
 
 -- the bytes of a command
-unfoldable pub bytesOf : Command → List ℕ
-bytesOf (Set d v) = 1 ∷ d ∷ low v ∷ high v ∷ []
-bytesOf (Add d a b) = 2 ∷ d ∷ a ∷ b ∷ []
-bytesOf (Subtract d a b) = 3 ∷ d ∷ a ∷ b ∷ []
-bytesOf (Load d a) = 4 ∷ d ∷ a ∷ []
-bytesOf (Store a b) = 5 ∷ a ∷ b ∷ []
-bytesOf (JumpIfZero a t) = 6 ∷ a ∷ low t ∷ high t ∷ []
-bytesOf (Jump t) = 7 ∷ low t ∷ high t ∷ []
-bytesOf (Lfork r d a w) = 8 ∷ r ∷ d ∷ a ∷ w ∷ []
-bytesOf (Fork r d a w) = 9 ∷ r ∷ d ∷ a ∷ w ∷ []
-bytesOf Join = 10 ∷ []
-bytesOf Suspend = 11 ∷ []
-bytesOf Yield = 12 ∷ []
-bytesOf (Return a) = 13 ∷ a ∷ []
+unfoldable pub bytesOfCommand : Command → List ℕ
+bytesOfCommand (Set d v) = 1 ∷ d ∷ low v ∷ high v ∷ []
+bytesOfCommand (Add d a b) = 2 ∷ d ∷ a ∷ b ∷ []
+bytesOfCommand (Subtract d a b) = 3 ∷ d ∷ a ∷ b ∷ []
+bytesOfCommand (Load d a) = 4 ∷ d ∷ a ∷ []
+bytesOfCommand (Store a b) = 5 ∷ a ∷ b ∷ []
+bytesOfCommand (JumpIfZero a t) = 6 ∷ a ∷ low t ∷ high t ∷ []
+bytesOfCommand (Jump t) = 7 ∷ low t ∷ high t ∷ []
+bytesOfCommand (Lfork r d a w) = 8 ∷ r ∷ d ∷ a ∷ w ∷ []
+bytesOfCommand (Fork r d a w) = 9 ∷ r ∷ d ∷ a ∷ w ∷ []
+bytesOfCommand Join = 10 ∷ []
+bytesOfCommand Suspend = 11 ∷ []
+bytesOfCommand Yield = 12 ∷ []
+bytesOfCommand (Return a) = 13 ∷ a ∷ []
 
 -- what `read` gives: what stands there, each number exactly under its condition, which does not cite the row of tests, and "an accepted
 -- command's bytes are written again unchanged"
@@ -95,4 +95,4 @@ pub record ReadAs (s : List ℕ) (at : ℕ) (answer : CommandRead) : Type 0 wher
   pub number5 : (numberOfCommandRead answer ≡ 5) ↔ ((length s ≤ at) ⊎ ((1 ≤ widthOf (getD s at 0)) × (length s < at + widthOf (getD s at 0))))
   -- "meets only 4 and 5": else the command is found, with the number of its bytes
   pub number0 : (numberOfCommandRead answer ≡ 0) ↔ (answer ≡ Found (decodedAt s at) (widthOf (getD s at 0)))
-  pub again : (command : Command) (n : ℕ) → answer ≡ Found command n → bytesOf command ≡ take n (drop at s)
+  pub again : (command : Command) (n : ℕ) → answer ≡ Found command n → bytesOfCommand command ≡ take n (drop at s)

@@ -11,7 +11,7 @@ use lib.ListN.{length, getD}
 use Rattle.command.proofs.Bools.{neither}
 use Rattle.command.proofs.Tables.{weight-least}
 use Rattle.image.specs.declared.Verdict.{Verdict}
-use Rattle.image.specs.declared.Verdict.the-variants.{Accepted, Refused}
+use Rattle.image.specs.declared.Verdict.the-variants.{Accepted, Rejected}
 use Rattle.image.specs.declared.Refusal.{Refusal}
 use Rattle.image.specs.declared.Refusal.the-variants.{BadLength, BadCount, BadRow, UnknownByte, OperandsCutOff, OutOfRange, BadEnd, BadTarget}
 use Rattle.image.specs.Image.{imageVerdict, numberIn, numberOfRefusal}
@@ -51,7 +51,7 @@ refusal-some BadTarget = omega arith
 
 no-number : (v : Verdict) → numberIn v ≡ 0 → v ≡ Accepted
 no-number Accepted e = refl
-no-number (Refused r) e = absurd (omega (arith, refusal-some r, e))
+no-number (Rejected r) e = absurd (omega (arith, refusal-some r, e))
 
 -- the job of an input that a run takes
 pub good : (i : Input) → Takes i → GoodJob (jobIn i)

@@ -20,13 +20,13 @@ use Rattle.stacklets.specs.Frames.{slotOf}
 use Rattle.forkjoin.proofs.Update.{update}
 use Rattle.forkjoin.proofs.Arrays.{listed, listed-set}
 use Rattle.thread.specs.Effect.{effectOf}
-use Rattle.thread.specs.View.{viewOf}
+use Rattle.thread.specs.View.{contextOf}
 use Rattle.thread.specs.Thread.{isPending}
 use Rattle.thread.specs.Job.{Job, GoodJob, offsetAt, byteAt}
 use Rattle.thread.proofs.ThreadState.{ThreadState, effect, onward, started, behind-fork, behind-join, deliver}
 use Rattle.thread.proofs.MarkedWindows.{window-tests}
 use Rattle.serial.specs.declared.Routine.{Routine}
-use Rattle.serial.specs.Serial.{withSlot, goesOn, joined, forked, startedOn, argumentsFrom, weightAt, effectAt}
+use Rattle.serial.specs.Serial.{assigned, advanced, joined, forked, startedOn, argumentsFrom, weightAt, nextEffect}
 use Rattle.serial.specs.Steps.{GoodRoutine, firstSlots}
 use Rattle.serial.proofs.CommandMet.{nextOf, length-first}
 use Rattle.serial.proofs.FirstSlots.{first-at}
@@ -82,16 +82,16 @@ module _ (j : Job) (good : GoodJob j) (l : Routine) (g : GoodRoutine j l) where
   next-here = ap (λ z. l .position + widthOf z) byte-here
 
   -- the effect
-  pub effect-here : effect windows window-tests (codeOf j good) (stateOf l) ≡ effectAt j l
-  unfolding effectAt
+  pub effect-here : effect windows window-tests (codeOf j good) (stateOf l) ≡ nextEffect j l
+  unfolding nextEffect
   effect-here =
-      ap (effectOf (argumentsOf (j .image)) (viewOf (listed (l .slots) 0) (isPending (l .pending)) (l .window)))
+      ap (effectOf (argumentsOf (j .image)) (contextOf (listed (l .slots) 0) (isPending (l .pending)) (l .window)))
       (fetch-is (j .image) (l .routine) (l .position) command-here ∙ ap (decodedAt (j .image)) (sym offset-here))
-      ∙ ap (λ f. effectOf (argumentsOf (j .image)) (viewOf f (isPending (l .pending)) (l .window))
+      ∙ ap (λ f. effectOf (argumentsOf (j .image)) (contextOf f (isPending (l .pending)) (l .window))
       (decodedAt (j .image) (offsetAt j (l .routine) (l .position)))) (slots-listed (l .slots))
 
   -- behind the command
-  pub onward-is : onward (codeOf j good) (stateOf l) (stateOf l .slots) ≡ stateOf (goesOn j l)
+  pub onward-is : onward (codeOf j good) (stateOf l) (stateOf l .slots) ≡ stateOf (advanced j l)
   onward-is = λ ι. record {
     routine = l .routine;
     position = next-here ι;
@@ -101,7 +101,7 @@ module _ (j : Job) (good : GoodJob j) (l : Routine) (g : GoodRoutine j l) where
   }
 
   -- with another value in slot d
-  pub set-is : (d v : ℕ) → d < 16 → onward (codeOf j good) (stateOf l) (update (stateOf l .slots) d v) ≡ stateOf (goesOn j (withSlot d v l))
+  pub set-is : (d v : ℕ) → d < 16 → onward (codeOf j good) (stateOf l) (update (stateOf l .slots) d v) ≡ stateOf (advanced j (assigned d v l))
   set-is d v h = λ ι. record {
     routine = l .routine;
     position = next-here ι;
@@ -111,7 +111,7 @@ module _ (j : Job) (good : GoodJob j) (l : Routine) (g : GoodRoutine j l) where
   }
 
   -- behind a join
-  pub join-is : behind-join windows (codeOf j good) (stateOf l) (stateOf l .slots) ≡ stateOf (goesOn j (joined l))
+  pub join-is : behind-join windows (codeOf j good) (stateOf l) (stateOf l .slots) ≡ stateOf (advanced j (joined l))
   join-is = λ ι. record {
     routine = l .routine;
     position = next-here ι;
@@ -134,7 +134,7 @@ module _ (j : Job) (good : GoodJob j) (l : Routine) (g : GoodRoutine j l) where
 
   -- and its parent, with the child's value
   pub parent-is : (d e v : ℕ) → d < 16
-      → deliver (behind-fork (codeOf j good) (stateOf l) (stateOf l .slots) d (restOf (l .window) e)) d v ≡ stateOf (withSlot d v (goesOn j (forked d e l)))
+      → deliver (behind-fork (codeOf j good) (stateOf l) (stateOf l .slots) d (restOf (l .window) e)) d v ≡ stateOf (assigned d v (advanced j (forked d e l)))
   parent-is d e v h = λ ι. record {
     routine = l .routine;
     position = next-here ι;

@@ -12,19 +12,19 @@ use Rattle.command.specs.Command.{decodedAt}
 use Rattle.command.specs.declared.Command.{Command}
 use Rattle.command.specs.declared.Command.the-variants.{Set, Add, Subtract, Load, Store, JumpIfZero, Jump, Lfork, Fork, Join, Suspend, Yield, Return}
 use Rattle.image.specs.declared.Verdict.{Verdict}
-use Rattle.image.specs.declared.Verdict.the-variants.{Accepted, Refused}
+use Rattle.image.specs.declared.Verdict.the-variants.{Accepted, Rejected}
 use Rattle.image.specs.Layout.{argumentsOf}
 use Rattle.image.specs.Image.{imageVerdict, numberIn, numberOfRefusal}
 use Rattle.window.specs.Rights.{rootWindow, childOf}
 use Rattle.stacklets.specs.Frames.{slotOf}
 use Rattle.thread.specs.declared.Effect.{Effect}
 use Rattle.thread.specs.declared.Effect.the-variants.{Faults, Sets, Loads, Stores, Goes, Continues, Lforks, Forks, Joins, Suspends, Yields, Returns}
-use Rattle.thread.specs.Effect.{Own, anyPending, unlessPending, provided, forking, effectOf, asked}
+use Rattle.thread.specs.Effect.{Context, anyPending, unlessPending, provided, forking, effectOf, asked}
 use Rattle.thread.specs.Thread.{isPending}
-use Rattle.thread.specs.View.{viewOf}
+use Rattle.thread.specs.View.{contextOf}
 use Rattle.thread.specs.Job.{Job, offsetAt, wordAt}
 use Rattle.serial.specs.declared.Routine.{Routine}
-use Rattle.serial.specs.Serial.{Ended, done, stopped, andThen, Call, movedTo, withSlot, goesOn, joined, forked, startedOn, argumentsFrom, weightAt, effectAt, forkCalled, carried, callWithin, runFrom, serialFrom}
+use Rattle.serial.specs.Serial.{Ended, done, stopped, andThen, Call, jumpedTo, assigned, advanced, joined, forked, startedOn, argumentsFrom, weightAt, nextEffect, forkCalled, carried, callWithin, callFrom, serialFrom}
 use Rattle.serial.proofs.Whole.{refused, wrong-count, wrong-parameters, wrong-memory, all-right}
 use Rattle.demands.proofs.WholeRun.{refusal-range}
 use Rattle.demands.specs.Input.{Input, jobIn}
@@ -67,7 +67,7 @@ fault-choice : (t : Bool) (x y : Effect) → FaultLow x → FaultLow y → Fault
 fault-choice true x y f g = f
 fault-choice false x y f g = g
 
-module _ (arguments : ℕ → ℕ) (own : Own) where
+module _ (arguments : ℕ → ℕ) (own : Context) where
   fault-fork : (r d a w : ℕ) (e : Effect) → FaultLow e → FaultLow (forking arguments own r d a w e)
   unfolding forking
   fault-fork r d a w e f = fault-unless 9 (omega arith) (omega arith) _ _ _ (fault-provided _ 11 (omega arith) (omega arith) _ f)
@@ -115,36 +115,36 @@ module _ (j : Job) where
     where
       go : (b : Bool) → Ends (cond b (stopped 26 m u)
           (andThen (within f (suc n) (startedOn r (argumentsFrom j l r a) (childOf (l .window) e)) m (u + weightAt j l))
-          (λ v m' u'. within f n (withSlot d v (goesOn j (forked d e l))) m' u')))
+          (λ v m' u'. within f n (assigned d v (advanced j (forked d e l))) m' u')))
       go true = ends (inr (inr refl))
       go false = then-ends _ (ih (suc n) (startedOn r (argumentsFrom j l r a) (childOf (l .window) e)) m (u + weightAt j l))
-          (λ v m' u'. ih n (withSlot d v (goesOn j (forked d e l))) m' u')
+          (λ v m' u'. ih n (assigned d v (advanced j (forked d e l))) m' u')
 
   carried-ends : (f : ℕ) → Called f → (n : ℕ) (l : Routine) (m : List ℕ) (u : ℕ) (e : Effect) → FaultLow e → Ends (carried j (within f) n l m u e)
   unfolding carried Called
   carried-ends f ih n l m u (Faults x) k = ends (inl (k .low))
-  carried-ends f ih n l m u (Sets d v) k = ih n (goesOn j (withSlot d v l)) m (u + weightAt j l)
-  carried-ends f ih n l m u (Loads d a) k = ih n (goesOn j (withSlot d (wordAt j m a) l)) m (u + weightAt j l)
-  carried-ends f ih n l m u (Stores a v) k = ih n (goesOn j l) (set m (a - 32) v) (u + weightAt j l)
-  carried-ends f ih n l m u (Goes t) k = ih n (movedTo t l) m (u + weightAt j l)
-  carried-ends f ih n l m u Continues k = ih n (goesOn j l) m (u + weightAt j l)
+  carried-ends f ih n l m u (Sets d v) k = ih n (advanced j (assigned d v l)) m (u + weightAt j l)
+  carried-ends f ih n l m u (Loads d a) k = ih n (advanced j (assigned d (wordAt j m a) l)) m (u + weightAt j l)
+  carried-ends f ih n l m u (Stores a v) k = ih n (advanced j l) (set m (a - 32) v) (u + weightAt j l)
+  carried-ends f ih n l m u (Goes t) k = ih n (jumpedTo t l) m (u + weightAt j l)
+  carried-ends f ih n l m u Continues k = ih n (advanced j l) m (u + weightAt j l)
   carried-ends f ih n l m u (Lforks r d a e) k = fork-ends f ih n l r d a e m u
   carried-ends f ih n l m u (Forks r d a e) k = fork-ends f ih n l r d a e m u
-  carried-ends f ih n l m u Joins k = ih n (goesOn j (joined l)) m (u + weightAt j l)
-  carried-ends f ih n l m u Suspends k = ih n (goesOn j l) m (u + weightAt j l)
-  carried-ends f ih n l m u Yields k = ih n (goesOn j l) m (u + weightAt j l)
+  carried-ends f ih n l m u Joins k = ih n (advanced j (joined l)) m (u + weightAt j l)
+  carried-ends f ih n l m u Suspends k = ih n (advanced j l) m (u + weightAt j l)
+  carried-ends f ih n l m u Yields k = ih n (advanced j l) m (u + weightAt j l)
   carried-ends f ih n l m u (Returns v) k = returns
 
-  next-low : (l : Routine) → FaultLow (effectAt j l)
-  unfolding effectAt
+  next-low : (l : Routine) → FaultLow (nextEffect j l)
+  unfolding nextEffect
   next-low l =
-      fault-low (argumentsOf (j .image)) (viewOf (slotOf (l .slots) 0) (isPending (l .pending)) (l .window))
+      fault-low (argumentsOf (j .image)) (contextOf (slotOf (l .slots) 0) (isPending (l .pending)) (l .window))
       (decodedAt (j .image) (offsetAt j (l .routine) (l .position)))
 
   test-ends : (f : ℕ) → Called f → (n : ℕ) (l : Routine) (m : List ℕ) (u : ℕ) (b : Bool)
-      → Ends (cond b (stopped 22 m u) (carried j (within f) n l m u (effectAt j l)))
+      → Ends (cond b (stopped 22 m u) (carried j (within f) n l m u (nextEffect j l)))
   test-ends f ih n l m u true = ends (inr (inl refl))
-  test-ends f ih n l m u false = carried-ends f ih n l m u (effectAt j l) (next-low l)
+  test-ends f ih n l m u false = carried-ends f ih n l m u (nextEffect j l) (next-low l)
 
   called : (f : ℕ) → Called f
   unfolding callWithin Called
@@ -152,7 +152,7 @@ module _ (j : Job) where
   called (suc f) n l m u = test-ends f (λ n l m u. called f n l m u) n l m u (ltb (j .allowance - u) (weightAt j l))
 
   from-start : (arguments memory : List ℕ) → Ends (serialFrom j arguments memory)
-  unfolding serialFrom runFrom Called
+  unfolding serialFrom callFrom Called
   from-start arguments memory = called (suc (j .allowance)) 1 (startedOn 0 arguments rootWindow) memory 0
 
 by-command : {n : ℕ} {m : List ℕ} {u : ℕ} → Ends (stopped n m u) → OfCommand n
@@ -172,7 +172,7 @@ module _ (i : Input) where
     where
       go : (v : Verdict) → imageVerdict (i .image) ≡ v → serialIn i ≡ stopped n (i .memory) 0
       go Accepted e = let z : n ≡ 0 = sym h ∙ ap numberIn e in absurd (omega arith)
-      go (Refused x) e =
+      go (Rejected x) e =
           sym (refused (i .image) (i .parameters) (i .arguments) (i .memory) (i .allowance) x e)
           ∙ ap (λ (k : ℕ). stopped k (i .memory) 0) (sym (ap numberIn e) ∙ h)
 
@@ -214,7 +214,7 @@ module _ (i : Input) where
 
     met-image : (v : Verdict) → imageVerdict (i .image) ≡ v → Met n
     met-image Accepted h = met-arguments h (ℕ-discrete (length (i .arguments)) (argumentsOf (i .image) 0))
-    met-image (Refused x) h =
+    met-image (Rejected x) h =
         let z = refusal-range x in
         let k : n ≡ numberOfRefusal x = is (numberOfRefusal x) (stops-image (numberOfRefusal x) (z .0) (ap numberIn h)) in
         byImage (omega (arith, z .0)) (omega (arith, z .1)) (ap numberIn h ∙ sym k)

@@ -29,7 +29,7 @@ use Rattle.thread.proofs.MarkedWindows.{window-tests}
 use Rattle.thread.proofs.SerialSteps.{serial, serial-short, serial-faults, serial-sets, serial-loads-parameter, serial-loads, serial-stores, serial-goes, serial-continues, serial-suspends, serial-yields, serial-joins, serial-returns, serial-lforks, serial-forks, serial-lforks-deep, serial-forks-deep, then-child}
 use Rattle.thread.specs.Effect.{asked}
 use Rattle.serial.specs.declared.Routine.{Routine}
-use Rattle.serial.specs.Serial.{Ended, done, stopped, andThen, movedTo, withSlot, goesOn, joined, forked, startedOn, argumentsFrom, weightAt, effectAt, forkCalled, carried, runFrom, serialFrom}
+use Rattle.serial.specs.Serial.{Ended, done, stopped, andThen, jumpedTo, assigned, advanced, joined, forked, startedOn, argumentsFrom, weightAt, nextEffect, forkCalled, carried, callFrom, serialFrom}
 use Rattle.serial.specs.Steps.{GoodRoutine}
 use Rattle.serial.proofs.CommandMet.{ForkMet, Known, Next, next-met, weighs, met, slots-few, fresh}
 use Rattle.serial.proofs.Unrolled.{Between, between, between-done, unrolled}
@@ -70,7 +70,7 @@ module _ (j : Job) (good : GoodJob j) where
   -- runs from u units on, of which fewer than f are left
   Agree : ℕ → Type 0
   Agree f = (n : ℕ) (l : Routine) (m : List ℕ) (u : ℕ) → GoodRoutine j l → length m ≡ 992 → j .allowance < u + f
-      → Same (runFrom j (suc n) l m u) (theory n (stateOf l) (words-from 32 m) u)
+      → Same (callFrom j (suc n) l m u) (theory n (stateOf l) (words-from 32 m) u)
 
   -- "22: units plus the command's weight pass the allowance"
   short : (n : ℕ) (l : Routine) (m : List ℕ) (u : ℕ) → GoodRoutine j l → length m ≡ 992 → j .allowance < u + weightAt j l
@@ -95,13 +95,13 @@ module _ (j : Job) (good : GoodJob j) where
     paid-here : u + codeOf j good .weight (l .routine) (l .position) ≤ j .allowance
     paid-here = rw charged paid
 
-    met-here : (e : Effect) → effectAt j l ≡ e → effect windows window-tests (codeOf j good) (stateOf l) ≡ e
+    met-here : (e : Effect) → nextEffect j l ≡ e → effect windows window-tests (codeOf j good) (stateOf l) ≡ e
     met-here e h = effect-here j good l g ∙ h
 
     -- the routine goes on as l'
     goes : (l' : Routine) (m' : List ℕ) (q : ThreadState Window) (ws' : ℕ → ℕ) → GoodRoutine j l' → length m' ≡ 992 → q ≡ stateOf l' → ws' ≡ words-from 32 m'
         → theory n (stateOf l) ws u ≡ theory n q ws' (u + codeOf j good .weight (l .routine) (l .position))
-        → Same (runFrom j (suc n) l' m' (u + weightAt j l)) (theory n (stateOf l) ws u)
+        → Same (callFrom j (suc n) l' m' (u + weightAt j l)) (theory n (stateOf l) ws u)
     unfolding Agree
     goes l' m' q ws' g' all' e e' step =
         along _ _ _ (step ∙ (λ ι. theory n (e ι) (e' ι) (charged ι))) (ih n l' m' (u + weightAt j l) g' all' (omega (arith, some-weight)))
@@ -110,15 +110,15 @@ module _ (j : Job) (good : GoodJob j) where
     word-there a (yes _) h = refl
     word-there a (no x) h = absurd (x h)
 
-    loads : (d a : ℕ) → effectAt j l ≡ Loads d a → d < 16 → GoodRoutine j (goesOn j (withSlot d (wordAt j m a) l)) → Dec (a < 32)
-        → Same (runFrom j (suc n) (goesOn j (withSlot d (wordAt j m a) l)) m (u + weightAt j l)) (theory n (stateOf l) ws u)
+    loads : (d a : ℕ) → nextEffect j l ≡ Loads d a → d < 16 → GoodRoutine j (advanced j (assigned d (wordAt j m a) l)) → Dec (a < 32)
+        → Same (callFrom j (suc n) (advanced j (assigned d (wordAt j m a) l)) m (u + weightAt j l)) (theory n (stateOf l) ws u)
     loads d a e h g' (yes low) =
-        goes (goesOn j (withSlot d (wordAt j m a) l)) m _ ws g' all
+        goes (advanced j (assigned d (wordAt j m a) l)) m _ ws g' all
         (ap (λ v. onward (codeOf j good) (stateOf l) (update (stateOf l .slots) d v)) (ap (λ t. cond t (getD (j .parameters) a 0) (getD m (a - 32) 0)) (sym (lt-ltb a 32 low)))
         ∙ set-is j good l g d (wordAt j m a) h) refl
         (serial-loads-parameter windows window-tests (codeOf j good) (j .allowance) n (stateOf l) ws u paid-here d a (met-here (Loads d a) e) low)
     loads d a e h g' (no low) =
-        goes (goesOn j (withSlot d (wordAt j m a) l)) m _ ws g' all
+        goes (advanced j (assigned d (wordAt j m a) l)) m _ ws g' all
         (ap (λ v. onward (codeOf j good) (stateOf l) (update (stateOf l .slots) d v)) (word-there a (decLe 32 a) (omega arith)
         ∙ ap (λ t. cond t (getD (j .parameters) a 0) (getD m (a - 32) 0)) (sym (le-ltb a 32 (omega arith))))
         ∙ set-is j good l g d (wordAt j m a) h) refl
@@ -132,9 +132,9 @@ module _ (j : Job) (good : GoodJob j) where
     called r d a e = then-child windows window-tests (codeOf j good) (j .allowance) n (stateOf l) ws u paid-here r d a (childOf (l .window) e) (restOf (l .window) e)
 
     forks : (r d a e : ℕ) → ForkMet j good l g r d a e → GoodRoutine j (startedOn r (argumentsFrom j l r a) (childOf (l .window) e))
-        → ((v : ℕ) → GoodRoutine j (withSlot d v (goesOn j (forked d e l))))
+        → ((v : ℕ) → GoodRoutine j (assigned d v (advanced j (forked d e l))))
         → (n < 31 → theory n (stateOf l) ws u ≡ called r d a e) → (31 ≤ n → theory n (stateOf l) ws u ≡ t-stopped 26 ws u) → Dec (n < 31)
-        → Same (forkCalled j (runFrom j) (suc n) l (asked r d a e) m u) (theory n (stateOf l) ws u)
+        → Same (forkCalled j (callFrom j) (suc n) l (asked r d a e) m u) (theory n (stateOf l) ws u)
     unfolding Agree
     forks r d a e k child parent shallow deep (no h) =
         rw (le-leb 32 (suc n) (omega arith)) (along _ _ _ (deep (omega arith)) (record { same = refl; size = all }))
@@ -142,12 +142,12 @@ module _ (j : Job) (good : GoodJob j) where
         rw (lt-leb 32 (suc n) (omega arith)) (along _ _ _
         (shallow h ∙ (λ ι. and-then (theory (suc n) (child-is j good l g r a e (omega (arith, k .arguments, slots-few j good l g)) ι) ws (charged ι))
         (λ v m' u'. theory n (parent-is j good l g d e v (omega (arith, k .result, slots-few j good l g)) ι) m' u')))
-        (then-same (runFrom j (suc (suc n)) (startedOn r (argumentsFrom j l r a) (childOf (l .window) e)) m (u + weightAt j l)) _ _ _
+        (then-same (callFrom j (suc (suc n)) (startedOn r (argumentsFrom j l r a) (childOf (l .window) e)) m (u + weightAt j l)) _ _ _
         (ih (suc n) (startedOn r (argumentsFrom j l r a) (childOf (l .window) e)) m (u + weightAt j l) child all (omega (arith, some-weight)))
-        (λ v m' u' x all'. ih n (withSlot d v (goesOn j (forked d e l))) m' u' (parent v) all' (later v m' u' x))))
+        (λ v m' u' x all'. ih n (assigned d v (advanced j (forked d e l))) m' u' (parent v) all' (later v m' u' x))))
       where
         later : (v : ℕ) (m' : List ℕ) (u' : ℕ)
-            → runFrom j (suc (suc n)) (startedOn r (argumentsFrom j l r a) (childOf (l .window) e)) m (u + weightAt j l) ≡ done v m' u'
+            → callFrom j (suc (suc n)) (startedOn r (argumentsFrom j l r a) (childOf (l .window) e)) m (u + weightAt j l) ≡ done v m' u'
             → j .allowance < u' + f
         later v m' u' x =
             let b = between j (suc (suc n)) (startedOn r (argumentsFrom j l r a) (childOf (l .window) e)) m (u + weightAt j l) paid in
@@ -155,22 +155,22 @@ module _ (j : Job) (good : GoodJob j) where
             omega (arith, c .0, some-weight)
 
     -- by the effect
-    by-effect : (e : Effect) → effectAt j l ≡ e → Known j good l g e → Next j l e
-        → Same (carried j (runFrom j) (suc n) l m u e) (theory n (stateOf l) ws u)
+    by-effect : (e : Effect) → nextEffect j l ≡ e → Known j good l g e → Next j l e
+        → Same (carried j (callFrom j) (suc n) l m u e) (theory n (stateOf l) ws u)
     unfolding carried
     by-effect (Faults x) e k g' = record {
       same = sym (serial-faults windows window-tests (codeOf j good) (j .allowance) n (stateOf l) ws u paid-here x (met-here (Faults x) e));
       size = all;
     }
-    by-effect (Sets d v) e k g' = goes (goesOn j (withSlot d v l)) m _ ws g' all (set-is j good l g d v (k .reach)) refl
+    by-effect (Sets d v) e k g' = goes (advanced j (assigned d v l)) m _ ws g' all (set-is j good l g d v (k .reach)) refl
         (serial-sets windows window-tests (codeOf j good) (j .allowance) n (stateOf l) ws u paid-here d v (met-here (Sets d v) e))
     by-effect (Loads d a) e k g' = loads d a e (k .reach .0) (g' (wordAt j m a)) (decLt a 32)
-    by-effect (Stores a v) e k g' = goes (goesOn j l) (set m (a - 32) v) _ _ g' (length-set m (a - 32) v ∙ all) (onward-is j good l g)
+    by-effect (Stores a v) e k g' = goes (advanced j l) (set m (a - 32) v) _ _ g' (length-set m (a - 32) v ∙ all) (onward-is j good l g)
         (sym (words-set 32 m a v (k .reach .0) (omega (arith, k .reach .1, all))))
         (serial-stores windows window-tests (codeOf j good) (j .allowance) n (stateOf l) ws u paid-here a v (met-here (Stores a v) e))
-    by-effect (Goes p) e k g' = goes (movedTo p l) m _ ws g' all refl refl
+    by-effect (Goes p) e k g' = goes (jumpedTo p l) m _ ws g' all refl refl
         (serial-goes windows window-tests (codeOf j good) (j .allowance) n (stateOf l) ws u paid-here p (met-here (Goes p) e))
-    by-effect Continues e k g' = goes (goesOn j l) m _ ws g' all (onward-is j good l g) refl
+    by-effect Continues e k g' = goes (advanced j l) m _ ws g' all (onward-is j good l g) refl
         (serial-continues windows window-tests (codeOf j good) (j .allowance) n (stateOf l) ws u paid-here (met-here Continues e))
     by-effect (Lforks r d a c) e k g' = forks r d a c (k .told .facts .0) (g' .0) (g' .1)
         (λ h. serial-lforks windows window-tests (codeOf j good) (j .allowance) n (stateOf l) ws u paid-here r d a c (childOf (l .window) c) (restOf (l .window) c)
@@ -182,11 +182,11 @@ module _ (j : Job) (good : GoodJob j) where
         (met-here (Forks r d a c) e) (parts r d a c (k .told .facts .0)) h)
         (λ h. serial-forks-deep windows window-tests (codeOf j good) (j .allowance) n (stateOf l) ws u paid-here r d a c (childOf (l .window) c) (restOf (l .window) c)
         (met-here (Forks r d a c) e) (parts r d a c (k .told .facts .0)) h) (decLt n 31)
-    by-effect Joins e k g' = goes (goesOn j (joined l)) m _ ws g' all (join-is j good l g) refl
+    by-effect Joins e k g' = goes (advanced j (joined l)) m _ ws g' all (join-is j good l g) refl
         (serial-joins windows window-tests (codeOf j good) (j .allowance) n (stateOf l) ws u paid-here (met-here Joins e))
-    by-effect Suspends e k g' = goes (goesOn j l) m _ ws g' all (onward-is j good l g) refl
+    by-effect Suspends e k g' = goes (advanced j l) m _ ws g' all (onward-is j good l g) refl
         (serial-suspends windows window-tests (codeOf j good) (j .allowance) n (stateOf l) ws u paid-here (met-here Suspends e))
-    by-effect Yields e k g' = goes (goesOn j l) m _ ws g' all (onward-is j good l g) refl
+    by-effect Yields e k g' = goes (advanced j l) m _ ws g' all (onward-is j good l g) refl
         (serial-yields windows window-tests (codeOf j good) (j .allowance) n (stateOf l) ws u paid-here (met-here Yields e))
     by-effect (Returns v) e k g' = record {
       same = sym (serial-returns windows window-tests (codeOf j good) (j .allowance) n (stateOf l) ws u paid-here v (met-here (Returns v) e)
@@ -196,10 +196,10 @@ module _ (j : Job) (good : GoodJob j) where
 
   by-test : (f : ℕ) → Agree f → (n : ℕ) (l : Routine) (m : List ℕ) (u : ℕ) → GoodRoutine j l → length m ≡ 992 → j .allowance < u + suc f → (b : Bool)
       → ltb (j .allowance - u) (weightAt j l) ≡ b
-      → Same (cond b (stopped 22 m u) (carried j (runFrom j) (suc n) l m u (effectAt j l))) (theory n (stateOf l) (words-from 32 m) u)
+      → Same (cond b (stopped 22 m u) (carried j (callFrom j) (suc n) l m u (nextEffect j l))) (theory n (stateOf l) (words-from 32 m) u)
   by-test f ih n l m u g all left true t = short n l m u g all (omega (arith, ltb-true (j .allowance - u) (weightAt j l) t))
   by-test f ih n l m u g all left false t =
-      by-effect f ih n l m u g all left (omega (arith, ltb-false (j .allowance - u) (weightAt j l) t, weighs j good l g)) (effectAt j l) refl
+      by-effect f ih n l m u g all left (omega (arith, ltb-false (j .allowance - u) (weightAt j l) t, weighs j good l g)) (nextEffect j l) refl
       (met j good l g) (next-met j good l g)
 
   agree : (f : ℕ) → Agree f
@@ -208,7 +208,7 @@ module _ (j : Job) (good : GoodJob j) where
       let w = weighs j good l g in
       let h = lt-ltb (j .allowance - u) (weightAt j l) (omega arith) in
       subst (λ x. Same x (theory n (stateOf l) (words-from 32 m) u))
-      (sym (unrolled j good (suc n) l m u g ∙ ap (λ b. cond b (stopped 22 m u) (carried j (runFrom j) (suc n) l m u (effectAt j l))) h))
+      (sym (unrolled j good (suc n) l m u g ∙ ap (λ b. cond b (stopped 22 m u) (carried j (callFrom j) (suc n) l m u (nextEffect j l))) h))
       (short n l m u g all (omega arith))
   agree (suc f) n l m u g all left =
       subst (λ x. Same x (theory n (stateOf l) (words-from 32 m) u)) (sym (unrolled j good (suc n) l m u g))

@@ -1,7 +1,7 @@
 -- Each whole-run number is given exactly under its condition, by a run by a schedule and by the built-in scheduler. Assumes nothing.
 use borrow.Author.Tests.{eqb-true, eqb-false, ltb-true, ltb-false, eq-eqb, ne-eqb, lt-ltb, le-ltb}
 use mathlib.Core.Bool.{Bool, true, false, cond, _||_, not}
-use mathlib.Core.List.{List, [], _∷_, _++_}
+use mathlib.Core.List.{List, []}
 use mathlib.Core.Logic.{_⊎_, inl, inr}
 use mathlib.Core.Path.{_≡_, refl, sym, _∙_, ap, subst}
 use Prim.Native.Nat.{ℕ, _≤_, _<_}
@@ -9,7 +9,7 @@ use native.Mathlib.Omega.{arith}
 use lib.Dec.{ltb, eqb}
 use lib.ListN.{length}
 use Rattle.image.specs.declared.Verdict.{Verdict}
-use Rattle.image.specs.declared.Verdict.the-variants.{Accepted, Refused}
+use Rattle.image.specs.declared.Verdict.the-variants.{Accepted, Rejected}
 use Rattle.image.specs.declared.Refusal.{Refusal}
 use Rattle.image.specs.declared.Refusal.the-variants.{BadLength, BadCount, BadRow, UnknownByte, OperandsCutOff, OutOfRange, BadEnd, BadTarget}
 use Rattle.image.specs.Layout.{argumentsOf}
@@ -120,7 +120,7 @@ module _ (i : Input) (schedule log : List ℕ) where
   met-image : GoodCores i → (v : Verdict) → imageVerdict (i .image) ≡ v
       → Met (fromImage (numberIn v) argumentsRight (scheduleOf schedule) parametersRight memoryRight)
   met-image g Accepted h = met-arguments g h argumentsRight refl
-  met-image g (Refused r) h =
+  met-image g (Rejected r) h =
       let z = refusal-range r in
       subst Met (sym (given (numberOfRefusal r) (fromArguments argumentsRight (scheduleOf schedule) parametersRight memoryRight) (z .0)))
       (byImage (z .0) (z .1) g (ap numberIn h))

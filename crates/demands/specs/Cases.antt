@@ -1,11 +1,17 @@
 -- Document 01's starred bench cases, all as runs: what the run is given, and its log and answer. Words start zero.
+use mathlib.Core.Bool.{cond}
 use mathlib.Core.List.{List, [], _∷_}
+use mathlib.Core.Path.{_≡_}
 use Prim.Native.Nat.{ℕ}
+use lib.Dec.{eqb}
 use lib.ListN.{replicate}
 use Rattle.image.specs.Cases.{oneRoutine, whole}
+use Rattle.schedule.specs.declared.Entry.{Entry}
+use Rattle.schedule.specs.Meaning.{Schedule, entries, malformed, scheduleOf}
+use Rattle.rules.specs.Runs.{runFrom, logsFrom}
 use Rattle.demands.specs.declared.RunAnswer.{RunAnswer}
 use Rattle.demands.specs.declared.RunAnswer.the-variants.{Refused, Finished, Open}
-use Rattle.demands.specs.Input.{Input}
+use Rattle.demands.specs.Input.{Input, jobIn, startIn, refusalOf, answerOf}
 
 -- a row of the table
 pub record Case : Type 0 where
@@ -56,3 +62,23 @@ starred =
       answer = Finished 10 20;
     }
     ∷ []
+
+-- the entries of a schedule; none of one that is malformed
+abbrev pub entriesIn : Schedule → List Entry
+entriesIn (entries es) = es
+entriesIn malformed = []
+
+-- a run's answer and log, by its definitions, with a log of 64 bytes lent
+abbrev pub answered : Input → List ℕ → RunAnswer
+answered i schedule =
+    cond (eqb (refusalOf i schedule (replicate 64 0)) 0)
+    (answerOf (runFrom (jobIn i) (startIn i) (entriesIn (scheduleOf schedule)) .outcome) (runFrom (jobIn i) (startIn i) (entriesIn (scheduleOf schedule)) .units))
+    (Refused (refusalOf i schedule (replicate 64 0)))
+
+abbrev pub loggedBy : Input → List ℕ → List ℕ
+loggedBy i schedule = cond (eqb (refusalOf i schedule (replicate 64 0)) 0) (logsFrom (jobIn i) (startIn i) (entriesIn (scheduleOf schedule))) []
+
+-- each row's run gives its answer and its log
+abbrev pub RunsHold : List Case → Type 0
+RunsHold [] = Unit {0}
+RunsHold (c ∷ cs) = (answered (c .input) (c .schedule) ≡ c .answer) × (loggedBy (c .input) (c .schedule) ≡ c .log) × RunsHold cs

@@ -7,8 +7,8 @@ use Prim.Native.Nat.{ℕ, _≤_, _<_}
 use lib.ListN.{length, getD, take, drop}
 use Rattle.command.specs.declared.Command.{Command}
 use Rattle.command.specs.declared.CommandRead.the-variants.{Found}
-use Rattle.command.specs.Command.{commandAt, bytesOf}
-use Rattle.command.specs.Encoded.{Fits}
+use Rattle.command.specs.Command.{commandAt, bytesOfCommand}
+use Rattle.command.specs.Encoded.{OperandsFit}
 use Rattle.image.specs.declared.Verdict.the-variants.{Accepted}
 use Rattle.image.specs.Layout.{argumentsOf}
 use Rattle.image.specs.Image.{imageVerdict}
@@ -67,10 +67,10 @@ pub record Demand2 (i : Input) (es : List Entry) (logs : List ℕ) : Type 0 wher
   -- "and meets a refusal only under that number's condition"
   pub numbers : (before after : List Entry) → es ≡ before ++ after → Numbers (jobIn i) (stateAfter i before)
   -- "A written command reads back as itself", whatever follows it
-  pub back : (command : Command) (rest : List ℕ) → Fits command → commandAt (bytesOf command ++ rest) 0 ≡ Found command (length (bytesOf command))
+  pub back : (command : Command) (rest : List ℕ) → OperandsFit command → commandAt (bytesOfCommand command ++ rest) 0 ≡ Found command (length (bytesOfCommand command))
   -- "and an accepted command's bytes are written again unchanged"
   pub again : (bytes : List ℕ) → ((k : ℕ) → getD bytes k 0 < 256) → (at : ℕ) (command : Command) (n : ℕ) → commandAt bytes at ≡ Found command n
-      → bytesOf command ≡ take n (drop at bytes)
+      → bytesOfCommand command ≡ take n (drop at bytes)
 
 -- "the plain run of document 01, fed the same but for core count and schedule"
 abbrev pub serialIn : Input → Ended

@@ -5,7 +5,7 @@ use Prim.Native.Nat.{ℕ, _≤_, _<_}
 use borrow.Author.Tests.{lt-ltb, le-ltb, le-leb, lt-leb}
 use Rattle.queue.specs.declared.Front.{Front}
 use Rattle.queue.specs.declared.Front.the-variants.{Number, Nothing}
-use Rattle.queue.specs.Contents.{firstOf, restOf}
+use Rattle.queue.specs.Contents.{firstOf, tailOf}
 use Rattle.queue.proofs.Laws.{nothing-empty, number-first}
 use Rattle.thread.specs.declared.Thread.{Thread}
 use Rattle.thread.specs.declared.Status.the-variants.{Running, Ready, Suspended}
@@ -35,7 +35,7 @@ module _ (s : State) (c : ℕ) (b : Bool) (e : b ≡ isOver (s .outcome)) where
         unfolding takeOf takeInto
         take-none f = rw (← e, going, ← count, lt-leb _ _ core, ← on, le-ltb _ _ idle, nothing-empty (s .queues .ready) (sym hf ∙ f))
 
-        pub took : (t : ℕ) (s1 s2 s3 : State) (th a : Thread) → first ≡ Number t → s1 ≡ setReady (restOf (s .queues .ready)) s
+        pub took : (t : ℕ) (s1 s2 s3 : State) (th a : Thread) → first ≡ Number t → s1 ≡ setReady (tailOf (s .queues .ready)) s
             → th ≡ threadAt s1 t → a ≡ withStatus Running th → s2 ≡ setThread t a s1 → s3 ≡ setCore c t s2 → accepted s3 ≡ takeOf s c
         unfolding takeOf takeInto
         took t s1 s2 s3 th a f g1 ht ha g2 g3 =

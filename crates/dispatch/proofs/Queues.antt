@@ -6,7 +6,7 @@ use mathlib.Core.Path.{_≡_, ap, _∙_}
 use Prim.Native.Nat.{ℕ, _<_}
 use native.Mathlib.Omega.{arith}
 use Rattle.queue.specs.declared.Front.the-variants.{Number}
-use Rattle.queue.specs.Contents.{contents, firstOf, restOf, appended, capacity, Dequeues, Enqueues}
+use Rattle.queue.specs.Contents.{contents, firstOf, tailOf, appended, capacity, Dequeues, Enqueues}
 use Rattle.thread.specs.Thread.{_is_}
 use Rattle.dispatch.specs.Orderly.{HeadBelow}
 
@@ -23,5 +23,5 @@ behind-last q r n xs e f = f .all ∙ ap (λ (l : List ℕ). appended capacity l
 pub first-of : (q : Queue) (d : Dequeued) (xs : List ℕ) → contents q ≡ xs → Dequeues q d → d .first ≡ firstOf xs
 first-of q d xs e f = f .first ∙ ap firstOf e
 
-pub rest-of : (q : Queue) (d : Dequeued) (xs : List ℕ) → contents q ≡ xs → Dequeues q d → contents (d .queue) ≡ restOf xs
-rest-of q d xs e f = f .rest ∙ ap restOf e
+pub rest-of : (q : Queue) (d : Dequeued) (xs : List ℕ) → contents q ≡ xs → Dequeues q d → contents (d .queue) ≡ tailOf xs
+rest-of q d xs e f = f .rest ∙ ap tailOf e

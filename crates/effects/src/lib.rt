@@ -19,7 +19,7 @@ ghost use Rattle.window.specs.Rights.{mayLoad, mayStore};
 ghost use Rattle.stacklets.specs.Frames.{slotOf};
 ghost use Rattle.thread.specs.declared.Effect.the-variants.{Sets, Loads, Stores, Goes, Continues, Lforks, Forks, Returns};
 ghost use Rattle.thread.specs.Effect.{run, anyPending, unlessPending, provided, sum, difference, forking, effectOf};
-ghost use Rattle.thread.specs.View.{mayCut, viewOf};
+ghost use Rattle.thread.specs.View.{mayCut, contextOf};
 ghost use Rattle.thread.specs.Thread.{isPending};
 
 // Is a cut at e in the window's range?
@@ -29,7 +29,7 @@ fn may_cut(window: Window, e: u32) -> bool
     let cut = window.cut(e);
     match cut {
         Cut::Parts { child: _, rest: _ } => true,
-        Cut::OutOfRange => false,
+        Cut::BadCut => false,
     }
 }
 
@@ -177,7 +177,7 @@ fn lfork(
     a: u8,
     w: u8,
 ) -> Effect
-    ensures { λ r. ⌜ r ≡ forking (argumentsOf (now (image .entry))) (viewOf (slotOf (now (words .entry)) base) (isPending pending) window) routine d a w (Lforks routine d a (slotOf (now (words .entry)) base w)) ⌝ }
+    ensures { λ r. ⌜ r ≡ forking (argumentsOf (now (image .entry))) (contextOf (slotOf (now (words .entry)) base) (isPending pending) window) routine d a w (Lforks routine d a (slotOf (now (words .entry)) base w)) ⌝ }
 {
     let e = slot(words, base, w);
     let forks = Effect::Lforks(routine, d, a, e);
@@ -196,7 +196,7 @@ pub fn fork(
     a: u8,
     w: u8,
 ) -> Effect
-    ensures { λ r. ⌜ r ≡ forking (argumentsOf (now (image .entry))) (viewOf (slotOf (now (words .entry)) base) (isPending pending) window) routine d a w (Forks routine d a (slotOf (now (words .entry)) base w)) ⌝ }
+    ensures { λ r. ⌜ r ≡ forking (argumentsOf (now (image .entry))) (contextOf (slotOf (now (words .entry)) base) (isPending pending) window) routine d a w (Forks routine d a (slotOf (now (words .entry)) base w)) ⌝ }
 {
     let e = slot(words, base, w);
     let forks = Effect::Forks(routine, d, a, e);
@@ -222,7 +222,7 @@ pub fn effect(
     pending: u16,
     window: Window,
 ) -> Effect
-    ensures { λ r. ⌜ r ≡ effectOf (argumentsOf (now (image .entry))) (viewOf (slotOf (now (words .entry)) base) (isPending pending) window) command ⌝ }
+    ensures { λ r. ⌜ r ≡ effectOf (argumentsOf (now (image .entry))) (contextOf (slotOf (now (words .entry)) base) (isPending pending) window) command ⌝ }
 {
     match command {
         Command::Set(d, v) => set(pending, d, v),

@@ -6,11 +6,11 @@ use Prim.Native.Nat.{ℕ, _+_, _/_, _%_, _≤_, _<_}
 use Rattle.image.specs.Layout.{slotsOf, argumentsOf}
 use Rattle.queue.specs.declared.Front.{Front}
 use Rattle.queue.specs.declared.Front.the-variants.{Number, Nothing}
-use Rattle.queue.specs.Contents.{firstOf, restOf}
+use Rattle.queue.specs.Contents.{firstOf, tailOf}
 use Rattle.queue.proofs.Laws.{nothing-empty, number-first}
 use Rattle.stacklets.specs.Tops.{isTopmost, fitsOn, baseOn, pushedTops}
 use Rattle.stacklets.specs.Frames.{pushedWords, argumentsAt}
-use Rattle.window.specs.Rights.{childOf, restOf as rest-of, cutAt}
+use Rattle.window.specs.Rights.{childOf, restOf, cutAt}
 use Rattle.thread.specs.declared.Status.{Status}
 use Rattle.thread.specs.declared.Thread.{Thread}
 use Rattle.thread.specs.Thread.{originOf, newThread, behindFork}
@@ -26,7 +26,7 @@ use native.Mathlib.Nat.{mod-eq-of-lt}
 use lib.ListN.{length}
 use Rattle.window.specs.declared.Window.{Window}
 use Rattle.window.specs.declared.Cut.{Cut}
-use Rattle.window.specs.declared.Cut.the-variants.{Parts, OutOfRange}
+use Rattle.window.specs.declared.Cut.the-variants.{Parts, BadCut}
 use Rattle.window.proofs.Laws.{cut-means, cut-made}
 use Rattle.tables.specs.Change.{Reads, Becomes, Pushes, pushes}
 use Rattle.dispatch.proofs.Queues.{head-below}
@@ -38,21 +38,21 @@ unfolding meaning
 with-words xs ws ws' ms = refl
 
 -- the place by the stacklet that is found, with the free stacklets that are left
-place-go : (above : Bool) (p : ℕ) (free : List ℕ) → placeBy (cond above (Number p) (firstOf free)) (cond above free (restOf free)) ≡ placeOf above p free
+place-go : (above : Bool) (p : ℕ) (free : List ℕ) → placeBy (cond above (Number p) (firstOf free)) (cond above free (tailOf free)) ≡ placeOf above p free
 unfolding placeOf
 place-go true p free = refl
 place-go false p [] = refl
 place-go false p (y ∷ ys) = refl
 
 place-by : (above : Bool) (p : ℕ) (free : List ℕ) (spot : Front) → spot ≡ cond above (Number p) (firstOf free)
-    → placeBy spot (cond above free (restOf free)) ≡ placeOf above p free
+    → placeBy spot (cond above free (tailOf free)) ≡ placeOf above p free
 place-by above p free spot e = rw e (place-go above p free)
 
 -- where no stacklet is free, handing one out changes nothing
-rest-none : (free : List ℕ) → firstOf free ≡ Nothing → restOf free ≡ free
+rest-none : (free : List ℕ) → firstOf free ≡ Nothing → tailOf free ≡ free
 rest-none free e = rw (nothing-empty free e)
 
-pub none-left : (s : State) (rest : List ℕ) → rest ≡ restOf (s .queues .freeStacklets) → firstOf (s .queues .freeStacklets) ≡ Nothing → setFreeStacklets rest s ≡ s
+pub none-left : (s : State) (rest : List ℕ) → rest ≡ tailOf (s .queues .freeStacklets) → firstOf (s .queues .freeStacklets) ≡ Nothing → setFreeStacklets rest s ≡ s
 none-left s rest e f = ap (λ (xs : List ℕ). setFreeStacklets xs s) (e ∙ rest-none (s .queues .freeStacklets) f)
 
 module _ (j : Job) (s : State) (o : Turn) (f : Asked) where
@@ -69,7 +69,7 @@ module _ (j : Job) (s : State) (o : Turn) (f : Asked) where
     unfolding goesAbove
     place-found = rw (← e0, ← e4, ← e3, ← e5) (sym (place-by above (o .thread .origin .base / 64) (s .queues .freeStacklets) spot e6))
 
-    pub fork-found : forkOn s (λ x xs. born j s kind o f (handed n (restOf (s .queues .freeThreads)) x xs)) (placeBy spot (leftBy above s .queues .freeStacklets)) ≡ forkOf j s kind o f
+    pub fork-found : forkOn s (λ x xs. born j s kind o f (handed n (tailOf (s .queues .freeThreads)) x xs)) (placeBy spot (leftBy above s .queues .freeStacklets)) ≡ forkOf j s kind o f
     unfolding forkOf forkWith
     fork-found = rw (← place-found, number-first (s .queues .freeThreads) n (sym e1 ∙ e2))
 
@@ -103,7 +103,7 @@ module _ (j : Job) (s : State) (o : Turn) (f : Asked) where
         hw' : ws ≡ pushedWords (s .store .tops) (s .store .words) x size (argumentsAt (s .store .words) (o .thread .origin .base + f .first) ar)
         hw' = hw ∙ ap (λ (ts : List ℕ). pushedWords ts (s .store .words) x size (argumentsAt (s .store .words) (o .thread .origin .base + f .first) ar)) same4
 
-        go : accepted s6 ≡ forkOn s (λ x xs. born j s kind o f (handed n (restOf (s .queues .freeThreads)) x xs)) (placeBy spot (leftBy above s .queues .freeStacklets))
+        go : accepted s6 ≡ forkOn s (λ x xs. born j s kind o f (handed n (tailOf (s .queues .freeThreads)) x xs)) (placeBy spot (leftBy above s .queues .freeStacklets))
         go = rw (g6, g5', g4, g3, g2, g1, g0, hb', hw', ha, e4, e7)
 
 -- the stacklet that is found is one of 16
@@ -113,10 +113,10 @@ spot-low true p x free spot l h f g = let z : p ≡ x = cc in omega arith
 spot-low false p x free spot l h f g = head-below free 16 x h (sym f ∙ g)
 
 -- the two parts of a cut in range
-pub cut-parts : (w : Window) (e : ℕ) (c : Cut) (child rest : Window) → c ≡ cutAt w e → c ≡ Parts child rest → (child ≡ childOf w e) × (rest ≡ rest-of w e)
+pub cut-parts : (w : Window) (e : ℕ) (c : Cut) (child rest : Window) → c ≡ cutAt w e → c ≡ Parts child rest → (child ≡ childOf w e) × (rest ≡ restOf w e)
 cut-parts w e c child rest f g = let m = cut-means w e child rest (sym f ∙ g) in (m .is-child, m .is-rest)
 
-pub cut-never : (w : Window) (e : ℕ) (c : Cut) → w .mark ≤ e → e ≤ w .hi → c ≡ cutAt w e → c ≡ OutOfRange → ⊥
+pub cut-never : (w : Window) (e : ℕ) (c : Cut) → w .mark ≤ e → e ≤ w .hi → c ≡ cutAt w e → c ≡ BadCut → ⊥
 cut-never w e c l h f g = let k = cut-made w e l h in let z : _≡_ {A = ℕ} 0 1 = cc in omega arith
 
 -- a new frame on a stacklet below 16

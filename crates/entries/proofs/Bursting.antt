@@ -18,12 +18,12 @@ use Rattle.thread.specs.declared.Thread.{Thread}
 use Rattle.thread.specs.declared.Effect.{Effect}
 use Rattle.thread.specs.Thread.{blankThread, movedTo, isPending}
 use Rattle.thread.specs.Effect.{effectOf, bytesBy}
-use Rattle.thread.specs.View.{viewOf}
+use Rattle.thread.specs.View.{contextOf}
 use Rattle.thread.proofs.EffectFacts.{Guarded}
 use Rattle.thread.proofs.Widths.{Widened}
 use Rattle.stacklets.specs.Frames.{slotOf}
 use Rattle.image.specs.Layout.{argumentsOf}
-use Rattle.rules.specs.Turn.{Turn, offsetOf, byteOf, done}
+use Rattle.rules.specs.Turn.{Turn, offsetOf, byteOf, completed}
 use Rattle.entries.specs.Given.{Seated, Leaving, Carrying, recordIn, turnWith, turnIn}
 use Rattle.dispatch.specs.Orderly.{after}
 use Rattle.entries.proofs.Meeting.{place-low, next-low, known-byte, tested, wide, few, based, carrying}
@@ -41,7 +41,7 @@ use Rattle.tables.specs.Meaning.{size, meaning}
 use Rattle.tables.specs.Change.{Becomes}
 use Rattle.entries.specs.declared.Carried.{Carried}
 use Rattle.entries.specs.Repeat.{repeated, Repeats}
-use Rattle.entries.specs.Burst.{Busy, standsAt, shortOf, restOf}
+use Rattle.entries.specs.Burst.{Busy, standsAt, shortOf, restGiven}
 
 below-or : (i n : ℕ) → i < suc n → (i < n) ⊎ (i ≡ n)
 below-or zero zero l = inr refl
@@ -105,10 +105,10 @@ module _ {image starts parameters : List ℕ} {allowance : ℕ} {xs ws₀ ms₀ 
 
   -- its effect
   abbrev pub Does : List ℕ → ℕ → Effect → Type 0
-  Does ws place e = e ≡ effectOf (argumentsOf image) (viewOf (slotOf ws (th₀ .origin .base)) (isPending (th₀ .family .pending)) (th₀ .family .window)) (decodedAt image place)
+  Does ws place e = e ≡ effectOf (argumentsOf image) (contextOf (slotOf ws (th₀ .origin .base)) (isPending (th₀ .family .pending)) (th₀ .family .window)) (decodedAt image place)
 
   pub does : (th : Thread) (place : ℕ) (ws five : List ℕ) (command : Command) (e : Effect) → th ≡ th₀ → five ≡ fiveAt image place → command ≡ decodedAt five 0
-      → e ≡ effectOf (argumentsOf image) (viewOf (slotOf ws (th .origin .base)) (isPending (th .family .pending)) (th .family .window)) command → Does ws place e
+      → e ≡ effectOf (argumentsOf image) (contextOf (slotOf ws (th .origin .base)) (isPending (th .family .pending)) (th .family .window)) command → Does ws place e
   does th place ws five command e seen bytes is f = f ∙ rw (seen, is, bytes) refl
 
   many : length (s₀ .threads) ≡ 32
@@ -224,19 +224,19 @@ module _ {image starts parameters : List ℕ} {allowance : ℕ} {xs ws₀ ms₀ 
 
         wider : Widened (widthOf byte) e
         wider = subst (λ (b : ℕ). Widened (widthOf b) e) byte-is
-            (rw (is, at .there) (wide j (held p left ws ms) sound t (movedTo p th₀) met used (viewOf (slotOf ws (th₀ .origin .base)) (isPending (th₀ .family .pending)) (th₀ .family .window))))
+            (rw (is, at .there) (wide j (held p left ws ms) sound t (movedTo p th₀) met used (contextOf (slotOf ws (th₀ .origin .base)) (isPending (th₀ .family .pending)) (th₀ .family .window))))
 
-        pub guarded : Guarded (argumentsOf image) (viewOf (slotOf ws (th₀ .origin .base)) (isPending (th₀ .family .pending)) (th₀ .family .window)) e
-        guarded = rw (is, at .there) (tested j (held p left ws ms) sound t (movedTo p th₀) met used (viewOf (slotOf ws (th₀ .origin .base)) (isPending (th₀ .family .pending)) (th₀ .family .window)))
+        pub guarded : Guarded (argumentsOf image) (contextOf (slotOf ws (th₀ .origin .base)) (isPending (th₀ .family .pending)) (th₀ .family .window)) e
+        guarded = rw (is, at .there) (tested j (held p left ws ms) sound t (movedTo p th₀) met used (contextOf (slotOf ws (th₀ .origin .base)) (isPending (th₀ .family .pending)) (th₀ .family .window)))
 
         no-join : byte ≡ 10 → IsOther e
-        no-join ten = rw (is, ← at .first, ten) (joins (argumentsOf image) (viewOf (slotOf ws (th₀ .origin .base)) (isPending (th₀ .family .pending)) (th₀ .family .window))
+        no-join ten = rw (is, ← at .first, ten) (joins (argumentsOf image) (contextOf (slotOf ws (th₀ .origin .base)) (isPending (th₀ .family .pending)) (th₀ .family .window))
             (getD image (place + 1) 0) (getD image (place + 2) 0) (getD image (place + 3) 0) (getD image (place + 4) 0))
 
         -- its weight is left
         module _ (enough : weight ≤ left) where
           -- what an own effect does to what is held
-          moved : (p' : ℕ) (ws' ms' : List ℕ) → done turn (movedTo p' (movedTo p th₀)) (withBoth ws' ms' (held p left ws ms)) ≡ held p' (left - weight) ws' ms'
+          moved : (p' : ℕ) (ws' ms' : List ℕ) → completed turn (movedTo p' (movedTo p th₀)) (withBoth ws' ms' (held p left ws ms)) ≡ held p' (left - weight) ws' ms'
           unfolding meaning
           moved p' ws' ms' =
               let units : (allowance - left) + weight ≡ allowance - (left - weight) = omega (arith, made .few, enough) in
@@ -298,12 +298,12 @@ module _ {image starts parameters : List ℕ} {allowance : ℕ} {xs ws₀ ms₀ 
               (free-first j (meaning ys ws ms) ok) (stacklet-first j (meaning ys ws ms) ok) e (guarded e is) other
 
           pub ends-rest : (more : ℕ) (r : Carried) (zs vs : List ℕ) → k ≤ more → r .again ≡ k
-              → after (r .log) zs vs ms ≡ restOf j (meaning ys ws ms) (turnIn ys c t weight ((p + bytesBy e) % 2 ^ 16) place) e waits
+              → after (r .log) zs vs ms ≡ restGiven j (meaning ys ws ms) (turnIn ys c t weight ((p + bytesBy e) % 2 ^ 16) place) e waits
               → Repeats j s₀ (Step c) more r (meaning zs vs ms)
           unfolding meaning
           ends-rest more r zs vs l again f =
               ends-by back more r zs vs l again
-              (f ∙ ap (λ (x : State). restOf j x (turnIn ys c t weight ((p + bytesBy e) % 2 ^ 16) place) e waits) (put back)
-              ∙ ap (λ (h : Thread). restOf j (held p left ws ms) (turnWith c t h weight ((p + bytesBy e) % 2 ^ 16) place) e waits) same
+              (f ∙ ap (λ (x : State). restGiven j x (turnIn ys c t weight ((p + bytesBy e) % 2 ^ 16) place) e waits) (put back)
+              ∙ ap (λ (h : Thread). restGiven j (held p left ws ms) (turnWith c t h weight ((p + bytesBy e) % 2 ^ 16) place) e waits) same
               ∙ rest-is j (held p left ws ms) c t (busy .going) (busy .core) (busy .on) (busy .number) (movedTo p th₀) met place byte left e (at .there) (at .first)
               (omega (arith, made .few)) is (wider e is) next-fits enough)

@@ -13,8 +13,8 @@ use Rattle.window.proofs.Laws.{store-means}
 use Rattle.thread.specs.declared.Thread.{Thread}
 use Rattle.thread.specs.declared.Effect.{Effect}
 use Rattle.thread.specs.declared.Effect.the-variants.{Faults, Sets, Loads, Stores, Goes, Continues, Lforks, Forks, Joins, Suspends, Yields, Returns}
-use Rattle.thread.specs.Effect.{Own, bytesBy, effectOf}
-use Rattle.thread.specs.View.{viewOf}
+use Rattle.thread.specs.Effect.{Context, bytesBy, effectOf}
+use Rattle.thread.specs.View.{contextOf}
 use Rattle.thread.proofs.EffectFacts.{Guarded}
 use Rattle.thread.proofs.Routines.{InRange}
 use Rattle.thread.proofs.Widths.{Widened}
@@ -43,10 +43,10 @@ module _ (j : Job) (s : State) (ok : Sound j s) (t : ℕ) (th : Thread) (met : t
   pub range : InRange (decodedAt (j .image) (offsetOf j th))
   range = rw met (operands-few j (ok .job) (threadAt s t .origin .routine) (threadAt s t .position) (ok .placed .routine t used) (ok .placed .position t used))
 
-  pub tested : (own : Own) → Guarded (argumentsOf (j .image)) own (effectOf (argumentsOf (j .image)) own (decodedAt (j .image) (offsetOf j th)))
+  pub tested : (own : Context) → Guarded (argumentsOf (j .image)) own (effectOf (argumentsOf (j .image)) own (decodedAt (j .image) (offsetOf j th)))
   tested own = rw met (tested-here j (ok .job) (threadAt s t .origin .routine) (threadAt s t .position) (ok .placed .routine t used) (ok .placed .position t used) own)
 
-  pub wide : (own : Own) → Widened (widthOf (byteOf j th)) (effectOf (argumentsOf (j .image)) own (decodedAt (j .image) (offsetOf j th)))
+  pub wide : (own : Context) → Widened (widthOf (byteOf j th)) (effectOf (argumentsOf (j .image)) own (decodedAt (j .image) (offsetOf j th)))
   wide own = rw met (width-here j (ok .job) (threadAt s t .origin .routine) (threadAt s t .position) (ok .placed .routine t used) (ok .placed .position t used) own)
 
   pub few : th .family .children < 255
@@ -77,7 +77,7 @@ carried-wide j s c t w offset p n h (Returns v) k l = refl
 
 -- what was tested is what carrying out relies on
 module _ (arguments slot : ℕ → ℕ) (pending : ℕ → Bool) (w : Window) where
-  pub stored : (e : Effect) → Guarded arguments (viewOf slot pending w) e → Stored e
+  pub stored : (e : Effect) → Guarded arguments (contextOf slot pending w) e → Stored e
   stored (Faults n) g = tt
   stored (Sets d v) g = tt
   stored (Loads d a) g = tt
@@ -94,7 +94,7 @@ module _ (arguments slot : ℕ → ℕ) (pending : ℕ → Bool) (w : Window) wh
   module _ (xs : List ℕ) (c t weight : ℕ) (is-window : w ≡ recordIn xs t .family .window) (seated : Seated xs c t weight)
       (linked : recordIn xs t .connected ≡ true → recordIn xs t .origin .parent < 32) (fewer : recordIn xs t .family .children < 255)
       (numbers : HeadBelow 32 (meaning xs [] [] .queues .freeThreads)) (stacklets : HeadBelow 16 (meaning xs [] [] .queues .freeStacklets)) where
-    pub carrying : (e : Effect) → Guarded arguments (viewOf slot pending w) e → IsOther e → Carrying xs c t weight e
+    pub carrying : (e : Effect) → Guarded arguments (contextOf slot pending w) e → IsOther e → Carrying xs c t weight e
     carrying (Faults n) g o = seated .sized
     carrying (Sets d v) g o = absurd o
     carrying (Loads d a) g o = absurd o

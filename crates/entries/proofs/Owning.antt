@@ -7,7 +7,7 @@ use Rattle.stacklets.specs.Frames.{withSlot}
 use Rattle.command.specs.Command.{decoded}
 use Rattle.thread.specs.declared.Effect.{Effect}
 use Rattle.thread.specs.declared.Effect.the-variants.{Sets, Loads, Stores, Goes, Continues}
-use Rattle.thread.specs.Effect.{Own, effectOf}
+use Rattle.thread.specs.Effect.{Context, effectOf}
 use Rattle.thread.specs.Job.{wordIn}
 use Rattle.rules.specs.Rules.{carriedOf}
 use Rattle.entries.specs.declared.own.Own.the-variants.{Moved}
@@ -38,6 +38,6 @@ module _ (e : Effect) (position base : ℕ) (ps ws ms : List ℕ) where
   own-continues p k h = (λ x. rw h at x, λ j s o hp hw hm hb hn. rw (hn, k, h, ← hw, ← hm))
 
 -- the command of byte 10 is a join, whatever stands behind it
-pub joins : (arguments : ℕ → ℕ) (own : Own) (x y z w : ℕ) → IsOther (effectOf arguments own (decoded 10 x y z w))
+pub joins : (arguments : ℕ → ℕ) (own : Context) (x y z w : ℕ) → IsOther (effectOf arguments own (decoded 10 x y z w))
 unfolding effectOf decoded
 joins arguments own x y z w = tt

@@ -17,8 +17,8 @@ use Rattle.thread.specs.declared.Effect.{Effect}
 use Rattle.thread.specs.declared.Effect.the-variants.{Faults, Lforks, Forks}
 use Rattle.thread.specs.declared.Status.the-variants.{Lent}
 use Rattle.thread.specs.Thread.{isPending, statusNumber, _is_}
-use Rattle.thread.specs.Effect.{Own, run, anyPending, unlessPending, provided, forking, effectOf}
-use Rattle.thread.specs.View.{viewOf, mayCut}
+use Rattle.thread.specs.Effect.{Context, run, anyPending, unlessPending, provided, forking, effectOf}
+use Rattle.thread.specs.View.{contextOf, mayCut}
 use Rattle.rules.specs.State.{Job, State, After, isOver, threadAt, onCore}
 use Rattle.rules.specs.Update.{refused}
 use Rattle.rules.specs.Turn.{Turn, turnAt, offsetOf, byteOf, effectAt}
@@ -26,7 +26,7 @@ use Rattle.rules.specs.Rules.{isSeed, stolenOf, stealOf}
 use Rattle.rules.specs.Sound.{Used}
 use Rattle.tables.specs.Meaning.{size}
 use Rattle.thread.proofs.Routines.{InRange}
-use Rattle.entries.specs.Given.{Forking, Seed, seedOf, turnWith}
+use Rattle.entries.specs.Given.{Forking, SeedMet, seedOf, turnWith}
 
 -- both forks are carried out alike as a seed
 module _ (j : Job) (s : State) (o : Turn) where
@@ -37,7 +37,7 @@ module _ (j : Job) (s : State) (o : Turn) where
   alike false true r d a e = refl
   alike false false r d a e = refl
 
-  pub either-fork : (own : Own) (arguments : ℕ → ℕ) (byte r d a w : ℕ) → (byte ≡ 8) ⊎ (byte ≡ 9)
+  pub either-fork : (own : Context) (arguments : ℕ → ℕ) (byte r d a w : ℕ) → (byte ≡ 8) ⊎ (byte ≡ 9)
       → stolenOf j s o (effectOf arguments own (decoded byte r d a w)) ≡ stolenOf j s o (forking arguments own r d a w (Forks r d a (own .slot w)))
   unfolding effectOf forking unlessPending provided decoded
   either-fork own arguments byte r d a w (inl e) =
@@ -109,13 +109,13 @@ fork-small byte r d a w (inr e) i = rw e at i
 
 -- what the seed's effect relies on
 pub seed-ready : (xs image words : List ℕ) (c t w r d a k : ℕ) (th : Thread) → length xs ≡ size
-    → (mayCut (th .family .window) (slotOf words (th .origin .base) k) ≡ true → Forking xs c t w d (slotOf words (th .origin .base) k)) → Seed xs c t w (seedOf image words th r d a k)
+    → (mayCut (th .family .window) (slotOf words (th .origin .base) k) ≡ true → Forking xs c t w d (slotOf words (th .origin .base) k)) → SeedMet xs c t w (seedOf image words th r d a k)
 unfolding forking unlessPending provided
 seed-ready xs image words c t w r d a k th l f =
     go (anyPending (isPending (th .family .pending)) (d ∷ k ∷ run a (argumentsOf image r))) (mayCut (th .family .window) (slotOf words (th .origin .base) k)) f
   where
     go : (p q : Bool) → (q ≡ true → Forking xs c t w d (slotOf words (th .origin .base) k))
-        → Seed xs c t w (cond p (Faults 9) (cond q (Forks r d a (slotOf words (th .origin .base) k)) (Faults 11)))
+        → SeedMet xs c t w (cond p (Faults 9) (cond q (Forks r d a (slotOf words (th .origin .base) k)) (Faults 11)))
     go true q g = l
     go false true g = g refl
     go false false g = l
@@ -129,5 +129,5 @@ pub seed-carried : (j : Job) (s : State) (c t w place next byte r d a k : ℕ) (
 unfolding effectAt
 seed-carried j s c t w place next byte r d a k th seed x met ep eb er ed ea ek which ew en es ex =
     ex ∙ ap (stolenOf j s (turnWith c t th w next place)) es
-    ∙ sym (either-fork j s (turnWith c t th w next place) (viewOf (slotOf (s .store .words) (th .origin .base)) (isPending (th .family .pending)) (th .family .window)) (argumentsOf (j .image)) byte r d a k which)
+    ∙ sym (either-fork j s (turnWith c t th w next place) (contextOf (slotOf (s .store .words) (th .origin .base)) (isPending (th .family .pending)) (th .family .window)) (argumentsOf (j .image)) byte r d a k which)
     ∙ rw (← met, ← ep, ← eb, ← er, ← ed, ← ea, ← ek, fork-wide byte which, ← ew, ← en)

@@ -13,7 +13,7 @@ use Rattle.thread.specs.declared.Thread.{Thread}
 use Rattle.thread.specs.declared.Effect.{Effect}
 use Rattle.thread.specs.Thread.{isPending}
 use Rattle.thread.specs.Effect.{effectOf, bytesBy}
-use Rattle.thread.specs.View.{viewOf}
+use Rattle.thread.specs.View.{contextOf}
 use Rattle.thread.proofs.Widths.{Widened}
 use Rattle.rules.specs.State.{Job, State, After, isOver, threadAt, onCore}
 use Rattle.rules.specs.Update.{refused}
@@ -21,7 +21,7 @@ use Rattle.rules.specs.Turn.{Turn, offsetOf, effectAt}
 use Rattle.rules.specs.Rules.{carriedOf, turnOf, stepOf}
 use Rattle.entries.specs.Own.{IsOther}
 use Rattle.entries.specs.Given.{turnWith}
-use Rattle.entries.specs.Burst.{waitsOf, shortOf, restOf}
+use Rattle.entries.specs.Burst.{waitsOf, shortOf, restGiven}
 use Rattle.entries.proofs.Meeting.{carried-wide}
 
 module _ (j : Job) (s : State) (c : ℕ) (b : Bool) (e : b ≡ isOver (s .outcome)) where
@@ -46,7 +46,7 @@ metOf j s o e left waits = cond waits (waitsOf (o .core) (o .number) s) (cond (l
 module _ (j : Job) (s : State) (c t : ℕ) (going : isOver (s .outcome) ≡ false) (core : c < s .count) (on : t ≡ onCore s c) (busy : t < 32)
     (th : Thread) (met : th ≡ threadAt s t) (place byte left : ℕ) (e : Effect) (there : place ≡ offsetOf j th) (first : byte ≡ getD (j .image) place 0)
     (allowed : left ≡ j .allowance - s .units)
-    (does : e ≡ effectOf (argumentsOf (j .image)) (viewOf (slotOf (s .store .words) (th .origin .base)) (isPending (th .family .pending)) (th .family .window)) (decodedAt (j .image) place)) where
+    (does : e ≡ effectOf (argumentsOf (j .image)) (contextOf (slotOf (s .store .words) (th .origin .base)) (isPending (th .family .pending)) (th .family .window)) (decodedAt (j .image) place)) where
   abbrev waits : Bool
   waits = eqb byte 10 && ltb 0 (th .family .children)
 
@@ -71,7 +71,7 @@ module _ (j : Job) (s : State) (c t : ℕ) (going : isOver (s .outcome) ≡ fals
     turn = turnWith c t th (weightOf (j .weights) byte) ((th .position + bytesBy e) % 2 ^ 16) place
 
     -- its weight is left
-    pub rest-is : restOf j s turn e waits ≡ stepOf j s c
+    pub rest-is : restGiven j s turn e waits ≡ stepOf j s c
     rest-is = rw (le-ltb _ _ enough) at (met-wide wide low)
 
     -- a command that is its own thread's alone is carried out

@@ -35,5 +35,5 @@ abbrev pub shortOf : ℕ → ℕ → Bool → State → After
 shortOf c t waits s = cond waits (waitsOf c t s) (refused 22 s)
 
 -- a command whose weight is left, by its effect, unless it waits
-abbrev pub restOf : Job → State → Turn → Effect → Bool → After
-restOf j s o e waits = cond waits (waitsOf (o .core) (o .number) s) (carriedOf j s o e)
+abbrev pub restGiven : Job → State → Turn → Effect → Bool → After
+restGiven j s o e waits = cond waits (waitsOf (o .core) (o .number) s) (carriedOf j s o e)

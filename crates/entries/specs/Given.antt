@@ -8,22 +8,22 @@ use Rattle.image.specs.Layout.{argumentsOf}
 use Rattle.stacklets.specs.Frames.{slotOf}
 use Rattle.queue.specs.declared.Front.{Front}
 use Rattle.queue.specs.declared.Front.the-variants.{Number, Nothing}
-use Rattle.queue.specs.Contents.{restOf}
-use Rattle.window.specs.Rights.{childOf, restOf as restOfWindow}
+use Rattle.queue.specs.Contents.{tailOf}
+use Rattle.window.specs.Rights.{childOf, restOf}
 use Rattle.thread.specs.declared.Thread.{Thread}
 use Rattle.thread.specs.declared.Effect.{Effect}
 use Rattle.thread.specs.declared.Effect.the-variants.{Faults, Sets, Loads, Stores, Goes, Continues, Lforks, Forks, Joins, Suspends, Yields, Returns}
 use Rattle.thread.specs.Effect.{forking}
-use Rattle.thread.specs.View.{viewOf}
+use Rattle.thread.specs.View.{contextOf}
 use Rattle.thread.specs.declared.Status.{Status}
 use Rattle.thread.specs.Thread.{originOf, newThread, behindFork, joinedAt, isPending}
 use Rattle.rules.specs.State.{jobOf, State, threadAt}
 use Rattle.rules.specs.Update.{setThread, setFreeThreads, setFreeStacklets, setReady}
-use Rattle.rules.specs.Turn.{Turn, done, goesOn}
+use Rattle.rules.specs.Turn.{Turn, completed, goesOn}
 use Rattle.rules.specs.Leave.{leaves}
 use Rattle.rules.specs.Return.{stackletsWithout, readyAfter}
 use Rattle.rules.specs.declared.ForkKind.{ForkKind}
-use Rattle.rules.specs.Fork.{Asked, Place, onStacklet, nowhere, childStatus, parentStatus, isConnected}
+use Rattle.rules.specs.Fork.{Asked, Placement, onStacklet, nowhere, childStatus, parentStatus, isConnected}
 use Rattle.rules.specs.Sound.{Sound}
 use Rattle.tables.specs.Meaning.{size, meaning}
 use Rattle.dispatch.specs.Orderly.{HeadBelow}
@@ -78,15 +78,15 @@ pub record Cutting (th : Thread) (t n d e : ℕ) : Type 0 where
 abbrev pub bothRecords : ForkKind → ℕ → ℕ → Thread → ℕ → Asked → ℕ → State → State
 bothRecords kind t n th next f base s =
     setThread n (newThread (originOf (f .routine) t (f .result) base) (childStatus kind) (isConnected kind) (childOf (th .family .window) (f .cut)))
-    (setThread t (behindFork (parentStatus kind) next (f .result) (restOfWindow (th .family .window) (f .cut)) th) s)
+    (setThread t (behindFork (parentStatus kind) next (f .result) (restOf (th .family .window) (f .cut)) th) s)
 
 -- the free stacklets that are left by a new frame: all where it goes above its parent's, or else all but the first
 abbrev pub leftBy : Bool → State → State
-leftBy above s = setFreeStacklets (cond above (s .queues .freeStacklets) (restOf (s .queues .freeStacklets))) s
+leftBy above s = setFreeStacklets (cond above (s .queues .freeStacklets) (tailOf (s .queues .freeStacklets))) s
 
 -- the first free thread number is handed out; where none is free, nothing changes
 abbrev pub handsOutNumber : State → State
-handsOutNumber s = setFreeThreads (restOf (s .queues .freeThreads)) s
+handsOutNumber s = setFreeThreads (tailOf (s .queues .freeThreads)) s
 
 -- a stacklet is given back when its last frame goes
 abbrev pub givesBack : ℕ → State → State
@@ -97,29 +97,29 @@ abbrev pub wakesUp : Bool → Thread → ℕ → State → State
 wakesUp connected q p s = setReady (readyAfter connected q p (s .queues .ready)) s
 
 -- a place, as the number taken from a queue with the queue that is left
-abbrev pub placeBy : Front → List ℕ → Place
+abbrev pub placeBy : Front → List ℕ → Placement
 placeBy (Number x) xs = onStacklet x xs
 placeBy Nothing xs = nowhere
 
 -- the effect of a fork's operands on a thread, whichever of the two forks it is
 abbrev pub seedOf : List ℕ → List ℕ → Thread → ℕ → ℕ → ℕ → ℕ → Effect
 seedOf image words h r d a w =
-    forking (argumentsOf image) (viewOf (slotOf words (h .origin .base)) (isPending (h .family .pending)) (h .family .window)) r d a w (Forks r d a (slotOf words (h .origin .base) w))
+    forking (argumentsOf image) (contextOf (slotOf words (h .origin .base)) (isPending (h .family .pending)) (h .family .window)) r d a w (Forks r d a (slotOf words (h .origin .base) w))
 
 -- what carrying out a seed relies on: it forks, or it faults
-abbrev pub Seed : List ℕ → ℕ → ℕ → ℕ → Effect → Type 0
-Seed xs c t weight (Faults n) = length xs ≡ size
-Seed xs c t weight (Sets d v) = ⊥
-Seed xs c t weight (Loads d a) = ⊥
-Seed xs c t weight (Stores a v) = ⊥
-Seed xs c t weight (Goes p) = ⊥
-Seed xs c t weight Continues = ⊥
-Seed xs c t weight (Lforks r d a e) = ⊥
-Seed xs c t weight (Forks r d a e) = Forking xs c t weight d e
-Seed xs c t weight Joins = ⊥
-Seed xs c t weight Suspends = ⊥
-Seed xs c t weight Yields = ⊥
-Seed xs c t weight (Returns v) = ⊥
+abbrev pub SeedMet : List ℕ → ℕ → ℕ → ℕ → Effect → Type 0
+SeedMet xs c t weight (Faults n) = length xs ≡ size
+SeedMet xs c t weight (Sets d v) = ⊥
+SeedMet xs c t weight (Loads d a) = ⊥
+SeedMet xs c t weight (Stores a v) = ⊥
+SeedMet xs c t weight (Goes p) = ⊥
+SeedMet xs c t weight Continues = ⊥
+SeedMet xs c t weight (Lforks r d a e) = ⊥
+SeedMet xs c t weight (Forks r d a e) = Forking xs c t weight d e
+SeedMet xs c t weight Joins = ⊥
+SeedMet xs c t weight Suspends = ⊥
+SeedMet xs c t weight Yields = ⊥
+SeedMet xs c t weight (Returns v) = ⊥
 
 -- what a steal relies on: a sound state, with some parameter words and memory
 pub record Stealing (image starts : List ℕ) (allowance : ℕ) (xs words : List ℕ) : Type 0 where
@@ -128,8 +128,8 @@ pub record Stealing (image starts : List ℕ) (allowance : ℕ) (xs words : List
   pub memory : List ℕ
   pub sound : Sound (jobOf image starts parameters allowance) (meaning xs words memory)
 
--- a thread that leaves its core once its command is done
-pub record Standing (xs : List ℕ) (c t weight : ℕ) : Type 0 where
+-- a thread that leaves its core once its command is completed
+pub record Stands (xs : List ℕ) (c t weight : ℕ) : Type 0 where
   pub seated : Seated xs c t weight
   pub linked : recordIn xs t .connected ≡ true → recordIn xs t .origin .parent < 32
 
@@ -144,15 +144,15 @@ Carrying xs c t weight Continues = ⊥
 Carrying xs c t weight (Lforks r d a e) = Forking xs c t weight d e
 Carrying xs c t weight (Forks r d a e) = Forking xs c t weight d e
 Carrying xs c t weight Joins = Seated xs c t weight
-Carrying xs c t weight Suspends = Standing xs c t weight
-Carrying xs c t weight Yields = Standing xs c t weight
+Carrying xs c t weight Suspends = Stands xs c t weight
+Carrying xs c t weight Yields = Stands xs c t weight
 Carrying xs c t weight (Returns v) = Seated xs c t weight
 
 -- a join passes
 abbrev pub passes : Turn → State → State
-passes o s = done o (joinedAt (o .next) (o .thread)) s
+passes o s = completed o (joinedAt (o .next) (o .thread)) s
 
--- the command is done, and the thread leaves its core
+-- the command is completed, and the thread leaves its core
 abbrev pub leavesAs : Turn → Status → State → State
 leavesAs o status s = leaves (o .core) (o .number) status (goesOn o s)
 

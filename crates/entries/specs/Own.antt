@@ -1,17 +1,14 @@
 -- A command that changes its own thread, its slots and the memory alone, said of any state around it.
-use mathlib.Core.Bool.{cond}
 use mathlib.Core.List.{List}
 use mathlib.Core.Path.{_≡_}
-use Prim.Native.Nat.{ℕ, _+_, _-_, _%_, _≤_, _^_}
-use lib.Dec.{ltb}
-use lib.ListN.{getD}
+use Prim.Native.Nat.{ℕ, _+_, _%_, _≤_, _^_}
 use Rattle.thread.specs.declared.Effect.{Effect}
 use Rattle.thread.specs.declared.Effect.the-variants.{Faults, Sets, Loads, Stores, Goes, Continues, Lforks, Forks, Joins, Suspends, Yields, Returns}
 use Rattle.thread.specs.Thread.{movedTo}
 use Rattle.thread.specs.Effect.{bytesBy}
 use Rattle.rules.specs.State.{Job, State}
 use Rattle.rules.specs.Update.{accepted, withStore}
-use Rattle.rules.specs.Turn.{Turn, done}
+use Rattle.rules.specs.Turn.{Turn, completed}
 use Rattle.rules.specs.Rules.{carriedOf}
 use Rattle.entries.specs.declared.own.Own.{Own}
 use Rattle.entries.specs.declared.own.Own.the-variants.{Moved, Other}
@@ -54,7 +51,7 @@ withBoth words memory s = withStore (record { tops = s .store .tops; words = wor
 abbrev pub CarriedSo : Effect → ℕ → ℕ → List ℕ → List ℕ → List ℕ → List ℕ → List ℕ → ℕ → Type 0
 CarriedSo e position base parameters ws ms ws' ms' p =
     (j : Job) (s : State) (o : Turn) → j .parameters ≡ parameters → s .store .words ≡ ws → s .store .memory ≡ ms → o .thread .origin .base ≡ base → o .next ≡ (position + bytesBy e) % 2 ^ 16
-    → carriedOf j s o e ≡ accepted (done o (movedTo p (o .thread)) (withBoth ws' ms' s))
+    → carriedOf j s o e ≡ accepted (completed o (movedTo p (o .thread)) (withBoth ws' ms' s))
 
 -- what the answer says: the rule carries the effect out so; or it is of another kind, and nothing has changed
 abbrev pub OwnAs : Effect → ℕ → ℕ → List ℕ → List ℕ → List ℕ → List ℕ → List ℕ → Own → Type 0

@@ -24,7 +24,7 @@ ghost use Rattle.rules.specs.Turn.{goesOn};
 ghost use Rattle.rules.specs.Rules.{carriedOf};
 ghost use Rattle.tables.specs.Meaning.{meaning};
 ghost use Rattle.tables.specs.Change.{Becomes};
-ghost use Rattle.entries.specs.Given.{Seated, Standing, Carrying, turnIn, passes, leavesAs};
+ghost use Rattle.entries.specs.Given.{Seated, Stands, Carrying, turnIn, passes, leavesAs};
 ghost use Rattle.dispatch.specs.Orderly.{after};
 
 // The command of thread t is done, and its next one is at a position.
@@ -48,7 +48,7 @@ fn pass_join(tables: &mut [u8], t: u8, weight: u8, next: u16)
 
 // 0B and 0C: the command is done, and the thread leaves its core.
 fn go_off(tables: &mut [u8], c: u8, t: u8, weight: u8, next: u16, status: Status)
-    requires { ⌜ Standing (now tables) c t weight ⌝ }
+    requires { ⌜ Stands (now tables) c t weight ⌝ }
     ensures { λ _. ⌜ ((offset : ℕ) → Becomes (now (tables .entry)) (now (tables .exit)) (leavesAs (turnIn (now (tables .entry)) c t weight next offset) status)) ⌝ }
 {
     go_on(tables, t, weight, next);

@@ -22,7 +22,7 @@ ghost use lib.ListN.{getD};
 ghost use Rattle.rules.specs.State.{jobOf};
 ghost use Rattle.rules.specs.Rules.{stolenOf, stealOf};
 ghost use Rattle.tables.specs.Meaning.{meaning};
-ghost use Rattle.entries.specs.Given.{Seed, Stealing, seedOf, turnIn};
+ghost use Rattle.entries.specs.Given.{SeedMet, Stealing, seedOf, turnIn};
 ghost use Rattle.dispatch.specs.Orderly.{after};
 
 // The effect of a fork's five bytes on a thread.
@@ -55,7 +55,7 @@ fn carry_seed(
     place: u16,
     image: &[u8],
 ) -> u8
-    requires { ⌜ Seed (now tables) c t weight seed ⌝ }
+    requires { ⌜ SeedMet (now tables) c t weight seed ⌝ }
     ensures { λ x. ⌜ ((starts parameters memory : List ℕ) (allowance : ℕ) → after x (now (tables .exit)) (now (words .exit)) memory ≡ stolenOf (jobOf (now (image .entry)) starts parameters allowance) (meaning (now (tables .entry)) (now (words .entry)) memory) (turnIn (now (tables .entry)) c t weight next place) seed) ⌝ }
 {
     match seed {

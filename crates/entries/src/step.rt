@@ -33,7 +33,7 @@ ghost use Rattle.tables.specs.Change.{Becomes};
 ghost use Rattle.entries.specs.Given.{Sounding, Leaving, Carrying, turnIn};
 ghost use Rattle.dispatch.specs.Orderly.{after};
 ghost use Rattle.entries.specs.Repeat.{Repeats};
-ghost use Rattle.entries.specs.Burst.{Busy, standsAt, shortOf, restOf};
+ghost use Rattle.entries.specs.Burst.{Busy, standsAt, shortOf, restGiven};
 
 // Position and units, which were held apart, go back to the tables.
 fn put_back(tables: &mut [u8], t: u8, position: u16, used: u32)
@@ -76,7 +76,7 @@ fn carry_rest(
     image: &[u8],
 ) -> u8
     requires { ⌜ Leaving (now tables) c t × Carrying (now tables) c t cost done ⌝ }
-    ensures { λ x. ⌜ ((starts parameters memory : List ℕ) (allowance : ℕ) → after x (now (tables .exit)) (now (words .exit)) memory ≡ restOf (jobOf (now (image .entry)) starts parameters allowance) (meaning (now (tables .entry)) (now (words .entry)) memory) (turnIn (now (tables .entry)) c t cost ((position + bytesBy done) % 2 ^ 16) place) done waits) ⌝ }
+    ensures { λ x. ⌜ ((starts parameters memory : List ℕ) (allowance : ℕ) → after x (now (tables .exit)) (now (words .exit)) memory ≡ restGiven (jobOf (now (image .entry)) starts parameters allowance) (meaning (now (tables .entry)) (now (words .entry)) memory) (turnIn (now (tables .entry)) c t cost ((position + bytesBy done) % 2 ^ 16) place) done waits) ⌝ }
 {
     if waits {
         leave(tables, c, t, Status::Waiting);

@@ -9,7 +9,7 @@ use native.Mathlib.Omega.{arith}
 use lib.Dec.{eqb}
 use lib.ListN.{length, getD, set, length-set, List·getD-eq-default}
 use lib.Seq.{getD-set-same, getD-set-other}
-use Rattle.image.specs.Marks.{marked, Asked}
+use Rattle.image.specs.Marks.{marked, MarksAsked}
 
 pub never : {P : Type 0} → _≡_ {A = Bool} false true → P
 never h = let z : _≡_ {A = ℕ} 0 1 = cc in absurd (omega arith)
@@ -24,7 +24,7 @@ asked-inside marks t two = go (decLt t (length marks))
 
 module _ (marks : List ℕ) (t : ℕ) where
   -- the target is outside the code
-  pub outside : length marks ≤ t → Asked (λ start. start t) marks marks false
+  pub outside : length marks ≤ t → MarksAsked (λ start. start t) marks marks false
   outside h = record {
     size = refl;
     kept = λ u. refl;
@@ -33,7 +33,7 @@ module _ (marks : List ℕ) (t : ℕ) where
   }
 
   -- a command was met there
-  pub was-met : getD marks t 0 ≡ 1 → Asked (λ start. start t) marks marks true
+  pub was-met : getD marks t 0 ≡ 1 → MarksAsked (λ start. start t) marks marks true
   unfolding marked
   was-met e = record {
     size = refl;
@@ -43,7 +43,7 @@ module _ (marks : List ℕ) (t : ℕ) where
   }
 
   -- none was met there yet
-  pub asks : t < length marks → (getD marks t 0 ≡ 1 → ⊥) → Asked (λ start. start t) marks (set marks t 2) true
+  pub asks : t < length marks → (getD marks t 0 ≡ 1 → ⊥) → MarksAsked (λ start. start t) marks (set marks t 2) true
   unfolding marked
   asks h n = record {
     size = length-set marks t 2;
@@ -68,7 +68,7 @@ module _ (marks : List ℕ) (t : ℕ) where
 
 -- the same test in other words
 pub reworded : (test test′ : (ℕ → Bool) → Bool) (before after : List ℕ) (inside : Bool) → ((start : ℕ → Bool) → test start ≡ test′ start)
-    → Asked test before after inside → Asked test′ before after inside
+    → MarksAsked test before after inside → MarksAsked test′ before after inside
 reworded test test′ before after inside same r = record {
   size = r .size;
   kept = r .kept;
@@ -77,7 +77,7 @@ reworded test test′ before after inside same r = record {
 }
 
 -- a test that always holds
-pub untested : (test : (ℕ → Bool) → Bool) (marks : List ℕ) → ((start : ℕ → Bool) → test start ≡ true) → Asked test marks marks true
+pub untested : (test : (ℕ → Bool) → Bool) (marks : List ℕ) → ((start : ℕ → Bool) → test start ≡ true) → MarksAsked test marks marks true
 untested test marks holds = record {
   size = refl;
   kept = λ u. refl;

@@ -1,4 +1,4 @@
--- The starred cases that concern images hold: one test, computed over the table, and read off at each of its rows. Assumes nothing.
+-- The starredImages cases that concern images hold: one test, computed over the table, and read off at each of its rows. Assumes nothing.
 use mathlib.Core.Bool.{Bool, true, false, _&&_}
 use mathlib.Core.List.{List, [], _∷_, List·Mem, not-mem-nil, forall-mem-cons}
 use mathlib.Core.Path.{_≡_}
@@ -7,13 +7,13 @@ use Rattle.command.specs.Command.{decoded, commandAt}
 use Rattle.image.specs.Layout.{startOf}
 use Rattle.image.specs.Code.{commandsFrom, commandsOf, verdictFrom, lastEnds, isStart, targetsGood, routineVerdict}
 use Rattle.image.specs.Image.{rowsGood, inRange, routinesVerdict, imageVerdict, numberIn}
-use Rattle.image.specs.Cases.{Case, starred}
+use Rattle.image.specs.Cases.{ImageCase, starredImages}
 
 -- is a row's number the image's?
-abbrev right : Case → Bool
+abbrev right : ImageCase → Bool
 right c = eqb (numberIn (imageVerdict (c .image))) (c .number)
 
-abbrev every : List Case → Bool
+abbrev every : List ImageCase → Bool
 every [] = true
 every (c ∷ cs) = right c && every cs
 
@@ -22,14 +22,14 @@ both true b t = (tt, t)
 both false b t = absurd t
 
 -- what the test found holds of each row
-each : (cs : List Case) → T (every cs) → (c : Case) → List·Mem c cs → T (right c)
+each : (cs : List ImageCase) → T (every cs) → (c : ImageCase) → List·Mem c cs → T (right c)
 each [] t c m = absurd (not-mem-nil m)
 each (d ∷ ds) t c m =
-    forall-mem-cons {p = λ (x : Case). T (right x)} (λ x. T-prop (right x)) .1 (both (right d) (every ds) t .0, each ds (both (right d) (every ds) t .1)) c m
+    forall-mem-cons {p = λ (x : ImageCase). T (right x)} (λ x. T-prop (right x)) .1 (both (right d) (every ds) t .0, each ds (both (right d) (every ds) t .1)) c m
 
-all : T (every starred)
+all : T (every starredImages)
 unfolding imageVerdict routinesVerdict rowsGood inRange startOf routineVerdict verdictFrom lastEnds isStart targetsGood commandsOf commandsFrom commandAt decoded
 all = tt
 
-pub starred-hold : (c : Case) → List·Mem c starred → numberIn (imageVerdict (c .image)) ≡ c .number
-starred-hold c m = eqb→eq (numberIn (imageVerdict (c .image))) (c .number) (each starred all c m)
+pub starred-hold : (c : ImageCase) → List·Mem c starredImages → numberIn (imageVerdict (c .image)) ≡ c .number
+starred-hold c m = eqb→eq (numberIn (imageVerdict (c .image))) (c .number) (each starredImages all c m)

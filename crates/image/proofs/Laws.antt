@@ -16,7 +16,7 @@ use Rattle.command.specs.Command.{commandAt}
 use Rattle.command.proofs.Bools.{both}
 use Rattle.command.proofs.RoundTrip.{stands, found-alike}
 use Rattle.image.specs.declared.Verdict.the-variants.{Accepted}
-use Rattle.image.specs.Layout.{countOf, slotsOf, argumentsOf, lengthOf, startOf, codeOf}
+use Rattle.image.specs.Layout.{routineCount, slotsOf, argumentsOf, lengthOf, startOf, codeOf}
 use Rattle.image.specs.Code.{commandsOf, isStart, ends, targetGood, routineVerdict}
 use Rattle.image.specs.Image.{inRange, rowGood, routinesVerdict}
 use Rattle.image.proofs.Places.{code-inside, good-all}
@@ -53,12 +53,12 @@ each-routine s r (suc n) k l m e =
     go (yes d) f = rw (← d) (parts .0)
     go (no d) f = f d
 
-module _ (s : List ℕ) (a : Accepts s) (r : ℕ) (h : r < countOf s) where
+module _ (s : List ℕ) (a : Accepts s) (r : ℕ) (h : r < routineCount s) where
   code-ends : startOf s r + lengthOf s r ≤ length s
-  code-ends = omega (arith, code-inside s r (countOf s) h, a .total)
+  code-ends = omega (arith, code-inside s r (routineCount s) h, a .total)
 
   pub row-good : rowGood s r ≡ true
-  row-good = good-all s r (countOf s) h (a .rows)
+  row-good = good-all s r (routineCount s) h (a .rows)
 
   slots-good : ((leb 1 (slotsOf s r) && leb (slotsOf s r) 16) ≡ true) × ((leb (argumentsOf s r) (slotsOf s r) && leb 1 (lengthOf s r)) ≡ true)
   slots-good = both (leb 1 (slotsOf s r) && leb (slotsOf s r) 16) (leb (argumentsOf s r) (slotsOf s r) && leb 1 (lengthOf s r)) row-good
@@ -80,7 +80,7 @@ module _ (s : List ℕ) (a : Accepts s) (r : ℕ) (h : r < countOf s) where
 
   -- each routine's verdict is accepted
   pub routine-good : routineVerdict (inRange s (slotsOf s r)) (codeOf s r) ≡ Accepted
-  routine-good = each-routine s r (countOf s) 0 (omega arith) (omega arith) (a .routines)
+  routine-good = each-routine s r (routineCount s) 0 (omega arith) (omega arith) (a .routines)
 
   -- a routine's first position is a command's start
   pub start-good : isStart (commandsOf (codeOf s r)) 0 ≡ true

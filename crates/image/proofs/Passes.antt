@@ -8,7 +8,7 @@ use native.Mathlib.Omega.{arith}
 use lib.ListN.{length, getD}
 use Rattle.command.specs.declared.Command.{Command}
 use Rattle.image.specs.declared.Verdict.{Verdict}
-use Rattle.image.specs.declared.Verdict.the-variants.{Accepted, Refused}
+use Rattle.image.specs.declared.Verdict.the-variants.{Accepted, Rejected}
 use Rattle.image.specs.declared.Refusal.{Refusal}
 use Rattle.image.specs.declared.Refusal.the-variants.{BadEnd, BadTarget}
 use Rattle.image.specs.Code.{commandsOf, verdictFrom, lastEnds, isStart, targetsGood, routineVerdict}
@@ -16,7 +16,7 @@ use Rattle.image.specs.Marks.{marked, mayEnd, Left, Met, WalkedBy}
 use Rattle.image.proofs.Asking.{never}
 
 module _ (ok : Command → Bool) (code marks : List ℕ) (verdict : Verdict) (byte : ℕ) (inside : Bool) (w : WalkedBy ok code marks verdict byte inside) where
-  pub refused-first : (n : Refusal) → verdict ≡ Refused n → verdict ≡ routineVerdict ok code
+  pub refused-first : (n : Refusal) → verdict ≡ Rejected n → verdict ≡ routineVerdict ok code
   unfolding routineVerdict
   refused-first n e = rw (← w .by, e)
 
@@ -27,7 +27,7 @@ module _ (ok : Command → Bool) (code marks : List ℕ) (verdict : Verdict) (by
     last : (b : Bool) → mayEnd byte ≡ b → lastEnds false (commandsOf code) ≡ b
     last b h = sym (w .end e) ∙ h
 
-    pub bad-end : mayEnd byte ≡ false → Refused BadEnd ≡ routineVerdict ok code
+    pub bad-end : mayEnd byte ≡ false → Rejected BadEnd ≡ routineVerdict ok code
     unfolding routineVerdict
     bad-end h = rw (accepted, last false h)
 
@@ -51,14 +51,14 @@ module _ (ok : Command → Bool) (code marks : List ℕ) (verdict : Verdict) (by
         go false h = h
 
     module _ (h : mayEnd byte ≡ true) where
-      pub bad-target : (targetsGood (isStart (commandsOf code)) (commandsOf code) ≡ true → ⊥) → Refused BadTarget ≡ routineVerdict ok code
+      pub bad-target : (targetsGood (isStart (commandsOf code)) (commandsOf code) ≡ true → ⊥) → Rejected BadTarget ≡ routineVerdict ok code
       unfolding routineVerdict
       bad-target n = rw (accepted, last true h, fails n)
 
-      pub outside : inside ≡ false → Refused BadTarget ≡ routineVerdict ok code
+      pub outside : inside ≡ false → Rejected BadTarget ≡ routineVerdict ok code
       outside i = bad-target (λ g. never (sym i ∙ w .put e g .0))
 
-      pub left-over : (met : Bool) → Met marks met → met ≡ false → Refused BadTarget ≡ routineVerdict ok code
+      pub left-over : (met : Bool) → Met marks met → met ≡ false → Rejected BadTarget ≡ routineVerdict ok code
       left-over met m n = bad-target (unmet (m .left n))
 
       pub good : inside ≡ true → (met : Bool) → Met marks met → met ≡ true → Accepted ≡ routineVerdict ok code

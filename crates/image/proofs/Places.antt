@@ -11,14 +11,14 @@ use lib.Seq.{getD-set-same, getD-set-other}
 use Rattle.command.proofs.Bools.{both}
 use Rattle.image.specs.declared.Row.{Row}
 use Rattle.image.specs.declared.Verdict.{Verdict}
-use Rattle.image.specs.declared.Verdict.the-variants.{Accepted, Refused}
+use Rattle.image.specs.declared.Verdict.the-variants.{Accepted, Rejected}
 use Rattle.image.specs.declared.Refusal.{Refusal}
-use Rattle.image.specs.Layout.{countOf, slotsOf, lengthOf, startOf, codeOf, rowOf, rowsOf, blankRow, programOf, startsIn, startsUpTo}
+use Rattle.image.specs.Layout.{routineCount, slotsOf, lengthOf, startOf, codeOf, rowOf, rowsOf, blankRow, programOf, startsIn, startsUpTo}
 use Rattle.image.specs.Code.{routineVerdict}
 use Rattle.image.specs.Image.{rowGood, rowsGood, inRange, routinesVerdict}
 
 module _ (s : List ℕ) where
-  pub start-first : (count : ℕ) → count ≡ countOf s → 4 * count + 1 ≡ startOf s 0
+  pub start-first : (count : ℕ) → count ≡ routineCount s → 4 * count + 1 ≡ startOf s 0
   unfolding startOf
   start-first count e = rw e
 
@@ -109,8 +109,8 @@ module _ (s : List ℕ) where
       rw (d, sym is ∙ e, add-one)
 
   -- a routine is refused
-  pub routine-fails : (r n : ℕ) (v : Verdict) (x : Refusal) → r < n → v ≡ routineVerdict (inRange s (slotsOf s r)) (codeOf s r) → v ≡ Refused x
-      → Refused x ≡ routinesVerdict s (n - r) r
+  pub routine-fails : (r n : ℕ) (v : Verdict) (x : Refusal) → r < n → v ≡ routineVerdict (inRange s (slotsOf s r)) (codeOf s r) → v ≡ Rejected x
+      → Rejected x ≡ routinesVerdict s (n - r) r
   unfolding routinesVerdict
   routine-fails r n v x h is e =
       let d : n - r ≡ suc (n - (r + 1)) = omega arith in
@@ -148,5 +148,5 @@ start-of-row rows r (suc n) h k = go (ℕ-discrete r n) (λ l. start-of-row rows
     go (no e) f = getD-set-other (startsUpTo rows n) n r (getD rows n blankRow .start) 0 e ∙ f (omega arith)
 
 -- where each routine's code starts
-pub starts-at : (s : List ℕ) (r : ℕ) → r < countOf s → countOf s ≤ 32 → getD (startsIn (programOf s)) r 0 ≡ startOf s r
-starts-at s r h k = start-of-row (rowsOf s (countOf s)) r 32 (omega arith) (omega arith) ∙ ap (λ row. row .start) (row-at s r (countOf s) h k)
+pub starts-at : (s : List ℕ) (r : ℕ) → r < routineCount s → routineCount s ≤ 32 → getD (startsIn (programOf s)) r 0 ≡ startOf s r
+starts-at s r h k = start-of-row (rowsOf s (routineCount s)) r 32 (omega arith) (omega arith) ∙ ap (λ row. row .start) (row-at s r (routineCount s) h k)

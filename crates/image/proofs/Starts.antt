@@ -16,7 +16,7 @@ use Rattle.command.specs.Command.{commandAt}
 use Rattle.command.proofs.Bools.{both}
 use Rattle.command.proofs.RoundTrip.{stands, at-end}
 use Rattle.image.specs.declared.Verdict.{Verdict}
-use Rattle.image.specs.declared.Verdict.the-variants.{Accepted, Refused}
+use Rattle.image.specs.declared.Verdict.the-variants.{Accepted, Rejected}
 use Rattle.image.specs.declared.Refusal.{Refusal}
 use Rattle.image.specs.declared.Refusal.the-variants.{UnknownByte, OperandsCutOff, OutOfRange, BadEnd, BadTarget}
 use Rattle.image.specs.Code.{commandsFrom, commandsOf, verdictFrom, lastEnds, ends, isStart, targetGood, targetsGood, readVerdict, routineVerdict, _then_}
@@ -25,7 +25,7 @@ use Rattle.image.proofs.Walk.{start-found, targets-found, last-found, c
 clash : {P : Type 0} (b : Bool) → b ≡ true → b ≡ false → P
 clash b h k = let z : _≡_ {A = ℕ} 0 1 = cc in absurd (omega arith)
 
-never : {P : Type 0} (n : Refusal) → Refused n ≡ Accepted → P
+never : {P : Type 0} (n : Refusal) → Rejected n ≡ Accepted → P
 never n h = let z : _≡_ {A = ℕ} 0 1 = cc in absurd (omega arith)
 
 or-right : (a b : Bool) → b ≡ true → (a || b) ≡ true
@@ -54,12 +54,12 @@ unfolding verdictFrom
 passed ok code left at h v = by (commandAt code at) refl (rw (lt-leb (length code) at h) at v)
   where
     ranged : (c : Command) (n : ℕ) → commandAt code at ≡ Found c n → (b : Bool) → ok c ≡ b
-        → cond b (verdictFrom ok code left (at + n)) (Refused OutOfRange) ≡ Accepted → Passed ok code left at
+        → cond b (verdictFrom ok code left (at + n)) (Rejected OutOfRange) ≡ Accepted → Passed ok code left at
     ranged c n f true e w = record { command = c; width = n; found = f; range = e; rest = w }
     ranged c n f false e w = never OutOfRange w
 
     by : (r : CommandRead) → commandAt code at ≡ r
-        → readVerdict r (λ c n. cond (ok c) (verdictFrom ok code left (at + n)) (Refused OutOfRange)) ≡ Accepted → Passed ok code left at
+        → readVerdict r (λ c n. cond (ok c) (verdictFrom ok code left (at + n)) (Rejected OutOfRange)) ≡ Accepted → Passed ok code left at
     by (Found c n) f w = ranged c n f (ok c) refl w
     by Unknown f w = never UnknownByte w
     by CutOff f w = never OperandsCutOff w
@@ -152,9 +152,9 @@ module _ (ok : Command → Bool) (start : ℕ → Bool) (code : List ℕ) (p : �
 -- both of two verdicts accept
 pub both-accept : (u v : Verdict) → (u then v) ≡ Accepted → (u ≡ Accepted) × (v ≡ Accepted)
 both-accept Accepted v h = (refl, h)
-both-accept (Refused n) v h = never n h
+both-accept (Rejected n) v h = never n h
 
-tested : (b : Bool) (n : Refusal) → cond b Accepted (Refused n) ≡ Accepted → b ≡ true
+tested : (b : Bool) (n : Refusal) → cond b Accepted (Rejected n) ≡ Accepted → b ≡ true
 tested true n h = refl
 tested false n h = never n h
 
@@ -164,7 +164,7 @@ module _ (ok : Command → Bool) (code : List ℕ) (e : routineVerdict ok code �
   unfolding routineVerdict commandsOf
   standing p s =
       let a = both-accept (verdictFrom ok code (length code) 0) _ e in
-      let b = both-accept (cond (lastEnds false (commandsOf code)) Accepted (Refused BadEnd)) _ (a .1) in
+      let b = both-accept (cond (lastEnds false (commandsOf code)) Accepted (Rejected BadEnd)) _ (a .1) in
       standing-from ok (isStart (commandsOf code)) code p (length code) 0 false (omega arith) (a .0)
       (tested (lastEnds false (commandsOf code)) BadEnd (b .0)) (tested (targetsGood (isStart (commandsOf code)) (commandsOf code)) BadTarget (b .1)) s
 

@@ -12,7 +12,7 @@ use Rattle.command.specs.declared.CommandRead.{CommandRead}
 use Rattle.command.specs.declared.CommandRead.the-variants.{Found, Unknown, CutOff}
 use Rattle.command.specs.Command.{commandAt, decoded, decodedAt, widthOf}
 use Rattle.command.proofs.RoundTrip.{stands}
-use Rattle.image.specs.declared.Verdict.the-variants.{Refused}
+use Rattle.image.specs.declared.Verdict.the-variants.{Rejected}
 use Rattle.image.specs.declared.Refusal.{Refusal}
 use Rattle.image.specs.declared.Refusal.the-variants.{UnknownByte, OperandsCutOff, OutOfRange}
 use Rattle.image.specs.declared.step.Tested.the-variants.{Width, Fails}
@@ -64,15 +64,15 @@ module _ (ok : Command → Bool) (code : List ℕ) (at : ℕ) (h : at < length c
       go CutOff is f = let z : _≡_ {A = ℕ} 0 1 = cc in absurd (omega arith)
 
   -- a command that fails refuses the code from there on
-  pub fails : (x : Refusal) → testedAs ok (commandAt code at) ≡ Fails x → (left : ℕ) → verdictFrom ok code (suc left) at ≡ Refused x
+  pub fails : (x : Refusal) → testedAs ok (commandAt code at) ≡ Fails x → (left : ℕ) → verdictFrom ok code (suc left) at ≡ Rejected x
   unfolding verdictFrom
   fails x e left = rw (lt-leb (length code) at h) (go (commandAt code at) e)
     where
       go : (r : CommandRead) → testedAs ok r ≡ Fails x
-          → readVerdict r (λ c n. cond (ok c) (verdictFrom ok code left (at + n)) (Refused OutOfRange)) ≡ Refused x
+          → readVerdict r (λ c n. cond (ok c) (verdictFrom ok code left (at + n)) (Rejected OutOfRange)) ≡ Rejected x
       go (Found c n) f = ranged (ok c) f
         where
-          ranged : (b : Bool) → rangedAs b n ≡ Fails x → cond b (verdictFrom ok code left (at + n)) (Refused OutOfRange) ≡ Refused x
+          ranged : (b : Bool) → rangedAs b n ≡ Fails x → cond b (verdictFrom ok code left (at + n)) (Rejected OutOfRange) ≡ Rejected x
           ranged true g = let z : _≡_ {A = ℕ} 0 1 = cc in absurd (omega arith)
           ranged false g = cc
       go Unknown f = cc

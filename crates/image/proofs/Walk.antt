@@ -16,10 +16,10 @@ use Rattle.command.specs.Command.{commandAt}
 use Rattle.command.proofs.Bools.{both}
 use Rattle.command.proofs.RoundTrip.{stands, at-end}
 use Rattle.image.specs.declared.Verdict.{Verdict}
-use Rattle.image.specs.declared.Verdict.the-variants.{Accepted, Refused}
+use Rattle.image.specs.declared.Verdict.the-variants.{Accepted, Rejected}
 use Rattle.image.specs.declared.Refusal.{Refusal}
 use Rattle.image.specs.Code.{commandsFrom, commandsOf, verdictFrom, lastEnds, ends, isStart, targetGood, targetsGood}
-use Rattle.image.specs.Marks.{marked, mayEnd, Blank, Awaited, Inside, Asked, WalkedBy}
+use Rattle.image.specs.Marks.{marked, mayEnd, Blank, Awaited, Inside, MarksAsked, WalkedBy}
 use Rattle.image.proofs.Asking.{never}
 
 accepted-at-end : (ok : Command → Bool) (code : List ℕ) (left at : ℕ) → length code ≤ at → Accepted ≡ verdictFrom ok code left at
@@ -132,7 +132,7 @@ module _ (asked inside later : Bool) where
 
 -- the command found here is in range; it is marked, and its target asked for
 module _ (ok : Command → Bool) (code marks after : List ℕ) (at n : ℕ) (c : Command) (last end inside asked later : Bool) (room : length code ≡ length marks)
-    (h : at < length code) (found : commandAt code at ≡ Found c n) (fine : ok c ≡ true) (ask : Asked (λ start. targetGood start c) (set marks at 1) after asked)
+    (h : at < length code) (found : commandAt code at ≡ Found c n) (fine : ok c ≡ true) (ask : MarksAsked (λ start. targetGood start c) (set marks at 1) after asked)
     (may : end ≡ ends c) (is : later ≡ (asked && inside)) where
   module _ (left : ℕ) (f : Going ok code marks at last inside (suc left)) where
     starts-marked : (t : ℕ) → (marked (set marks at 1) t || isStart (commandsFrom code left (at + n)) t) ≡ isStart (commandsOf code) t
@@ -176,8 +176,8 @@ module _ (ok : Command → Bool) (code marks after : List ℕ) (at n : ℕ) (c :
 
 module _ (ok : Command → Bool) (code marks : List ℕ) (at : ℕ) (last inside : Bool) (f : Far ok code marks at last inside) where
   -- a command that is refused
-  pub refuses : (n : Refusal) (end : ℕ) (within : Bool) (verdict : Verdict) → verdict ≡ Refused n
-      → ((left : ℕ) → verdictFrom ok code (suc left) at ≡ Refused n) → at < length code → WalkedBy ok code marks verdict end within
+  pub refuses : (n : Refusal) (end : ℕ) (within : Bool) (verdict : Verdict) → verdict ≡ Rejected n
+      → ((left : ℕ) → verdictFrom ok code (suc left) at ≡ Rejected n) → at < length code → WalkedBy ok code marks verdict end within
   refuses n end within verdict is by h = record {
     by = is ∙ go (f .left) (f .going .enough) (f .going .verdict);
     end = λ e. not-accepted (sym is ∙ e);
@@ -187,11 +187,11 @@ module _ (ok : Command → Bool) (code marks : List ℕ) (at : ℕ) (last inside
   }
     where
       go : (left : ℕ) → length code ≤ at + left → verdictFrom ok code left at ≡ verdictFrom ok code (length code) 0
-          → Refused n ≡ verdictFrom ok code (length code) 0
+          → Rejected n ≡ verdictFrom ok code (length code) 0
       go zero e w = absurd (omega arith)
       go (suc left) e w = sym (by left) ∙ w
 
-      not-accepted : {P : Type 0} → Refused n ≡ Accepted → P
+      not-accepted : {P : Type 0} → Rejected n ≡ Accepted → P
       not-accepted e = let z : _≡_ {A = ℕ} 0 1 = cc in absurd (omega arith)
 
   pub finishes : (byte : ℕ) → last ≡ mayEnd byte → length code ≤ at → WalkedBy ok code marks Accepted byte inside

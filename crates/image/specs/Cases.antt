@@ -1,11 +1,11 @@
--- Document 01's starred bench cases that concern images: each image's bytes, and the number that it is refused by, 0 where it is accepted.
+-- Document 01's starredImages bench cases that concern images: each image's bytes, and the number that it is refused by, 0 where it is accepted.
 use mathlib.Core.List.{List, [], _∷_, _++_}
 use Prim.Native.Nat.{ℕ}
 use lib.ListN.{length}
 use Rattle.command.specs.Command.{low, high}
 
 -- a row of the table
-pub record Case : Type 0 where
+pub record ImageCase : Type 0 where
   pub image : List ℕ
   pub number : ℕ
 
@@ -20,9 +20,9 @@ whole =
     ++ (0x01 ∷ 0x02 ∷ 0x20 ∷ 0x00 ∷ 0x08 ∷ 0x01 ∷ 0x00 ∷ 0x00 ∷ 0x02 ∷ 0x08 ∷ 0x01 ∷ 0x01 ∷ 0x01 ∷ 0x02 ∷ 0x0A ∷ 0x02 ∷ 0x00 ∷ 0x00 ∷ 0x01 ∷ 0x0D ∷ 0x00 ∷ [])
     ++ (0x01 ∷ 0x00 ∷ 0x05 ∷ 0x00 ∷ 0x0D ∷ 0x00 ∷ [])
 
--- "Bench cases (starred ones proved)", in document 01's order
-abbrev pub starred : List Case
-starred =
+-- "Bench cases (starredImages ones proved)", in document 01's order
+abbrev pub starredImages : List ImageCase
+starredImages =
     record { image = []; number = 1 }
     ∷ record { image = 0x00 ∷ []; number = 2 }
     ∷ record { image = 0x01 ∷ 0x01 ∷ 0x00 ∷ 0x02 ∷ 0x00 ∷ 0x0D ∷ 0x00 ∷ []; number = 0 }

@@ -10,7 +10,7 @@ use Rattle.command.specs.declared.CommandRead.{CommandRead}
 use Rattle.command.specs.declared.CommandRead.the-variants.{Found, Unknown, CutOff}
 use Rattle.command.specs.Command.{commandAt}
 use Rattle.image.specs.declared.Verdict.{Verdict}
-use Rattle.image.specs.declared.Verdict.the-variants.{Accepted, Refused}
+use Rattle.image.specs.declared.Verdict.the-variants.{Accepted, Rejected}
 use Rattle.image.specs.declared.Refusal.the-variants.{UnknownByte, OperandsCutOff, OutOfRange, BadEnd, BadTarget}
 
 -- a command and the position of its first byte in its routine's code
@@ -36,15 +36,15 @@ commandsOf code = commandsFrom code (length code) 0
 -- the verdict on a command that was read, by 4 and 5, or what is said of a found one
 abbrev pub readVerdict : CommandRead → (Command → ℕ → Verdict) → Verdict
 readVerdict (Found c n) f = f c n
-readVerdict Unknown f = Refused UnknownByte
-readVerdict CutOff f = Refused OperandsCutOff
+readVerdict Unknown f = Rejected UnknownByte
+readVerdict CutOff f = Rejected OperandsCutOff
 
 -- "4, 5, 6 command by command", from a position on
 unfoldable pub verdictFrom : (Command → Bool) → List ℕ → ℕ → ℕ → Verdict
 verdictFrom inRange code zero at = Accepted
 verdictFrom inRange code (suc most) at =
     cond (leb (length code) at) Accepted
-    (readVerdict (commandAt code at) (λ c n. cond (inRange c) (verdictFrom inRange code most (at + n)) (Refused OutOfRange)))
+    (readVerdict (commandAt code at) (λ c n. cond (inRange c) (verdictFrom inRange code most (at + n)) (Rejected OutOfRange)))
 
 -- is this a command that may stand last, 07 or 0D?
 abbrev pub ends : Command → Bool
@@ -96,11 +96,11 @@ infixr 20 _then_
 -- the first of two verdicts that refuses
 abbrev pub _then_ : Verdict → Verdict → Verdict
 Accepted then v = v
-Refused n then v = Refused n
+Rejected n then v = Rejected n
 
 -- "per routine 4, 5, 6 command by command, 7, 8"
 unfoldable pub routineVerdict : (Command → Bool) → List ℕ → Verdict
 routineVerdict inRange code =
     verdictFrom inRange code (length code) 0
-    then cond (lastEnds false (commandsOf code)) Accepted (Refused BadEnd)
-    then cond (targetsGood (isStart (commandsOf code)) (commandsOf code)) Accepted (Refused BadTarget)
+    then cond (lastEnds false (commandsOf code)) Accepted (Rejected BadEnd)
+    then cond (targetsGood (isStart (commandsOf code)) (commandsOf code)) Accepted (Rejected BadTarget)

@@ -7,12 +7,12 @@ use lib.ListN.{length}
 use Rattle.command.specs.declared.Command.{Command}
 use Rattle.command.specs.declared.Command.the-variants.{Set, Add, Subtract, Load, Store, JumpIfZero, Jump, Lfork, Fork, Join, Suspend, Yield, Return}
 use Rattle.image.specs.declared.Verdict.{Verdict}
-use Rattle.image.specs.declared.Verdict.the-variants.{Accepted, Refused}
+use Rattle.image.specs.declared.Verdict.the-variants.{Accepted, Rejected}
 use Rattle.image.specs.declared.Refusal.{Refusal}
 use Rattle.image.specs.declared.Refusal.the-variants.{BadLength, BadCount, BadRow, UnknownByte, OperandsCutOff, OutOfRange, BadEnd, BadTarget}
 use Rattle.image.specs.declared.Program.{Program}
 use Rattle.image.specs.declared.Checked.{Checked}
-use Rattle.image.specs.Layout.{countOf, slotsOf, argumentsOf, lengthOf, rowsEnd, startOf, codeOf, programOf, noProgram}
+use Rattle.image.specs.Layout.{routineCount, slotsOf, argumentsOf, lengthOf, rowsEnd, startOf, codeOf, programOf, noProgram}
 use Rattle.image.specs.Code.{_then_, routineVerdict}
 
 -- the numbers of the image's author
@@ -29,7 +29,7 @@ numberOfRefusal BadTarget = 8
 -- the number of an answer, 0 for an accepted image
 abbrev pub numberIn : Verdict → ℕ
 numberIn Accepted = 0
-numberIn (Refused n) = numberOfRefusal n
+numberIn (Rejected n) = numberOfRefusal n
 
 -- "slots (1 to 16), arguments (at most the slots), code length (at least 1)"
 abbrev pub rowGood : List ℕ → ℕ → Bool
@@ -47,7 +47,7 @@ allSlots slots (d ∷ ds) = ltb d slots && allSlots slots ds
 
 -- "An argument run is in range when a plus routine r's arguments is at most the slots"
 abbrev pub forkInRange : List ℕ → ℕ → ℕ → ℕ → ℕ → ℕ → Bool
-forkInRange s slots r d a w = ltb r (countOf s) && (allSlots slots (d ∷ w ∷ []) && leb (a + argumentsOf s r) slots)
+forkInRange s slots r d a w = ltb r (routineCount s) && (allSlots slots (d ∷ w ∷ []) && leb (a + argumentsOf s r) slots)
 
 -- are a command's slots, argument run and routine in range, in a routine of so many slots?
 unfoldable pub inRange : List ℕ → ℕ → Command → Bool
@@ -73,16 +73,16 @@ routinesVerdict s (suc n) r = routineVerdict (inRange s (slotsOf s r)) (codeOf s
 -- "Order: the whole-length tests, 2, rows and total, 3 per row; then per routine 4, 5, 6 command by command, 7, 8"
 unfoldable pub imageVerdict : List ℕ → Verdict
 imageVerdict s =
-    cond (eqb (length s) 0 || ltb 4096 (length s)) (Refused BadLength)
-    (cond (eqb (countOf s) 0 || ltb 32 (countOf s)) (Refused BadCount)
-    (cond (ltb (length s) (rowsEnd s)) (Refused BadLength)
-    (cond (not (eqb (length s) (startOf s (countOf s)))) (Refused BadLength)
-    (cond (not (rowsGood s (countOf s))) (Refused BadRow)
-    (routinesVerdict s (countOf s) 0)))))
+    cond (eqb (length s) 0 || ltb 4096 (length s)) (Rejected BadLength)
+    (cond (eqb (routineCount s) 0 || ltb 32 (routineCount s)) (Rejected BadCount)
+    (cond (ltb (length s) (rowsEnd s)) (Rejected BadLength)
+    (cond (not (eqb (length s) (startOf s (routineCount s)))) (Rejected BadLength)
+    (cond (not (rowsGood s (routineCount s))) (Rejected BadRow)
+    (routinesVerdict s (routineCount s) 0)))))
 
 abbrev pub programFor : Verdict → List ℕ → Program
 programFor Accepted s = programOf s
-programFor (Refused n) s = noProgram
+programFor (Rejected n) s = noProgram
 
 -- the whole answer
 unfoldable pub imageAnswer : List ℕ → Checked

@@ -8,8 +8,8 @@ use Rattle.image.specs.declared.Row.{Row}
 use Rattle.image.specs.declared.Program.{Program}
 
 -- the count of routines
-abbrev pub countOf : List ℕ → ℕ
-countOf s = getD s 0 0
+abbrev pub routineCount : List ℕ → ℕ
+routineCount s = getD s 0 0
 
 -- the four bytes of routine r's row
 abbrev pub slotsOf : List ℕ → ℕ → ℕ
@@ -23,7 +23,7 @@ lengthOf s r = pair (getD s (4 * r + 3) 0) (getD s (4 * r + 4) 0)
 
 -- the first byte after the rows
 abbrev pub rowsEnd : List ℕ → ℕ
-rowsEnd s = 4 * countOf s + 1
+rowsEnd s = 4 * routineCount s + 1
 
 -- the first byte of routine r's code: "the codes in row order"
 unfoldable pub startOf : List ℕ → ℕ → ℕ
@@ -49,7 +49,7 @@ rowsOf s (suc r) = set (rowsOf s r) r (rowOf s r)
 
 -- what an accepted image says of its routines
 abbrev pub programOf : List ℕ → Program
-programOf s = record { count = countOf s; rows = rowsOf s (countOf s) }
+programOf s = record { count = routineCount s; rows = rowsOf s (routineCount s) }
 
 -- the program of no image
 abbrev pub noProgram : Program

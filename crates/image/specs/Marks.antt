@@ -29,7 +29,7 @@ pub record Inside (start : ℕ → Bool) (marks : List ℕ) : Type 0 where
   pub within : (t : ℕ) → start t ≡ true → t < length marks
 
 -- a target's test, which hangs on what the starts will be, is put down in the marks, or known to fail
-pub record Asked (test : (ℕ → Bool) → Bool) (before after : List ℕ) (inside : Bool) : Type 0 where
+pub record MarksAsked (test : (ℕ → Bool) → Bool) (before after : List ℕ) (inside : Bool) : Type 0 where
   pub size : length after ≡ length before
   pub kept : (t : ℕ) → marked after t ≡ marked before t
   pub put : (start : ℕ → Bool) → Inside start before → Awaited start before → test start ≡ true → (inside ≡ true) × Awaited start after

@@ -19,10 +19,10 @@ struct Walked {
 }
 
 fn refused(refusal: Refusal) -> Walked
-    ensures { λ r. ⌜ r .verdict ≡ Verdict.Refused refusal ⌝ }
+    ensures { λ r. ⌜ r .verdict ≡ Verdict.Rejected refusal ⌝ }
 {
     Walked {
-        verdict: Verdict::Refused(refusal),
+        verdict: Verdict::Rejected(refusal),
         last: 0,
         inside: false,
     }
@@ -80,13 +80,13 @@ pub fn check_routine(image: &[u8], code: &[u8], slots: u8, marks: &mut [u8]) -> 
         return verdict;
     };
     if !may_end(walked.last) {
-        return Verdict::Refused(Refusal::BadEnd);
+        return Verdict::Rejected(Refusal::BadEnd);
     }
     if !walked.inside {
-        return Verdict::Refused(Refusal::BadTarget);
+        return Verdict::Rejected(Refusal::BadTarget);
     }
     if !all_met(marks) {
-        return Verdict::Refused(Refusal::BadTarget);
+        return Verdict::Rejected(Refusal::BadTarget);
     }
     Verdict::Accepted
 }

@@ -13,7 +13,7 @@ use command::byte_at;
 ghost use mathlib.Core.Path.{_≡_};
 ghost use Prim.Native.Nat.{_≤_, _<_};
 ghost use lib.ListN.{length};
-ghost use Rattle.image.specs.Layout.{countOf, startOf, programOf, noProgram, startsIn};
+ghost use Rattle.image.specs.Layout.{routineCount, startOf, programOf, noProgram, startsIn};
 ghost use Rattle.image.specs.Image.{routinesVerdict, imageVerdict, imageAnswer};
 ghost use Rattle.image.specs.Marks.{Blank};
 
@@ -70,7 +70,7 @@ pub enum Refusal {
 // What the reader says of an image.
 pub enum Verdict {
     Accepted,
-    Refused(Refusal),
+    Rejected(Refusal),
 }
 
 // The verdict with the program; the program of a refused image has no routine.
@@ -81,7 +81,7 @@ pub struct Checked {
 
 // The tests of the routines' codes, one routine after the other. Each code has its own part of the marks.
 fn routines_verdict(image: &[u8], count: usize, marks: &mut [u8]) -> Verdict
-    requires { ⌜ (count ≡ countOf (now image)) × (count ≤ 32) × (startOf (now image) count ≡ length (now image)) × (length (now image) ≤ length (now marks)) × Blank (now marks) ⌝ }
+    requires { ⌜ (count ≡ routineCount (now image)) × (count ≤ 32) × (startOf (now image) count ≡ length (now image)) × (length (now image) ≤ length (now marks)) × Blank (now marks) ⌝ }
     ensures { λ v. ⌜ v ≡ routinesVerdict (now (image .entry)) count 0 ⌝ }
 {
     let mut r: usize = 0;
@@ -96,8 +96,8 @@ fn routines_verdict(image: &[u8], count: usize, marks: &mut [u8]) -> Verdict
             &mut marks[start..end],
         );
         match verdict {
-            Verdict::Refused(refusal) => {
-                return Verdict::Refused(refusal);
+            Verdict::Rejected(refusal) => {
+                return Verdict::Rejected(refusal);
             }
             Verdict::Accepted => {}
         }
@@ -113,33 +113,33 @@ fn verdict_of(image: &[u8]) -> Verdict
 {
     let n = image.len();
     if n == 0 {
-        return Verdict::Refused(Refusal::BadLength);
+        return Verdict::Rejected(Refusal::BadLength);
     }
     if 4096 < n {
-        return Verdict::Refused(Refusal::BadLength);
+        return Verdict::Rejected(Refusal::BadLength);
     }
     let count = byte_at(image, 0) as usize;
     if count == 0 {
-        return Verdict::Refused(Refusal::BadCount);
+        return Verdict::Rejected(Refusal::BadCount);
     }
     if 32 < count {
-        return Verdict::Refused(Refusal::BadCount);
+        return Verdict::Rejected(Refusal::BadCount);
     }
     if n < 4 * count + 1 {
-        return Verdict::Refused(Refusal::BadLength);
+        return Verdict::Rejected(Refusal::BadLength);
     }
     if n != rows::codes_end(image, count) {
-        return Verdict::Refused(Refusal::BadLength);
+        return Verdict::Rejected(Refusal::BadLength);
     }
     if !rows::rows_good(image, count) {
-        return Verdict::Refused(Refusal::BadRow);
+        return Verdict::Rejected(Refusal::BadRow);
     }
     let mut marks = [0u8; 4096];
     routines_verdict(image, count, &mut marks)
 }
 
 fn program_of(image: &[u8]) -> Program
-    requires { ⌜ (countOf (now image) ≤ 32) × (startOf (now image) (countOf (now image)) ≤ 4096) ⌝ }
+    requires { ⌜ (routineCount (now image) ≤ 32) × (startOf (now image) (routineCount (now image)) ≤ 4096) ⌝ }
     ensures { λ p. ⌜ p ≡ programOf (now (image .entry)) ⌝ }
 {
     let count = byte_at(image, 0);
@@ -168,8 +168,8 @@ pub fn check(image: &[u8]) -> Checked
 {
     let verdict = verdict_of(image);
     match verdict {
-        Verdict::Refused(refusal) => Checked {
-            verdict: Verdict::Refused(refusal),
+        Verdict::Rejected(refusal) => Checked {
+            verdict: Verdict::Rejected(refusal),
             program: no_program(),
         },
         Verdict::Accepted => Checked {

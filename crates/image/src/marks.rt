@@ -4,11 +4,11 @@ ghost use Prim.Native.Nat.{_+_, _≤_};
 ghost use lib.ListN.{getD, length};
 ghost use Rattle.command.specs.Command.{pair, widthOf, decodedAt};
 ghost use Rattle.image.specs.Code.{targetGood};
-ghost use Rattle.image.specs.Marks.{Asked, Met};
+ghost use Rattle.image.specs.Marks.{MarksAsked, Met};
 
 // Byte t is asked for; false where it is outside the code.
 fn ask(marks: &mut [u8], t: usize) -> bool
-    ensures { λ r. ⌜ Asked (λ start. start t) (now (marks .entry)) (now (marks .exit)) r ⌝ }
+    ensures { λ r. ⌜ MarksAsked (λ start. start t) (now (marks .entry)) (now (marks .exit)) r ⌝ }
 {
     if marks.len() <= t {
         return false;
@@ -29,7 +29,7 @@ fn target_of(low: u8, high: u8) -> usize
 // The target of the whole command at a position, if it has one, is asked for.
 pub fn ask_target(code: &[u8], at: usize, marks: &mut [u8]) -> bool
     requires { ⌜ (1 ≤ widthOf (getD (now code) at 0)) × (at + widthOf (getD (now code) at 0) ≤ length (now code)) ⌝ }
-    ensures { λ r. ⌜ Asked (λ start. targetGood start (decodedAt (now (code .entry)) at)) (now (marks .entry)) (now (marks .exit)) r ⌝ }
+    ensures { λ r. ⌜ MarksAsked (λ start. targetGood start (decodedAt (now (code .entry)) at)) (now (marks .entry)) (now (marks .exit)) r ⌝ }
 {
     let byte = code[at];
     if byte == 6 {

@@ -25,6 +25,6 @@ pub fn image_number(verdict: Verdict) -> u8
 {
     match verdict {
         Verdict::Accepted => 0,
-        Verdict::Refused(refusal) => number_of(refusal),
+        Verdict::Rejected(refusal) => number_of(refusal),
     }
 }

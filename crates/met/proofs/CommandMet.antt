@@ -17,20 +17,20 @@ use Rattle.command.specs.Weight.{weightOf}
 use Rattle.command.proofs.Bools.{both}
 use Rattle.command.proofs.RoundTrip.{Stands, stands}
 use Rattle.command.proofs.Tables.{width-most}
-use Rattle.image.specs.Layout.{countOf, slotsOf, argumentsOf, startOf, codeOf}
+use Rattle.image.specs.Layout.{routineCount, slotsOf, argumentsOf, startOf, codeOf}
 use Rattle.image.specs.Code.{commandsOf, isStart, ends, targetGood}
 use Rattle.image.specs.Image.{inRange}
 use Rattle.image.proofs.Accepted.{Accepts, accepted}
 use Rattle.image.proofs.Laws.{Placed, placed, slots-most}
 use Rattle.window.specs.declared.Window.{Window}
 use Rattle.window.specs.declared.Cut.{Cut}
-use Rattle.window.specs.declared.Cut.the-variants.{Parts, OutOfRange}
+use Rattle.window.specs.declared.Cut.the-variants.{Parts, BadCut}
 use Rattle.window.specs.Rights.{cutAt}
 use Rattle.window.proofs.Laws.{cut-means}
 use Rattle.thread.specs.declared.Effect.{Effect}
 use Rattle.thread.specs.declared.Effect.the-variants.{Faults, Sets, Loads, Stores, Goes, Continues, Lforks, Forks, Joins, Suspends, Yields, Returns}
-use Rattle.thread.specs.Effect.{Own, anyPending, unlessPending, provided, forking, effectOf}
-use Rattle.thread.specs.View.{viewOf, mayCut, isCut}
+use Rattle.thread.specs.Effect.{Context, anyPending, unlessPending, provided, forking, effectOf}
+use Rattle.thread.specs.View.{contextOf, mayCut, isCut}
 use Rattle.thread.specs.Job.{Job, GoodJob, offsetAt, byteAt}
 use Rattle.thread.proofs.Routines.{InRange}
 use Rattle.met.proofs.Operands.{in-frame, in-range}
@@ -43,11 +43,11 @@ cut-inside w e h = go (cutAt w e) refl h
   where
     go : (c : Cut) → cutAt w e ≡ c → isCut c ≡ true → (w .mark ≤ e) × (e ≤ w .hi)
     go (Parts child rest) f g = let m = cut-means w e child rest f in (m .low, m .high)
-    go OutOfRange f g = absurd (let z : _≡_ {A = ℕ} 0 1 = cc in omega arith)
+    go BadCut f g = absurd (let z : _≡_ {A = ℕ} 0 1 = cc in omega arith)
 
 -- what a fork asks for
 pub record ForkMet (image : List ℕ) (slots : ℕ) (w : Window) (r d a e : ℕ) : Type 0 where
-  pub routine : r < countOf image
+  pub routine : r < routineCount image
   pub result : d < slots
   pub arguments : a + argumentsOf image r ≤ slots
   pub low : w .mark ≤ e
@@ -91,19 +91,19 @@ module _ (image : List ℕ) (slots : ℕ) (start : ℕ → Bool) (next : ℕ) (s
   met-choice false x y f g = g
 
   met-fork : (r d a k : ℕ) (e : Effect) → inRange image slots (Lfork r d a k) ≡ true → (ForkMet image slots w r d a (slot k) → Met e)
-      → Met (forking (argumentsOf image) (viewOf slot pending w) r d a k e)
+      → Met (forking (argumentsOf image) (contextOf slot pending w) r d a k e)
   unfolding forking inRange
   met-fork r d a k e i f = met-unless _ _ _ (λ none. met-provided _ _ _ (λ allowed. f (asks (cut-inside w (slot k) allowed))))
     where
-      range : (ltb r (countOf image) ≡ true) × ((ltb d slots && (ltb k slots && true)) && leb (a + argumentsOf image r) slots ≡ true)
-      range = both (ltb r (countOf image)) ((ltb d slots && (ltb k slots && true)) && leb (a + argumentsOf image r) slots) i
+      range : (ltb r (routineCount image) ≡ true) × ((ltb d slots && (ltb k slots && true)) && leb (a + argumentsOf image r) slots ≡ true)
+      range = both (ltb r (routineCount image)) ((ltb d slots && (ltb k slots && true)) && leb (a + argumentsOf image r) slots) i
 
       slots-range : (ltb d slots && (ltb k slots && true) ≡ true) × (leb (a + argumentsOf image r) slots ≡ true)
       slots-range = both (ltb d slots && (ltb k slots && true)) (leb (a + argumentsOf image r) slots) (range .1)
 
       asks : (w .mark ≤ slot k) × (slot k ≤ w .hi) → ForkMet image slots w r d a (slot k)
       asks c = record {
-        routine = ltb-true r (countOf image) (range .0);
+        routine = ltb-true r (routineCount image) (range .0);
         result = ltb-true d slots (both (ltb d slots) (ltb k slots && true) (slots-range .0) .0);
         arguments = leb-true (a + argumentsOf image r) slots (slots-range .1);
         low = c .0;
@@ -115,7 +115,7 @@ module _ (image : List ℕ) (slots : ℕ) (start : ℕ → Bool) (next : ℕ) (s
 
   -- by the command
   pub met : (c : Command) → inRange image slots c ≡ true → targetGood start c ≡ true → (ends c ≡ false → start next ≡ true)
-      → Met (effectOf (argumentsOf image) (viewOf slot pending w) c)
+      → Met (effectOf (argumentsOf image) (contextOf slot pending w) c)
   unfolding effectOf inRange
   met (Set d v) i t n = met-unless _ _ _ (λ none. record { facts = (first-slot d true i, n refl) })
   met (Add d x y) i t n = met-unless _ _ _ (λ none. record { facts = (first-slot d (ltb x slots && (ltb y slots && true)) i, n refl) })
@@ -132,7 +132,7 @@ module _ (image : List ℕ) (slots : ℕ) (start : ℕ → Bool) (next : ℕ) (s
   met (Return a) i t n = met-unless _ _ _ (λ none. record { facts = tt })
 
 -- at position p of routine r
-module _ (j : Job) (good : GoodJob j) (r p : ℕ) (routine : r < countOf (j .image)) (position : isStart (commandsOf (codeOf (j .image) r)) p ≡ true) where
+module _ (j : Job) (good : GoodJob j) (r p : ℕ) (routine : r < routineCount (j .image)) (position : isStart (commandsOf (codeOf (j .image) r)) p ≡ true) where
   accepts : Accepts (j .image)
   accepts = accepted (j .image) (good .image)
 
@@ -180,16 +180,16 @@ module _ (j : Job) (good : GoodJob j) (r p : ℕ) (routine : r < countOf (j .ima
   operands-few = rw command-is at (in-range (j .image) (slotsOf (j .image) r) (here .command) slots-few (in-frame (j .image) (slotsOf (j .image) r) (here .command) (here .range)))
 
   -- what was tested where it has its effect
-  pub tested-here : (own : Own) → Guarded (argumentsOf (j .image)) own (effectOf (argumentsOf (j .image)) own (decodedAt (j .image) (offsetAt j r p)))
+  pub tested-here : (own : Context) → Guarded (argumentsOf (j .image)) own (effectOf (argumentsOf (j .image)) own (decodedAt (j .image) (offsetAt j r p)))
   tested-here own = guarded (argumentsOf (j .image)) own (decodedAt (j .image) (offsetAt j r p)) operands-few
 
   -- the effect tells the command's bytes
-  pub width-here : (own : Own) → Widened (widthOf (byteAt j r p)) (effectOf (argumentsOf (j .image)) own (decodedAt (j .image) (offsetAt j r p)))
+  pub width-here : (own : Context) → Widened (widthOf (byteAt j r p)) (effectOf (argumentsOf (j .image)) own (decodedAt (j .image) (offsetAt j r p)))
   width-here own = decoded-wide (argumentsOf (j .image)) own (j .image) (offsetAt j r p) some-bytes
 
   -- what the image tells of the effect
   pub met-here : (slot : ℕ → ℕ) (pending : ℕ → Bool) (w : Window)
       → Met (j .image) (slotsOf (j .image) r) (isStart (commandsOf (codeOf (j .image) r))) (p + widthOf (byteAt j r p)) slot pending w
-      (effectOf (argumentsOf (j .image)) (viewOf slot pending w) (decodedAt (j .image) (offsetAt j r p)))
+      (effectOf (argumentsOf (j .image)) (contextOf slot pending w) (decodedAt (j .image) (offsetAt j r p)))
   met-here slot pending w = rw (← command-is) (met _ _ _ _ _ _ _ (here .command) (here .range) (here .target)
       (λ k. ap (λ z. isStart (commandsOf (codeOf (j .image) r)) (p + z)) (sym width-is) ∙ here .next k))

@@ -10,18 +10,18 @@ use borrow.Author.Tests.{ltb-true, leb-true}
 use Rattle.command.specs.declared.Command.{Command}
 use Rattle.command.specs.declared.Command.the-variants.{Set, Add, Subtract, Load, Store, JumpIfZero, Jump, Lfork, Fork, Join, Suspend, Yield, Return}
 use Rattle.command.proofs.Bools.{both}
-use Rattle.image.specs.Layout.{countOf, argumentsOf}
+use Rattle.image.specs.Layout.{routineCount, argumentsOf}
 use Rattle.image.specs.Image.{allSlots, forkInRange, inRange}
 use Rattle.window.specs.declared.Window.{Window}
 use Rattle.window.specs.Rights.{mayLoad, mayStore}
 use Rattle.thread.specs.declared.Effect.the-variants.{Sets, Loads, Stores, Goes, Continues, Lforks, Forks, Returns}
 use Rattle.thread.specs.Effect.{run, unlessPending, provided, sum, difference, forking, effectOf}
-use Rattle.thread.specs.View.{viewOf, mayCut}
+use Rattle.thread.specs.View.{contextOf, mayCut}
 use Rattle.thread.proofs.Routines.{InRange}
 
 -- the operands of a fork, in a routine of n slots
 pub record ForkOperands (s : List ℕ) (n r d a w : ℕ) : Type 0 where
-  pub routine : r < countOf s
+  pub routine : r < routineCount s
   pub result : d < n
   pub cut : w < n
   pub arguments : a + argumentsOf s r ≤ n
@@ -53,11 +53,11 @@ slot-three n a b c h = let p = both (ltb a n) (allSlots n (b ∷ c ∷ [])) h in
 
 fork-operands : (s : List ℕ) (n r d a w : ℕ) → forkInRange s n r d a w ≡ true → ForkOperands s n r d a w
 fork-operands s n r d a w h =
-    let p = both (ltb r (countOf s)) (allSlots n (d ∷ w ∷ []) && leb (a + argumentsOf s r) n) h in
+    let p = both (ltb r (routineCount s)) (allSlots n (d ∷ w ∷ []) && leb (a + argumentsOf s r) n) h in
     let q = both (allSlots n (d ∷ w ∷ [])) (leb (a + argumentsOf s r) n) (p .1) in
     let o = slot-two n d w (q .0) in
     record {
-      routine = ltb-true r (countOf s) (p .0);
+      routine = ltb-true r (routineCount s) (p .0);
       result = o .0;
       cut = o .1;
       arguments = leb-true (a + argumentsOf s r) n (q .1);
@@ -98,7 +98,7 @@ in-range s n (Return a) l h = omega arith
 -- two functions that agree on a frame's slots give a command the same effect
 module _ (s : List ℕ) (n : ℕ) (f g : ℕ → ℕ) (alike : (k : ℕ) → k < n → f k ≡ g k) (pending : ℕ → Bool) (w : Window) where
   pub effect-alike : (c : Command) → InFrame s n c
-      → effectOf (argumentsOf s) (viewOf f pending w) c ≡ effectOf (argumentsOf s) (viewOf g pending w) c
+      → effectOf (argumentsOf s) (contextOf f pending w) c ≡ effectOf (argumentsOf s) (contextOf g pending w) c
   unfolding effectOf forking
   effect-alike (Set d v) h = refl
   effect-alike (Add d a b) h =

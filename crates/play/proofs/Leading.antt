@@ -11,10 +11,10 @@ use Rattle.schedule.specs.declared.Entry.{Entry}
 use Rattle.schedule.specs.declared.Entry.the-variants.{Step, Steal}
 use Rattle.schedule.specs.declared.EntryRead.{EntryRead}
 use Rattle.schedule.specs.declared.EntryRead.the-variants.{Found, End, Malformed}
-use Rattle.schedule.specs.Format.{bytesOf, entryIn, entryAt}
+use Rattle.schedule.specs.Format.{bytesOfEntry, entryIn, entryAt}
 use Rattle.schedule.specs.Meaning.{entries, entriesOf}
 use Rattle.schedule.proofs.Standing.{found}
-use Rattle.reader.specs.Row.{Row}
+use Rattle.reader.specs.Row.{StepsRow}
 use Rattle.schedule.proofs.Following.{one-map, next-entry, no-entry}
 use Rattle.play.specs.Entries.{leading}
 
@@ -79,10 +79,10 @@ pub leads-all : (s : List ℕ) (es : List Entry) (at : ℕ) → entriesOf (drop 
 leads-all s [] at h = leads-none s at End (no-entry s at h) (λ e next k. let z : _≡_ {A = ℕ} 0 1 = cc in omega arith)
 leads-all s (e ∷ es) at h =
     let n = next-entry s at e es h in
-    leads-found s at e (at + length (bytesOf e)) (n .read) ∙ ap (λ (l : List Entry). e ∷ l) (leads-all s es (at + length (bytesOf e)) (n .rest))
+    leads-found s at e (at + length (bytesOfEntry e)) (n .read) ∙ ap (λ (l : List Entry). e ∷ l) (leads-all s es (at + length (bytesOfEntry e)) (n .rest))
 
 -- it ends within the schedule
-pub row-within : (s : List ℕ) (next c more follow : ℕ) → Row s next c more → follow ≤ more → next ≤ length s → next + 2 * follow ≤ length s
+pub row-within : (s : List ℕ) (next c more follow : ℕ) → StepsRow s next c more → follow ≤ more → next ≤ length s → next + 2 * follow ≤ length s
 row-within s next c more zero row few l = omega (arith, l)
 row-within s next c more (suc follow) row few l =
     omega (arith, found s (next + 2 * follow) (Step c) (next + 2 * follow + 2) (row .each follow (omega (arith, few))) .within)

@@ -12,7 +12,7 @@ use Rattle.schedule.specs.declared.Entry.{Entry}
 use Rattle.schedule.specs.declared.Entry.the-variants.{Step, Take, Steal, Enable}
 use Rattle.schedule.specs.declared.EntryRead.the-variants.{Found}
 use Rattle.schedule.specs.Format.{entryAt}
-use Rattle.reader.specs.Row.{Row}
+use Rattle.reader.specs.Row.{StepsRow}
 use Rattle.rules.specs.State.{Job, State, After}
 use Rattle.rules.specs.Rules.{entryOf}
 use Rattle.rules.specs.Sound.{Sound}
@@ -90,7 +90,7 @@ module _ (j : Job) (s₀ : State) (schedule log₀ : List ℕ) where
         (subst (λ (n : ℕ). LogsOn log k (n ∷ []) (set log k (a .log))) (ap (λ (x : After). x .log) is) (put-on log k (a .log) room))
 
     -- a row of steps
-    pub goes-row : (c next more follow : ℕ) (end : State) (log' : List ℕ) → entryAt schedule at ≡ Found (Step c) next → Row schedule next c more → follow ≤ more
+    pub goes-row : (c next more follow : ℕ) (end : State) (log' : List ℕ) → entryAt schedule at ≡ Found (Step c) next → StepsRow schedule next c more → follow ≤ more
         → k + (follow + 1) ≤ length log₀ → RowPlayed j s (Step c) (follow + 1) log k end log'
         → Left j s₀ schedule log₀ end (next + 2 * follow) (k + (follow + 1)) log'
     goes-row c next more follow end log' here row few room played =

@@ -12,7 +12,7 @@ use lib.ListN.{length, getD, set}
 use Rattle.queue.proofs.Ring.{ring-below, ring-rest, ring-append, length-ring}
 use Rattle.queue.specs.declared.Queue.{Queue}
 use Rattle.queue.specs.declared.Front.the-variants.{Number, Nothing}
-use Rattle.queue.specs.Contents.{contents, ring, queueOf, firstOf, restOf, appended, Dequeues, Enqueues}
+use Rattle.queue.specs.Contents.{contents, ring, queueOf, firstOf, tailOf, appended, Dequeues, Enqueues}
 
 -- only an empty queue hands out nothing
 pub nothing-empty : (xs : List ℕ) → firstOf xs ≡ Nothing → xs ≡ []
@@ -20,12 +20,12 @@ nothing-empty [] e = refl
 nothing-empty (x ∷ xs) e = let z : _≡_ {A = ℕ} 0 1 = cc in absurd (omega arith)
 
 -- the number handed out stood before the rest
-pub number-first : (xs : List ℕ) (n : ℕ) → firstOf xs ≡ Number n → xs ≡ n ∷ restOf xs
+pub number-first : (xs : List ℕ) (n : ℕ) → firstOf xs ≡ Number n → xs ≡ n ∷ tailOf xs
 number-first [] n e = let z : _≡_ {A = ℕ} 0 1 = cc in absurd (omega arith)
 number-first (x ∷ xs) n e = cc
 
 -- shorter by one, unless it was empty
-pub length-rest : (xs : List ℕ) → length (restOf xs) ≡ length xs - 1
+pub length-rest : (xs : List ℕ) → length (tailOf xs) ≡ length xs - 1
 length-rest [] = refl
 length-rest (x ∷ xs) = omega arith
 
@@ -60,7 +60,7 @@ first-is places head len h = dequeues (queueOf places head len) (len - 1) (omega
 
 -- the rest of it, once the head has moved on
 pub rest-is : (places : List ℕ) (head len : ℕ) → 0 < len
-    → contents (queueOf places ((head % 32 + 1) % 32) (len - 1)) ≡ restOf (contents (queueOf places head len))
+    → contents (queueOf places ((head % 32 + 1) % 32) (len - 1)) ≡ tailOf (contents (queueOf places head len))
 rest-is places head len h = dequeues (queueOf places head len) (len - 1) (omega arith) .rest
 
 -- what a queue with room gives when a number is put behind its last

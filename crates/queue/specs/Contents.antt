@@ -38,9 +38,9 @@ firstOf [] = Nothing
 firstOf (x ∷ xs) = Number x
 
 -- "is returned shorter by one"
-abbrev pub restOf : List ℕ → List ℕ
-restOf [] = []
-restOf (x ∷ xs) = xs
+abbrev pub tailOf : List ℕ → List ℕ
+tailOf [] = []
+tailOf (x ∷ xs) = xs
 
 -- "given back at the tail"; "a full one takes nothing", where cap numbers are full
 unfoldable pub appended : ℕ → List ℕ → ℕ → List ℕ
@@ -49,7 +49,7 @@ appended cap xs n = cond (ltb (length xs) cap) (xs ++ (n ∷ [])) xs
 -- what `dequeue` gives of q: its first number and the rest; an empty one is to "come back unchanged"
 pub record Dequeues (q : Queue) (r : Dequeued) : Type 0 where
   pub first : r .first ≡ firstOf (contents q)
-  pub rest : contents (r .queue) ≡ restOf (contents q)
+  pub rest : contents (r .queue) ≡ tailOf (contents q)
   pub unchanged : contents q ≡ [] → r .queue ≡ q
 
 -- what `enqueue` gives of q and n: n at the tail; a full one is to "come back unchanged"

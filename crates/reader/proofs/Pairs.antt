@@ -14,20 +14,20 @@ use Rattle.schedule.specs.declared.EntryRead.the-variants.{Found}
 use Rattle.schedule.specs.Format.{entryAt}
 use Rattle.schedule.proofs.Bools.{both, untrue}
 use Rattle.schedule.proofs.Standing.{Found-at, found, reads-step}
-use Rattle.reader.specs.Row.{pairOf, isPair, areFour}
+use Rattle.reader.specs.Row.{keyAt, isPair, areFour}
 
 -- two bytes with the number key
 pub record Pair (s : List ℕ) (at key : ℕ) : Type 0 where
   pub fits : at + 2 ≤ length s
-  pub is : pairOf s at (at + 1) ≡ key
+  pub is : keyAt s at (at + 1) ≡ key
 
 -- four such pairs
 pub record Four (s : List ℕ) (at key : ℕ) : Type 0 where
   pub fits : at + 8 ≤ length s
-  pub first : pairOf s at (at + 1) ≡ key
-  pub second : pairOf s (at + 2) (at + 3) ≡ key
-  pub third : pairOf s (at + 4) (at + 5) ≡ key
-  pub fourth : pairOf s (at + 6) (at + 7) ≡ key
+  pub first : keyAt s at (at + 1) ≡ key
+  pub second : keyAt s (at + 2) (at + 3) ≡ key
+  pub third : keyAt s (at + 4) (at + 5) ≡ key
+  pub fourth : keyAt s (at + 6) (at + 7) ≡ key
 
 -- four steps of core c, one after another
 pub record Steps (s : List ℕ) (at c : ℕ) : Type 0 where
@@ -49,7 +49,7 @@ module _ (s : List ℕ) (at key : ℕ) where
   no-pair h = untrue (isPair s at key) (λ t. h (pair t))
 
   -- where two bytes stand, their number r decides
-  pub pair-told : (r : ℕ) → at + 2 ≤ length s → r ≡ pairOf s at (at + 1) → eqb r key ≡ isPair s at key
+  pub pair-told : (r : ℕ) → at + 2 ≤ length s → r ≡ keyAt s at (at + 1) → eqb r key ≡ isPair s at key
   unfolding isPair
   pair-told r l h = rw (le-leb _ _ l, h)
 
@@ -66,8 +66,8 @@ module _ (s : List ℕ) (at key : ℕ) where
   no-four h = untrue (areFour s at key) (λ t. h (four t))
 
   -- with three of them, the last one's number r decides
-  pub four-told : (r : ℕ) → at + 8 ≤ length s → pairOf s at (at + 1) ≡ key → pairOf s (at + 2) (at + 3) ≡ key → pairOf s (at + 4) (at + 5) ≡ key
-      → r ≡ pairOf s (at + 6) (at + 7) → eqb r key ≡ areFour s at key
+  pub four-told : (r : ℕ) → at + 8 ≤ length s → keyAt s at (at + 1) ≡ key → keyAt s (at + 2) (at + 3) ≡ key → keyAt s (at + 4) (at + 5) ≡ key
+      → r ≡ keyAt s (at + 6) (at + 7) → eqb r key ≡ areFour s at key
   unfolding areFour
   four-told r l a b c h = rw (le-leb _ _ l, eq-eqb _ _ a, eq-eqb _ _ b, eq-eqb _ _ c, h)
 
@@ -82,14 +82,14 @@ step-pair s at c next h =
 
 -- the steps of core c by their pairs, whose number is key
 module _ (s : List ℕ) (c key : ℕ) (number : key ≡ 1 + 256 * c) (bytes : (i : ℕ) → getD s i 0 < 256) where
-  by-pair : (at : ℕ) → at + 2 ≤ length s → pairOf s at (at + 1) ≡ key → entryAt s at ≡ Found (Step c) (at + 2)
+  by-pair : (at : ℕ) → at + 2 ≤ length s → keyAt s at (at + 1) ≡ key → entryAt s at ≡ Found (Step c) (at + 2)
   by-pair at l h =
       let kind : getD s at 0 ≡ 1 = omega (arith, h, number, bytes at) in
       let core : getD s (at + 1) 0 ≡ c = omega (arith, h, number, bytes at) in
       reads-step s at (omega arith) kind ∙ rw core
 
   -- k bytes behind a position
-  behind : (at k : ℕ) → at + k + 2 ≤ length s → pairOf s (at + k) (at + (k + 1)) ≡ key → entryAt s (at + k) ≡ Found (Step c) (at + (k + 2))
+  behind : (at k : ℕ) → at + k + 2 ≤ length s → keyAt s (at + k) (at + (k + 1)) ≡ key → entryAt s (at + k) ≡ Found (Step c) (at + (k + 2))
   behind at k l h = rw (← add-assoc at k 2) (by-pair (at + k) l (rw (← add-assoc at k 1) at h))
 
   pub step : (at : ℕ) → isPair s at key ≡ true → entryAt s at ≡ Found (Step c) (at + 2)

@@ -11,7 +11,7 @@ use Rattle.schedule.specs.declared.EntryRead.the-variants.{Found}
 use Rattle.schedule.specs.Format.{entryAt}
 use Rattle.schedule.proofs.Standing.{Found-at, found}
 use Rattle.reader.proofs.Pairs.{Steps}
-use Rattle.reader.specs.Row.{Row}
+use Rattle.reader.specs.Row.{StepsRow}
 
 -- some steps of core c, from a position to another
 pub record Part (s : List ℕ) (at c i : ℕ) : Type 0 where
@@ -41,11 +41,11 @@ module _ (s : List ℕ) (at c : ℕ) where
   four-more i p f = one-more _ _ (one-more _ _ (one-more _ _ (one-more _ _ p (f .first)) (f .second)) (f .third)) (f .fourth)
 
   -- no step stands at the position itself
-  pub no-row : ((next : ℕ) → entryAt s at ≡ Found (Step c) next → ⊥) → Row s at c 0
+  pub no-row : ((next : ℕ) → entryAt s at ≡ Found (Step c) next → ⊥) → StepsRow s at c 0
   no-row h = record { each = below-none _; ends = rw (mul-zero, add-zero) h }
 
   -- none stands behind those passed
-  pub whole-row : (i : ℕ) → Part s at c i → ((next : ℕ) → entryAt s i ≡ Found (Step c) next → ⊥) → Row s at c ((i - at) / 2)
+  pub whole-row : (i : ℕ) → Part s at c i → ((next : ℕ) → entryAt s i ≡ Found (Step c) next → ⊥) → StepsRow s at c ((i - at) / 2)
   whole-row i p h =
       let r : (i - at) / 2 ≡ p .many = omega (arith, p .here) in
       rw r (record { each = p .each; ends = rw (p .here) at h })

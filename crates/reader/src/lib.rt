@@ -4,7 +4,7 @@ use schedule::EntryRead;
 ghost use mathlib.Core.Path.{_≡_};
 ghost use Prim.Native.Nat.{_+_, _*_};
 ghost use Rattle.schedule.specs.Format.{EntryAnswer};
-ghost use Rattle.reader.specs.Row.{isPair, areFour, Row};
+ghost use Rattle.reader.specs.Row.{isPair, areFour, StepsRow};
 
 // A schedule, and the position of its next entry.
 pub struct EntryReader<'a> {
@@ -93,7 +93,7 @@ fn are_four(schedule: &[u8], at: usize, key: u16) -> bool
 // How many steps of core c stand from a position on, one after another. Four are compared at a time, for long rows. A row that ends before
 // its last step, or that goes on over a take or another core's step, is a wrong answer.
 pub fn steps_after(schedule: &[u8], at: usize, c: u8) -> usize
-    ensures { λ r. ⌜ Row (now (schedule .entry)) at c r ⌝ }
+    ensures { λ r. ⌜ StepsRow (now (schedule .entry)) at c r ⌝ }
 {
     let key = pair(STEP, c);
     if !is_step(schedule, at, key) {

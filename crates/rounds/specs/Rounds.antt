@@ -7,7 +7,7 @@ use lib.Dec.{ltb, leb, eqb}
 use lib.ListN.{length, drop}
 use Rattle.schedule.specs.declared.Entry.{Entry}
 use Rattle.schedule.specs.declared.Entry.the-variants.{Enable}
-use Rattle.schedule.specs.Format.{bytesOf, bytesOfEntries}
+use Rattle.schedule.specs.Format.{bytesOfEntry, bytesOfEntries}
 use Rattle.thread.specs.Thread.{none}
 use Rattle.rules.specs.State.{Job, State, After, isOver}
 use Rattle.rules.specs.Rules.{entryOf}
@@ -38,7 +38,7 @@ recorded e a p =
     (record {
       state = a .state;
       written = p .written ++ (e ∷ []);
-      left = p .left - length (bytesOf e);
+      left = p .left - length (bytesOfEntry e);
       moved = p .moved || eqb (a .log) 0;
     })
     p
@@ -61,8 +61,8 @@ abbrev pub round : Job → Progress → Progress
 round j p = turns (p .state .count) j 0 (fresh p)
 
 -- whether a round is followed by another: it does not "when nothing can be enabled"
-abbrev pub goesOn : Progress → Bool
-goesOn p = mayTry p && (p .moved || ltb (lowestSuspended (p .state)) none)
+abbrev pub playsOn : Progress → Bool
+playsOn p = mayTry p && (p .moved || ltb (lowestSuspended (p .state)) none)
 
 -- "After a round with nothing accepted the lowest suspended thread is enabled"
 unfoldable pub wakened : Job → Progress → Progress
@@ -71,7 +71,7 @@ wakened j p = cond (p .moved) p (tried j (Enable (lowestSuspended (p .state))) p
 -- rounds, n at most; a round that is followed by another has written an entry, so n above the bytes left is never reached
 unfoldable pub rounds : ℕ → Job → Progress → Progress
 rounds zero j p = p
-rounds (suc n) j p = cond (goesOn (round j p)) (rounds n j (wakened j (round j p))) (round j p)
+rounds (suc n) j p = cond (playsOn (round j p)) (rounds n j (wakened j (round j p))) (round j p)
 
 -- "its buffer, of which it uses at most 32,768"
 abbrev pub usable : ℕ → ℕ

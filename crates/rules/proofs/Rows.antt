@@ -1,5 +1,4 @@
 -- The worked rows hold, computed by the rules. Assumes nothing.
-use mathlib.Core.List.{List, [], _∷_}
 use mathlib.Core.Path.{_≡_, refl}
 use Rattle.command.specs.Command.{decoded}
 use Rattle.image.specs.Layout.{startOf, rowsOf, startsUpTo}
@@ -16,13 +15,8 @@ use Rattle.rules.specs.Fork.{goesAbove, placeOf, born, forkOn, forkWith,
 use Rattle.rules.specs.Return.{stackletsWithout, wakes, statusAfter, readyAfter, returnToParent, returnOf}
 use Rattle.rules.specs.Rules.{carriedOf, turnOf, stepOf, takeInto, takeOf, isSeed, stolenOf, stealOf, enableOf, entryOf}
 use Rattle.rules.specs.Runs.{runFrom, logsFrom}
-use Rattle.rules.specs.Row.{Row, Told, toldByRules, toldByHand}
+use Rattle.rules.specs.Row.{each, toldByRules, toldByHand}
 use Rattle.rules.specs.Rows.{rows}
-
--- of each row
-abbrev pub each : (Row → Told) → List Row → List Told
-each told [] = []
-each told (r ∷ rs) = told r ∷ each told rs
 
 pub rows-hold : each toldByRules rows ≡ each toldByHand rows
 unfolding decoded startOf rowsOf startsUpTo appended fitsOn pushedTops argumentsAt framed pushedWords run anyPending unlessPending provided forking effectOf isPending withPending mayStore mayLoad cutAt startState effectAt leaves goesAbove placeOf born forkOn forkWith forkOf stackletsWithout wakes statusAfter readyAfter returnToParent returnOf carriedOf turnOf stepOf takeInto takeOf isSeed stolenOf stealOf enableOf entryOf runFrom logsFrom

@@ -46,11 +46,11 @@ goesAbove j s kind h r =
     isConnected kind && (isTopmost (s .store .tops) (h .origin .base) (slotsOf (j .image) (h .origin .routine)) && fitsOn (s .store .tops) (h .origin .base / 64) (slotsOf (j .image) r))
 
 -- the stacklet of a new frame, with the free stacklets that are left: "otherwise on a free stacklet"
-pub data Place : Type 0 where
-  onStacklet : ℕ → List ℕ → Place
-  nowhere : Place
+pub data Placement : Type 0 where
+  onStacklet : ℕ → List ℕ → Placement
+  nowhere : Placement
 
-unfoldable pub placeOf : Bool → ℕ → List ℕ → Place
+unfoldable pub placeOf : Bool → ℕ → List ℕ → Placement
 placeOf true x free = onStacklet x free
 placeOf false x [] = nowhere
 placeOf false x (y ∷ ys) = onStacklet y ys
@@ -94,7 +94,7 @@ born j s kind o f g =
     (setThread (o .number) (parentThread kind o f) s)))))))
 
 -- "21: a stacklet is needed and none is free"
-unfoldable pub forkOn : State → (ℕ → List ℕ → State) → Place → After
+unfoldable pub forkOn : State → (ℕ → List ℕ → State) → Placement → After
 forkOn s child (onStacklet x xs) = accepted (child x xs)
 forkOn s child nowhere = refused 21 s
 

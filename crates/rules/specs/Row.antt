@@ -12,7 +12,7 @@ use Rattle.rules.specs.Start.{startState}
 use Rattle.rules.specs.Runs.{runFrom, logsFrom}
 
 -- a run of an image on as many arguments as its routine 0 has, 7 and on; parameter word i is 100 + i, and the memory words start zero
-pub record Row : Type 0 where
+pub record WorkedRow : Type 0 where
   pub image : List ℕ
   pub cores : ℕ
   pub allowance : ℕ
@@ -25,11 +25,11 @@ pub record Row : Type 0 where
   -- of threads 0 to 3
   pub statuses : List Status
 
-abbrev pub jobIn : Row → Job
-jobIn r = jobOf (r .image) (startsIn (programOf (r .image))) (ascendingFrom 100 32) (r .allowance)
+abbrev pub rowJob : WorkedRow → Job
+rowJob r = jobOf (r .image) (startsIn (programOf (r .image))) (ascendingFrom 100 32) (r .allowance)
 
-abbrev pub startIn : Row → State
-startIn r = startState (jobIn r) (r .cores) (ascendingFrom 7 (argumentsOf (r .image) 0)) (replicate 992 0)
+abbrev pub rowStart : WorkedRow → State
+rowStart r = startState (rowJob r) (r .cores) (ascendingFrom 7 (argumentsOf (r .image) 0)) (replicate 992 0)
 
 -- what is told of a run
 pub record Told : Type 0 where
@@ -49,18 +49,23 @@ toldOf log s = record {
 }
 
 -- by the rules, and by hand
-abbrev pub toldByRules : Row → Told
-toldByRules r = toldOf (logsFrom (jobIn r) (startIn r) (r .entries)) (runFrom (jobIn r) (startIn r) (r .entries))
+abbrev pub toldByRules : WorkedRow → Told
+toldByRules r = toldOf (logsFrom (rowJob r) (rowStart r) (r .entries)) (runFrom (rowJob r) (rowStart r) (r .entries))
 
-abbrev pub toldByHand : Row → Told
+abbrev pub toldByHand : WorkedRow → Told
 toldByHand r = record { log = r .log; outcome = r .outcome; units = r .units; memory = r .memory; statuses = r .statuses }
 
 -- memory words where nothing was stored, and threads when the machine has finished
 abbrev pub untouched : List ℕ
 untouched = 0 ∷ 0 ∷ 0 ∷ 0 ∷ []
 
-abbrev pub allFree : List Status
-allFree = Free ∷ Free ∷ Free ∷ Free ∷ []
+-- of each row
+abbrev pub each : (WorkedRow → Told) → List WorkedRow → List Told
+each told [] = []
+each told (r ∷ rs) = told r ∷ each told rs
+
+abbrev pub noneLeft : List Status
+noneLeft = Free ∷ Free ∷ Free ∷ Free ∷ []
 
 -- returns 5
 abbrev pub five : List ℕ

@@ -1,7 +1,7 @@
 -- All worked rows: small runs by entries, with their log bytes and their end worked out by hand from document 01. A second witness of the rules:
 -- a wrong rule gives another log byte or another end (proofs/Rows.antt computes them).
 use mathlib.Core.List.{List, _++_}
-use Rattle.rules.specs.Row.{Row}
+use Rattle.rules.specs.Row.{WorkedRow}
 use Rattle.rules.specs.RowsForks.{forkRows}
 use Rattle.rules.specs.RowsJoins.{joinRows}
 use Rattle.rules.specs.RowsTables.{tableRows}
@@ -9,5 +9,5 @@ use Rattle.rules.specs.RowsSteals.{stealRows}
 use Rattle.rules.specs.RowsEntries.{entryRows}
 use Rattle.rules.specs.RowsCommands.{commandRows}
 
-abbrev pub rows : List Row
+abbrev pub rows : List WorkedRow
 rows = forkRows ++ (joinRows ++ (tableRows ++ (stealRows ++ (entryRows ++ commandRows))))

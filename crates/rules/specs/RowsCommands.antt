@@ -4,11 +4,11 @@ use lib.ListN.{replicate}
 use Rattle.schedule.specs.declared.Entry.the-variants.{Step}
 use Rattle.thread.specs.declared.Status.the-variants.{Free, Running, Ready, Lent}
 use Rattle.rules.specs.State.{finished, faulted}
-use Rattle.rules.specs.Row.{Row, untouched, allFree, nought, storing, calls}
+use Rattle.rules.specs.Row.{WorkedRow, untouched, noneLeft, nought, storing, calls}
 
 -- "d becomes a+b, a−b, modulo 2^32"; "values of two .. bytes are little-endian": slot 0 is 01 02, so 513; slot 1 is 0 − 513, so 2^32 − 513;
 -- slot 2 is twice that, 2^32 − 1,026
-abbrev pub sumsAreModulo : Row
+abbrev pub sumsAreModulo : WorkedRow
 sumsAreModulo = record {
   image =
       (0x01 ∷ 0x03 ∷ 0x00 ∷ 0x0E ∷ 0x00 ∷ [])
@@ -20,12 +20,12 @@ sumsAreModulo = record {
   outcome = finished 4294966270;
   units = 4;
   memory = untouched;
-  statuses = allFree;
+  statuses = noneLeft;
 }
 
 -- "if slot a is 0 go to t", "go to t", "A target t counts bytes from its routine's start": slot 0 goes down from 2 by 1 in the commands at 8,
 -- 12 and 16, twice; the third time the one at 8 goes to the return at 19. Units: 1 + 1, twice 1 + 1 + 1, and 1 + 1
-abbrev pub jumps : Row
+abbrev pub jumps : WorkedRow
 jumps = record {
   image =
       (0x01 ∷ 0x02 ∷ 0x00 ∷ 0x15 ∷ 0x00 ∷ [])
@@ -38,12 +38,12 @@ jumps = record {
   outcome = finished 1;
   units = 10;
   memory = untouched;
-  statuses = allFree;
+  statuses = noneLeft;
 }
 
 -- "Addresses 0 to 31 are parameter words, lent for reading": word 31 is 131, and is loaded; it is stored at 32, and not at 31 (10, at byte
 -- 23). Units: 1 + 2, 1 + 2, and 1
-abbrev pub parameterWords : Row
+abbrev pub parameterWords : WorkedRow
 parameterWords = record {
   image =
       (0x01 ∷ 0x02 ∷ 0x00 ∷ 0x17 ∷ 0x00 ∷ [])
@@ -61,7 +61,7 @@ parameterWords = record {
 
 -- "32 to 1,023 are 992 lent memory words": 1,023 is stored at itself and loaded; a load at twice 1,023 less 1,022, so at 1,024, meets 10, at
 -- byte 27. Units: 1 + 2 + 2 + 1 + 1 + 1
-abbrev pub memoryEnds : Row
+abbrev pub memoryEnds : WorkedRow
 memoryEnds = record {
   image =
       (0x01 ∷ 0x03 ∷ 0x00 ∷ 0x1B ∷ 0x00 ∷ [])
@@ -79,7 +79,7 @@ memoryEnds = record {
 
 -- "The child's window runs from mark to e", "A join puts the mark back to lo": the child stores its argument 32 at 32, in its part up to 34;
 -- behind the join the parent loads it there. Units: 1 + 1 + 6, the child's 2 + 1, and 1 + 2 + 1
-abbrev pub joinGivesThePartBack : Row
+abbrev pub joinGivesThePartBack : WorkedRow
 joinGivesThePartBack = record {
   image =
       (0x02 ∷ 0x04 ∷ 0x00 ∷ 0x13 ∷ 0x00 ∷ 0x01 ∷ 0x01 ∷ 0x05 ∷ 0x00 ∷ [])
@@ -92,12 +92,12 @@ joinGivesThePartBack = record {
   outcome = finished 32;
   units = 15;
   memory = 32 ∷ 0 ∷ 0 ∷ 0 ∷ [];
-  statuses = allFree;
+  statuses = noneLeft;
 }
 
 -- "and the mark becomes e", "load and store from mark up to hi, nothing else": before the join the parent stores 33 at 34, and at 33 it meets
 -- 10, though the child has ended: at byte 25. Units: 1 + 1 + 6, the child's 2 + 1, and 2
-abbrev pub notBelowTheMark : Row
+abbrev pub notBelowTheMark : WorkedRow
 notBelowTheMark = record {
   image =
       (0x02 ∷ 0x03 ∷ 0x00 ∷ 0x15 ∷ 0x00 ∷ 0x01 ∷ 0x01 ∷ 0x05 ∷ 0x00 ∷ [])
@@ -115,7 +115,7 @@ notBelowTheMark = record {
 
 -- "The child's window runs from mark to e", "up to but not including hi": a child whose cut is 34 does not store at 34: thread 1, at byte
 -- 9 + 12. Units: 1 + 6
-abbrev pub notAtTheCut : Row
+abbrev pub notAtTheCut : WorkedRow
 notAtTheCut = record {
   image =
       (0x02 ∷ 0x02 ∷ 0x00 ∷ 0x0C ∷ 0x00 ∷ 0x01 ∷ 0x01 ∷ 0x05 ∷ 0x00 ∷ [])
@@ -132,7 +132,7 @@ notAtTheCut = record {
 
 -- "The child's window runs from mark to e": the first child's part is 32 to 34 and the second's 34 to 36, so that the second does not store at
 -- 33: thread 2, at byte 9 + 25. Units: 3 + 12 + 6
-abbrev pub notBelowTheSecondPart : Row
+abbrev pub notBelowTheSecondPart : WorkedRow
 notBelowTheSecondPart = record {
   image =
       (0x02 ∷ 0x05 ∷ 0x00 ∷ 0x19 ∷ 0x00 ∷ 0x01 ∷ 0x01 ∷ 0x05 ∷ 0x00 ∷ [])
@@ -150,7 +150,7 @@ notBelowTheSecondPart = record {
 
 -- "A fork whose cut is e needs mark ≤ e ≤ hi": 1,024 is the root's hi; then 32 is below the mark (11), at byte 22. Units: 1 + 6, the child's
 -- 1, and 1
-abbrev pub cutUpToHi : Row
+abbrev pub cutUpToHi : WorkedRow
 cutUpToHi = record {
   image =
       (0x02 ∷ 0x03 ∷ 0x00 ∷ 0x15 ∷ 0x00 ∷ 0x01 ∷ 0x00 ∷ 0x02 ∷ 0x00 ∷ [])
@@ -167,7 +167,7 @@ cutUpToHi = record {
 }
 
 -- the same, "11: cut out of range": 1,025 is past the root's hi, at byte 13
-abbrev pub cutPastHi : Row
+abbrev pub cutPastHi : WorkedRow
 cutPastHi = record {
   image =
       (0x02 ∷ 0x02 ∷ 0x00 ∷ 0x0C ∷ 0x00 ∷ 0x01 ∷ 0x00 ∷ 0x02 ∷ 0x00 ∷ [])
@@ -184,7 +184,7 @@ cutPastHi = record {
 
 -- the same in a child, whose part is 32 to 32: its cut of 32 is allowed and one of 33 is not: thread 2, at byte 13 + 12 + 12 + 4. Units:
 -- 1 + 6, 1 + 6, and 1
-abbrev pub cutPastHiInAChild : Row
+abbrev pub cutPastHiInAChild : WorkedRow
 cutPastHiInAChild = record {
   image =
       (0x03 ∷ 0x02 ∷ 0x00 ∷ 0x0C ∷ 0x00 ∷ 0x02 ∷ 0x00 ∷ 0x0C ∷ 0x00 ∷ 0x02 ∷ 0x00 ∷ 0x0C ∷ 0x00 ∷ []) ++ calls 1 ++ calls 2
@@ -199,7 +199,7 @@ cutPastHiInAChild = record {
   statuses = Lent ∷ Lent ∷ Running ∷ Free ∷ [];
 }
 
-abbrev pub commandRows : List Row
+abbrev pub commandRows : List WorkedRow
 commandRows =
     sumsAreModulo ∷ jumps ∷ parameterWords ∷ memoryEnds ∷ joinGivesThePartBack ∷ notBelowTheMark ∷ notAtTheCut
     ∷ notBelowTheSecondPart ∷ cutUpToHi ∷ cutPastHi ∷ cutPastHiInAChild ∷ []

@@ -4,12 +4,12 @@ use lib.ListN.{replicate}
 use Rattle.schedule.specs.declared.Entry.the-variants.{Step, Take, Steal, Enable}
 use Rattle.thread.specs.declared.Status.the-variants.{Free, Running, Ready, Lent}
 use Rattle.rules.specs.State.{going, finished}
-use Rattle.rules.specs.Row.{Row, untouched, allFree, nought, resting, calls, callsTwo, forksTwo, fifteenForks, fromFifteen}
+use Rattle.rules.specs.Row.{WorkedRow, untouched, noneLeft, nought, resting, calls, callsTwo, forksTwo, fifteenForks, fromFifteen}
 
 -- "joins the ready line's tail", "take the ready line's head": the ready queue is 1 and 2. Core 1 takes 1, which suspends, so 2 is not
 -- suspended (17) and 1 is; enabled, it stands behind 2. Core 1 takes 2, which suspends, so now 1 is not suspended (17). Units: 1 + 12 + 12,
 -- twice 3 + 1, and 1 + 1
-abbrev pub readyFirstInFirstOut : Row
+abbrev pub readyFirstInFirstOut : WorkedRow
 readyFirstInFirstOut = record {
   image = (0x02 ∷ 0x03 ∷ 0x00 ∷ 0x11 ∷ 0x00 ∷ 0x01 ∷ 0x00 ∷ 0x03 ∷ 0x00 ∷ []) ++ forksTwo ++ resting;
   cores = 2;
@@ -21,12 +21,12 @@ readyFirstInFirstOut = record {
   outcome = finished 0;
   units = 35;
   memory = untouched;
-  statuses = allFree;
+  statuses = noneLeft;
 }
 
 -- "Free thread numbers .. each stand in a line, at first ascending: taken at the head, given back at the tail": the first child is thread 1
 -- and returns; the second is thread 2, not 1 again, so that 1 is not suspended (17) and 2 is. Units: 1, 6 + 1, 6 + 3 + 1, and 1 + 1
-abbrev pub numbersAreGivenBackAtTheTail : Row
+abbrev pub numbersAreGivenBackAtTheTail : WorkedRow
 numbersAreGivenBackAtTheTail = record {
   image =
       (0x03 ∷ 0x03 ∷ 0x00 ∷ 0x11 ∷ 0x00 ∷ 0x01 ∷ 0x00 ∷ 0x02 ∷ 0x00 ∷ 0x01 ∷ 0x00 ∷ 0x03 ∷ 0x00 ∷ []) ++ callsTwo 1 2 ++ nought
@@ -38,12 +38,12 @@ numbersAreGivenBackAtTheTail = record {
   outcome = finished 0;
   units = 20;
   memory = untouched;
-  statuses = allFree;
+  statuses = noneLeft;
 }
 
 -- "20: no free thread number": a routine that calls itself. Thirty-one children have the numbers 1 to 31, and the last one's lfork meets 20,
 -- each time. Units: 32 times 1, and 31 times 6
-abbrev pub threadNumbersRunOut : Row
+abbrev pub threadNumbersRunOut : WorkedRow
 threadNumbersRunOut = record {
   image = (0x01 ∷ 0x02 ∷ 0x00 ∷ 0x0C ∷ 0x00 ∷ []) ++ calls 0;
   cores = 1;
@@ -60,7 +60,7 @@ threadNumbersRunOut = record {
 -- frame, whose stacklet is not free then. Fifteen 09s take the fifteen free stacklets, and a sixteenth meets 21 though 48 words are free above
 -- the root's frame. "A stacklet is free again when its last frame goes": thread 2 returns, and the fork passes. Units: 1 + 6 + 1 + 1, 1 + 15
 -- times 12, 1, and 12
-abbrev pub stackletsRunOut : Row
+abbrev pub stackletsRunOut : WorkedRow
 stackletsRunOut = record {
   image =
       (0x02 ∷ 0x10 ∷ 0x00 ∷ 0x61 ∷ 0x00 ∷ 0x01 ∷ 0x00 ∷ 0x02 ∷ 0x00 ∷ [])
@@ -78,7 +78,7 @@ stackletsRunOut = record {
 
 -- "return: .. frame and thread number are freed": with no stacklet free, thread 16 stands above the root and calls a child of one word, which
 -- returns, and another, which goes where the first was. Units: 1 + 15 times 12, 6, 1, and twice 6 + 1
-abbrev pub frameGoesWithItsThread : Row
+abbrev pub frameGoesWithItsThread : WorkedRow
 frameGoesWithItsThread = record {
   image =
       (0x03 ∷ 0x10 ∷ 0x00 ∷ 0x57 ∷ 0x00 ∷ 0x01 ∷ 0x00 ∷ 0x02 ∷ 0x00 ∷ 0x03 ∷ 0x00 ∷ 0x11 ∷ 0x00 ∷ []) ++ fifteenForks
@@ -96,7 +96,7 @@ frameGoesWithItsThread = record {
 -- "goes above its parent's frame when an lfork makes it, the parent's frame is topmost there and it fits", "64 words": with no stacklet free,
 -- frames of 16 words go above the root's 16, up to 64 words; a frame of one word more meets 21, until a child has returned. Units: 1 + 15
 -- times 12, then 6, 1 + 6, 1 + 6, 1; the other child's 1, and 6
-abbrev pub framesFillAStacklet : Row
+abbrev pub framesFillAStacklet : WorkedRow
 framesFillAStacklet = record {
   image =
       (0x05 ∷ 0x10 ∷ 0x00 ∷ 0x57 ∷ 0x00 ∷ 0x01 ∷ 0x00 ∷ 0x02 ∷ 0x00 ∷ 0x10 ∷ 0x00 ∷ 0x0C ∷ 0x00 ∷ 0x10 ∷ 0x00 ∷ 0x0C ∷ 0x00 ∷ [])
@@ -115,7 +115,7 @@ framesFillAStacklet = record {
 -- "steal: .. on a free stacklet": with no stacklet free, thread 18's three words end at word 51 of stacklet 0. Its first child, of 16 words,
 -- does not fit (21), and once thread 1 has returned goes on the free stacklet. Thread 18 is lent, its frame topmost, and its second child of
 -- one word would fit: the steal meets 21, until thread 2 has returned. Units: 1 + 15 times 12, then 6, 1 + 6, 1 + 6, 1; then 1, 6, 1 and 6
-abbrev pub stolenFrameNeedsAStacklet : Row
+abbrev pub stolenFrameNeedsAStacklet : WorkedRow
 stolenFrameNeedsAStacklet = record {
   image =
       (0x06 ∷ 0x10 ∷ 0x00 ∷ 0x57 ∷ 0x00 ∷ 0x01 ∷ 0x00 ∷ 0x02 ∷ 0x00 ∷ 0x10 ∷ 0x00 ∷ 0x0C ∷ 0x00 ∷ 0x10 ∷ 0x00 ∷ 0x0C ∷ 0x00 ∷ [])
@@ -135,7 +135,7 @@ stolenFrameNeedsAStacklet = record {
 -- "Putting a new child above a suspended child's frame because the parent 'owns' the stacklet" (a slip): child 1 is above the root and
 -- suspends; child 2 must not go above it. It sets its slot to 7 and suspends. Child 1 returns, and child 3's two words go above the root,
 -- where child 1's word was and a wrong child 2's next to it. Child 2 returns 7. Units: 1, 6 + 3 + 1, 6 + 1 + 3 + 1, 6 + 1, and 1 + 1
-abbrev pub notAboveASuspendedChild : Row
+abbrev pub notAboveASuspendedChild : WorkedRow
 notAboveASuspendedChild = record {
   image =
       (0x04 ∷ 0x04 ∷ 0x00 ∷ 0x16 ∷ 0x00 ∷ 0x01 ∷ 0x00 ∷ 0x03 ∷ 0x00 ∷ 0x01 ∷ 0x00 ∷ 0x07 ∷ 0x00 ∷ 0x02 ∷ 0x00 ∷ 0x02 ∷ 0x00 ∷ [])
@@ -151,10 +151,10 @@ notAboveASuspendedChild = record {
   outcome = finished 7;
   units = 31;
   memory = untouched;
-  statuses = allFree;
+  statuses = noneLeft;
 }
 
-abbrev pub tableRows : List Row
+abbrev pub tableRows : List WorkedRow
 tableRows =
     readyFirstInFirstOut ∷ numbersAreGivenBackAtTheTail ∷ threadNumbersRunOut ∷ stackletsRunOut ∷ frameGoesWithItsThread
     ∷ framesFillAStacklet ∷ stolenFrameNeedsAStacklet ∷ notAboveASuspendedChild ∷ []

@@ -14,23 +14,23 @@ use Rattle.thread.specs.Job.{wordAt}
 use Rattle.rules.specs.declared.ForkKind.the-variants.{Called, Queued, Stolen}
 use Rattle.rules.specs.State.{Job, State, After, isOver, threadAt, onCore, isBusy}
 use Rattle.rules.specs.Update.{accepted, refused, setThread, setReady, setSlot, setMemory, enqueueReady}
-use Rattle.rules.specs.Turn.{Turn, turnAt, byteOf, effectAt, tooDear, waits, done, goesOn, faults}
+use Rattle.rules.specs.Turn.{Turn, turnAt, byteOf, effectAt, tooDear, waits, completed, goesOn, faults}
 use Rattle.rules.specs.Leave.{runs, leaves}
 use Rattle.rules.specs.Fork.{asked, forkOf}
 use Rattle.rules.specs.Return.{returnOf}
 
 -- A command carried out by a step, by its effect.
--- "suspend, yield: the command is done, then the thread is suspended, or stands at the tail of the ready line"
+-- "suspend, yield: the command is completed, then the thread is suspended, or stands at the tail of the ready line"
 unfoldable pub carriedOf : Job → State → Turn → Effect → After
 carriedOf j s o (Faults n) = faults o n s
 carriedOf j s o (Sets d v) = accepted (goesOn o (setSlot (o .thread) d v s))
 carriedOf j s o (Loads d a) = accepted (goesOn o (setSlot (o .thread) d (wordAt j (s .store .memory) a) s))
 carriedOf j s o (Stores a v) = accepted (goesOn o (setMemory a v s))
-carriedOf j s o (Goes p) = accepted (done o (movedTo p (o .thread)) s)
+carriedOf j s o (Goes p) = accepted (completed o (movedTo p (o .thread)) s)
 carriedOf j s o Continues = accepted (goesOn o s)
 carriedOf j s o (Lforks r d a e) = forkOf j s Called o (asked r d a e)
 carriedOf j s o (Forks r d a e) = forkOf j s Queued o (asked r d a e)
-carriedOf j s o Joins = accepted (done o (joinedAt (o .next) (o .thread)) s)
+carriedOf j s o Joins = accepted (completed o (joinedAt (o .next) (o .thread)) s)
 carriedOf j s o Suspends = accepted (leaves (o .core) (o .number) Suspended (goesOn o s))
 carriedOf j s o Yields = accepted (enqueueReady (o .number) (leaves (o .core) (o .number) Ready (goesOn o s)))
 carriedOf j s o (Returns v) = accepted (returnOf s o v)

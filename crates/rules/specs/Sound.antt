@@ -6,7 +6,7 @@ use mathlib.Core.Path.{_≡_}
 use Prim.Native.Nat.{ℕ, zero, suc, _+_, _/_, _%_, _≤_, _<_}
 use lib.Dec.{eqb}
 use lib.ListN.{length}
-use Rattle.image.specs.Layout.{countOf, slotsOf, codeOf}
+use Rattle.image.specs.Layout.{routineCount, slotsOf, codeOf}
 use Rattle.image.specs.Code.{commandsOf, isStart}
 use Rattle.window.specs.Rights.{Fits}
 use Rattle.stacklets.specs.Layout.{Apart, Under}
@@ -40,8 +40,8 @@ pub record Sized (j : Job) (s : State) : Type 0 where
   pub units : s .units ≤ j .allowance
 
 -- "each position a command's start"; "every field in range"; a waiting thread's next command is a join
-pub record Placed (j : Job) (s : State) : Type 0 where
-  pub routine : (t : ℕ) → Used s t → threadAt s t .origin .routine < countOf (j .image)
+pub record Positioned (j : Job) (s : State) : Type 0 where
+  pub routine : (t : ℕ) → Used s t → threadAt s t .origin .routine < routineCount (j .image)
   pub position : (t : ℕ) → Used s t → isStart (commandsOf (codeOf (j .image) (threadAt s t .origin .routine))) (threadAt s t .position) ≡ true
   pub pending : (t : ℕ) → Used s t → threadAt s t .family .pending < 65536
   pub result : (t : ℕ) → Used s t → threadAt s t .origin .result < 16
@@ -130,7 +130,7 @@ pub record FreeStacklets (s : State) : Type 0 where
 pub record Sound (j : Job) (s : State) : Type 0 where
   pub job : GoodJob j
   pub sized : Sized j s
-  pub placed : Placed j s
+  pub placed : Positioned j s
   pub seats : Seats s
   pub links : Links s
   pub turns : Turns s

@@ -1,8 +1,7 @@
 -- A command that is met: which thread's it is, what it weighs, what is behind it, and what it does to its own thread.
-use mathlib.Core.Bool.{Bool, cond, _&&_}
+use mathlib.Core.Bool.{Bool, _&&_}
 use Prim.Native.Nat.{ℕ, _+_, _-_}
 use lib.Dec.{ltb, eqb}
-use lib.ListN.{getD}
 use Rattle.command.specs.Command.{decodedAt, widthOf}
 use Rattle.command.specs.Weight.{weightOf}
 use Rattle.image.specs.Layout.{argumentsOf}
@@ -11,7 +10,7 @@ use Rattle.thread.specs.declared.Thread.{Thread}
 use Rattle.thread.specs.declared.Effect.{Effect}
 use Rattle.thread.specs.Job.{offsetAt, byteAt}
 use Rattle.thread.specs.Effect.{effectOf}
-use Rattle.thread.specs.View.{viewOf}
+use Rattle.thread.specs.View.{contextOf}
 use Rattle.thread.specs.Thread.{isPending, movedTo}
 use Rattle.rules.specs.State.{Job, State, After, faulted, threadAt}
 use Rattle.rules.specs.Update.{setThread, setOutcome, charge}
@@ -47,7 +46,7 @@ turnAt j s c t = record {
 -- what the next command of a thread does to it
 unfoldable pub effectAt : Job → State → Thread → Effect
 effectAt j s h =
-    effectOf (argumentsOf (j .image)) (viewOf (slotOf (s .store .words) (h .origin .base)) (isPending (h .family .pending)) (h .family .window)) (decodedAt (j .image) (offsetOf j h))
+    effectOf (argumentsOf (j .image)) (contextOf (slotOf (s .store .words) (h .origin .base)) (isPending (h .family .pending)) (h .family .window)) (decodedAt (j .image) (offsetOf j h))
 
 -- "22: units plus the command's weight pass the allowance"
 abbrev pub tooDear : Job → State → Turn → Bool
@@ -57,13 +56,13 @@ tooDear j s o = ltb (j .allowance - s .units) (o .weight)
 abbrev pub waits : Job → Thread → Bool
 waits j h = eqb (byteOf j h) 10 && ltb 0 (h .family .children)
 
--- the command is done, the thread's record is h, and the weight is charged
-abbrev pub done : Turn → Thread → State → State
-done o h s = charge (o .weight) (setThread (o .number) h s)
+-- the command is completed, the thread's record is h, and the weight is charged
+abbrev pub completed : Turn → Thread → State → State
+completed o h s = charge (o .weight) (setThread (o .number) h s)
 
--- done, and the thread goes on behind it
+-- completed, and the thread goes on behind it
 abbrev pub goesOn : Turn → State → State
-goesOn o s = done o (movedTo (o .next) (o .thread)) s
+goesOn o s = completed o (movedTo (o .next) (o .thread)) s
 
 -- "A step or steal that faults logs the fault's number", "charges nothing, and changes only that the machine is now over"
 abbrev pub faults : Turn → ℕ → State → After

@@ -14,12 +14,12 @@ pub fn answer(tables: &[u8]) -> RunAnswer
     let so_far = units(tables);
     let stands = standing(tables);
     match stands {
-        Standing::Open => RunAnswer::Open { units: so_far },
-        Standing::Finished(result) => RunAnswer::Finished {
+        Standing::Going => RunAnswer::Open { units: so_far },
+        Standing::Over(result) => RunAnswer::Finished {
             result,
             units: so_far,
         },
-        Standing::Faulted(number, thread, offset) => RunAnswer::Faulted {
+        Standing::Failed(number, thread, offset) => RunAnswer::Faulted {
             number,
             thread,
             offset,

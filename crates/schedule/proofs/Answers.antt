@@ -1,5 +1,5 @@
 -- What reading an entry gives, each answer exactly under its condition. Assumes nothing.
-use mathlib.Core.List.{List, []}
+use mathlib.Core.List.{List}
 use mathlib.Core.Logic.{_↔_, _⊎_, inl, inr}
 use mathlib.Core.Path.{_≡_, refl, sym, _∙_, ap}
 use Prim.Native.Nat.{ℕ, _+_, _-_, _≤_, _<_}
@@ -7,7 +7,7 @@ use native.Mathlib.Decide.{decLe}
 use native.Mathlib.Omega.{arith}
 use lib.ListN.{length, drop, length-drop}
 use Rattle.schedule.proofs.Standing.{found, ended, reads-end, reads-entry}
-use Rattle.schedule.specs.Format.{bytesOf, entryAt, numberOfEntryRead, StandsAt, EntryAnswer}
+use Rattle.schedule.specs.Format.{bytesOfEntry, entryAt, numberOfEntryRead, StandsAt, EntryAnswer}
 use Rattle.schedule.specs.declared.Entry.{Entry}
 use Rattle.schedule.specs.declared.EntryRead.{EntryRead}
 use Rattle.schedule.specs.declared.EntryRead.the-variants.{Found, End, Malformed}
@@ -17,7 +17,7 @@ module _ (s : List ℕ) (at : ℕ) where
   stands : (e : Entry) (next : ℕ) → entryAt s at ≡ Found e next → StandsAt s at e
   stands e next h = (drop next s, found s at e next h .bytes)
 
-  finds : (e : Entry) → StandsAt s at e → entryAt s at ≡ Found e (at + length (bytesOf e))
+  finds : (e : Entry) → StandsAt s at e → entryAt s at ≡ Found e (at + length (bytesOfEntry e))
   finds e (rest, h) = reads-entry s at e rest h
 
   -- the end is met where nothing is left
@@ -63,5 +63,5 @@ module _ (s : List ℕ) (at : ℕ) where
         number13 = read-13 what;
         number0 = read-0 what;
         ends = (λ p. nothing (sym is ∙ p), λ l. is ∙ reads-end s at l);
-        finds = λ e. (λ p. stands e (at + length (bytesOf e)) (sym is ∙ p), λ st. is ∙ finds e st);
+        finds = λ e. (λ p. stands e (at + length (bytesOfEntry e)) (sym is ∙ p), λ st. is ∙ finds e st);
       }

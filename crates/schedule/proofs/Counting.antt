@@ -14,7 +14,7 @@ use Rattle.schedule.proofs.Forming.{means, malforms}
 use Rattle.schedule.proofs.Four.{Steps, steps}
 use Rattle.schedule.specs.Format.{entryAt}
 use Rattle.schedule.specs.Four.{fourSteps}
-use Rattle.schedule.specs.Meaning.{Schedule, entries, malformed, prepend, entriesOf, scheduleOf, numberOfSchedule, countOf, numberOfCounted, IsSchedule, WellFormed, Counts}
+use Rattle.schedule.specs.Meaning.{Schedule, entries, malformed, prepend, entriesOf, scheduleOf, numberOfSchedule, countedOf, numberOfCounted, WellFormed, Counts}
 use Rattle.schedule.specs.declared.Entry.{Entry}
 use Rattle.schedule.specs.declared.EntryRead.the-variants.{Found, End, Malformed as Bad}
 use Rattle.schedule.specs.declared.Counted.{Counted}
@@ -29,7 +29,7 @@ more-none : (r : Counted) → more 0 r ≡ r
 more-none (Entries m) = ap Entries (zero-add m)
 more-none Malformed = refl
 
-more-one : (n : ℕ) (e : Entry) (x : Schedule) → more (n + 1) (countOf x) ≡ more n (countOf (prepend e x))
+more-one : (n : ℕ) (e : Entry) (x : Schedule) → more (n + 1) (countedOf x) ≡ more n (countedOf (prepend e x))
 more-one n e (entries es) = ap Entries (omega arith)
 more-one n e malformed = refl
 
@@ -37,10 +37,10 @@ more-one n e malformed = refl
 pub record Sofar (s : List ℕ) (at n : ℕ) : Type 0 where
   pub within : at ≤ length s
   pub few : n ≤ at
-  pub same : more n (countOf (entriesOf (drop at s))) ≡ countOf (entriesOf s)
+  pub same : more n (countedOf (entriesOf (drop at s))) ≡ countedOf (entriesOf s)
 
 pub starts : (s : List ℕ) → Sofar s 0 0
-starts s = record { within = omega arith; few = omega arith; same = more-none (countOf (entriesOf s)) }
+starts s = record { within = omega arith; few = omega arith; same = more-none (countedOf (entriesOf s)) }
 
 module _ (s : List ℕ) (at n : ℕ) (so : Sofar s at n) where
   pub goes-on : (e : Entry) (next : ℕ) → entryAt s at ≡ Found e next → Sofar s next (n + 1)
@@ -50,18 +50,18 @@ module _ (s : List ℕ) (at n : ℕ) (so : Sofar s at n) where
       record {
         within = f .within;
         few = omega (arith, f .wide, so .few);
-        same = more-one n e (entriesOf (drop next s)) ∙ ap (λ (x : Schedule). more n (countOf x)) (sym k) ∙ so .same;
+        same = more-one n e (entriesOf (drop next s)) ∙ ap (λ (x : Schedule). more n (countedOf x)) (sym k) ∙ so .same;
       }
 
-  pub stops : entryAt s at ≡ End → Entries n ≡ countOf (entriesOf s)
+  pub stops : entryAt s at ≡ End → Entries n ≡ countedOf (entriesOf s)
   stops h =
       let k : entriesOf (drop at s) ≡ entries [] = follows s at ∙ ap (follow s) h in
-      ap Entries (sym (add-zero n)) ∙ ap (λ (x : Schedule). more n (countOf x)) (sym k) ∙ so .same
+      ap Entries (sym (add-zero n)) ∙ ap (λ (x : Schedule). more n (countedOf x)) (sym k) ∙ so .same
 
-  pub spoils : entryAt s at ≡ Bad → Malformed ≡ countOf (entriesOf s)
+  pub spoils : entryAt s at ≡ Bad → Malformed ≡ countedOf (entriesOf s)
   spoils h =
       let k : entriesOf (drop at s) ≡ malformed = follows s at ∙ ap (follow s) h in
-      ap (λ (x : Schedule). more n (countOf x)) (sym k) ∙ so .same
+      ap (λ (x : Schedule). more n (countedOf x)) (sym k) ∙ so .same
 
 -- four steps are four entries
 pub goes-on-four : (s : List ℕ) (at n : ℕ) → Sofar s at n → fourSteps s at ≡ true → Sofar s (at + 8) (n + 4)
@@ -73,30 +73,30 @@ goes-on-four s at n so h =
     let all : n + 4 ≡ n + 1 + 1 + 1 + 1 = omega arith in
     rw all (goes-on s (at + 6) _ three _ _ (f .fourth))
 
-numbers : (x : Schedule) → numberOfCounted (countOf x) ≡ numberOfSchedule x
+numbers : (x : Schedule) → numberOfCounted (countedOf x) ≡ numberOfSchedule x
 numbers (entries es) = refl
 numbers malformed = refl
 
 -- the numbers of what a schedule is read as
-counts-13 : (s : List ℕ) (x : Schedule) → scheduleOf s ≡ x → (numberOfCounted (countOf x) ≡ 13) ↔ (¬ (WellFormed s))
+counts-13 : (s : List ℕ) (x : Schedule) → scheduleOf s ≡ x → (numberOfCounted (countedOf x) ≡ 13) ↔ (¬ (WellFormed s))
 counts-13 s (entries es) h = (λ p. absurd (omega arith), λ n. absurd (n (es, means s es .0 h)))
 counts-13 s malformed h = (λ p. malforms s .0 h, λ n. refl)
 
-counts-0 : (s : List ℕ) (x : Schedule) → scheduleOf s ≡ x → (numberOfCounted (countOf x) ≡ 0) ↔ WellFormed s
+counts-0 : (s : List ℕ) (x : Schedule) → scheduleOf s ≡ x → (numberOfCounted (countedOf x) ≡ 0) ↔ WellFormed s
 counts-0 s (entries es) h = (λ p. (es, means s es .0 h), λ w. refl)
 counts-0 s malformed h = (λ p. absurd (omega arith), λ w. absurd (malforms s .0 h w))
 
-counts-as : (s : List ℕ) (r : Counted) → r ≡ countOf (scheduleOf s) → Counts s r
+counts-as : (s : List ℕ) (r : Counted) → r ≡ countedOf (scheduleOf s) → Counts s r
 counts-as s r h = record {
   is = h;
   number = ap numberOfCounted h ∙ numbers (scheduleOf s);
   number13 = rw h (counts-13 s (scheduleOf s) refl);
   number0 = rw h (counts-0 s (scheduleOf s) refl);
-  many = λ es w. h ∙ ap countOf (means s es .1 w);
+  many = λ es w. h ∙ ap countedOf (means s es .1 w);
 }
 
 -- a schedule of at most 32,768 bytes
-pub counts : (s : List ℕ) (r : Counted) → length s ≤ 32768 → r ≡ countOf (entriesOf s) → Counts s r
+pub counts : (s : List ℕ) (r : Counted) → length s ≤ 32768 → r ≡ countedOf (entriesOf s) → Counts s r
 unfolding scheduleOf
 counts s r l h = counts-as s r (h ∙ rw (le-ltb 32768 (length s) l))
 
@@ -111,7 +111,7 @@ pub record Counted-as (s : List ℕ) (n : ℕ) : Type 0 where
   pub means : scheduleOf s ≡ entries all
   pub many : length all ≡ n
 
-counted-by : (s : List ℕ) (n : ℕ) (x : Schedule) → scheduleOf s ≡ x → Entries n ≡ countOf x → Counted-as s n
+counted-by : (s : List ℕ) (n : ℕ) (x : Schedule) → scheduleOf s ≡ x → Entries n ≡ countedOf x → Counted-as s n
 counted-by s n (entries es) h k = record { all = es; means = h; many = cc }
 counted-by s n malformed h k = let z : _≡_ {A = ℕ} 0 1 = cc in absurd (omega arith)
 

@@ -9,7 +9,7 @@ use lib.ListN.{length, drop}
 use lib.Seq.{drop-drop}
 use lib.Dec.{eqb, ltb}
 use Rattle.schedule.proofs.Standing.{Found-at, found, ended}
-use Rattle.schedule.specs.Format.{bytesOf, bytesOfEntries, entryIn, entryAt}
+use Rattle.schedule.specs.Format.{bytesOfEntry, bytesOfEntries, entryIn, entryAt}
 use Rattle.schedule.specs.Meaning.{Schedule, entries, malformed, prepend, entriesOf, scheduleOf}
 use Rattle.schedule.specs.declared.Entry.{Entry}
 use Rattle.schedule.specs.declared.Entry.the-variants.{Step, Take, Steal, Enable}
@@ -62,14 +62,14 @@ prepended-some d malformed h = cc
 
 -- what is met at a position where the entries e and then es are left
 pub record Next (s : List ℕ) (at : ℕ) (e : Entry) (es : List Entry) : Type 0 where
-  pub read : entryAt s at ≡ Found e (at + length (bytesOf e))
-  pub rest : entriesOf (drop (at + length (bytesOf e)) s) ≡ entries es
+  pub read : entryAt s at ≡ Found e (at + length (bytesOfEntry e))
+  pub rest : entriesOf (drop (at + length (bytesOfEntry e)) s) ≡ entries es
 
 next-by : (s : List ℕ) (at : ℕ) (r : EntryRead) (e : Entry) (es : List Entry) → entryAt s at ≡ r → follow s r ≡ entries (e ∷ es) → Next s at e es
 next-by s at (Found d n) e es h k =
     let p : (d ≡ e) × (entriesOf (drop n s) ≡ entries es) = prepended d (entriesOf (drop n s)) e es k in
     let f : Found-at s at d n = found s at d n h in
-    let q : n ≡ at + length (bytesOf e) = f .after ∙ ap (λ (i : Entry). at + length (bytesOf i)) (p .0) in
+    let q : n ≡ at + length (bytesOfEntry e) = f .after ∙ ap (λ (i : Entry). at + length (bytesOfEntry i)) (p .0) in
     record { read = h ∙ rw (p .0, q); rest = rw (← q) (p .1) }
 next-by s at End e es h k = let z : _≡_ {A = ℕ} 0 1 = cc in absurd (omega arith)
 next-by s at Malformed e es h k = let z : _≡_ {A = ℕ} 0 1 = cc in absurd (omega arith)
@@ -117,10 +117,10 @@ unfolding bytesOfEntries
 whole-from s at [] h = ended s at (no-entry s at h)
 whole-from s at (e ∷ es) h =
     let n : Next s at e es = next-entry s at e es h in
-    found s at e _ (n .read) .bytes ∙ ap (λ (l : List ℕ). bytesOf e ++ l) (whole-from s (at + length (bytesOf e)) es (n .rest))
+    found s at e _ (n .read) .bytes ∙ ap (λ (l : List ℕ). bytesOfEntry e ++ l) (whole-from s (at + length (bytesOfEntry e)) es (n .rest))
 
 -- an entry's bytes before others are that entry before theirs
-entries-entry : (e : Entry) (l : List ℕ) → entriesOf (bytesOf e ++ l) ≡ prepend e (entriesOf l)
+entries-entry : (e : Entry) (l : List ℕ) → entriesOf (bytesOfEntry e ++ l) ≡ prepend e (entriesOf l)
 unfolding entriesOf
 entries-entry (Step c) [] = refl
 entries-entry (Step c) (y ∷ rest) = refl

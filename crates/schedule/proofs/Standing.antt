@@ -9,7 +9,7 @@ use borrow.Author.Tests.{eqb-true, ne-eqb}
 use lib.ListN.{length, getD, drop, length-append, length-drop, drop-of-length-le}
 use lib.Seq.{drop-cons, drop-drop}
 use lib.Dec.{eqb}
-use Rattle.schedule.specs.Format.{bytesOf, oneOperand, entryIn, entryAt}
+use Rattle.schedule.specs.Format.{bytesOfEntry, oneOperand, entryIn, entryAt}
 use Rattle.schedule.specs.declared.Entry.{Entry}
 use Rattle.schedule.specs.declared.Entry.the-variants.{Step, Take, Steal, Enable}
 use Rattle.schedule.specs.declared.EntryRead.the-variants.{Found, End, Malformed}
@@ -66,7 +66,7 @@ module _ (s : List ℕ) (at : ℕ) where
   reads-steal h k = rw (two-left (omega arith), drop-cons s (at + 2) 0 (omega arith), k)
 
 -- an entry's bytes at a position are read as that entry, whatever follows
-in-entry : (at : ℕ) (e : Entry) (rest : List ℕ) → entryIn at (bytesOf e ++ rest) ≡ Found e (at + length (bytesOf e))
+in-entry : (at : ℕ) (e : Entry) (rest : List ℕ) → entryIn at (bytesOfEntry e ++ rest) ≡ Found e (at + length (bytesOfEntry e))
 unfolding entryIn
 in-entry at (Step c) [] = refl
 in-entry at (Step c) (y ∷ rest) = refl
@@ -76,14 +76,14 @@ in-entry at (Steal c t) rest = refl
 in-entry at (Enable t) [] = refl
 in-entry at (Enable t) (y ∷ rest) = refl
 
-pub reads-entry : (s : List ℕ) (at : ℕ) (e : Entry) (rest : List ℕ) → drop at s ≡ bytesOf e ++ rest → entryAt s at ≡ Found e (at + length (bytesOf e))
+pub reads-entry : (s : List ℕ) (at : ℕ) (e : Entry) (rest : List ℕ) → drop at s ≡ bytesOfEntry e ++ rest → entryAt s at ≡ Found e (at + length (bytesOfEntry e))
 unfolding entryAt
 reads-entry s at e rest h = rw h (in-entry at e rest)
 
 -- what a found entry says of the bytes l, which start at a position
 pub record Stands (l : List ℕ) (at : ℕ) (e : Entry) (next : ℕ) : Type 0 where
-  pub bytes : l ≡ bytesOf e ++ drop (length (bytesOf e)) l
-  pub after : next ≡ at + length (bytesOf e)
+  pub bytes : l ≡ bytesOfEntry e ++ drop (length (bytesOfEntry e)) l
+  pub after : next ≡ at + length (bytesOfEntry e)
 
 moved : (l : List ℕ) (at : ℕ) (d e : Entry) (m n : ℕ) → Found d m ≡ Found e n → Stands l at d m → Stands l at e n
 moved l at d e m n h st =
@@ -129,13 +129,13 @@ in-end (k ∷ x ∷ y ∷ rest) at h = let z : _≡_ {A = ℕ} 0 1 = no-end-stea
 
 -- an entry that is read stands there, byte for byte, and ends within the schedule
 pub record Found-at (s : List ℕ) (at : ℕ) (e : Entry) (next : ℕ) : Type 0 where
-  pub bytes : drop at s ≡ bytesOf e ++ drop next s
-  pub after : next ≡ at + length (bytesOf e)
+  pub bytes : drop at s ≡ bytesOfEntry e ++ drop next s
+  pub after : next ≡ at + length (bytesOfEntry e)
   pub within : next ≤ length s
   pub wide : at + 2 ≤ next
 
 -- an entry has two bytes at least
-pub two-bytes : (e : Entry) → 2 ≤ length (bytesOf e)
+pub two-bytes : (e : Entry) → 2 ≤ length (bytesOfEntry e)
 two-bytes (Step c) = omega arith
 two-bytes (Take c) = omega arith
 two-bytes (Steal c t) = omega arith
@@ -145,9 +145,9 @@ pub found : (s : List ℕ) (at : ℕ) (e : Entry) (next : ℕ) → entryAt s at 
 unfolding entryAt
 found s at e next h =
     let st : Stands (drop at s) at e next = in-found (drop at s) at e next h in
-    let w : 2 ≤ length (bytesOf e) = two-bytes e in
-    let b : drop at s ≡ bytesOf e ++ drop (at + length (bytesOf e)) s = st .bytes ∙ ap (λ (l : List ℕ). bytesOf e ++ l) (drop-drop (length (bytesOf e)) at s) in
-    let n : length s - at ≡ length (bytesOf e) + (length s - (at + length (bytesOf e))) = simp (length-append, length-drop) at (ap length b) in
+    let w : 2 ≤ length (bytesOfEntry e) = two-bytes e in
+    let b : drop at s ≡ bytesOfEntry e ++ drop (at + length (bytesOfEntry e)) s = st .bytes ∙ ap (λ (l : List ℕ). bytesOfEntry e ++ l) (drop-drop (length (bytesOfEntry e)) at s) in
+    let n : length s - at ≡ length (bytesOfEntry e) + (length s - (at + length (bytesOfEntry e))) = simp (length-append, length-drop) at (ap length b) in
     record { bytes = rw (st .after) b; after = st .after; within = omega (arith, st .after); wide = omega (arith, st .after) }
 
 pub ended : (s : List ℕ) (at : ℕ) → entryAt s at ≡ End → drop at s ≡ []

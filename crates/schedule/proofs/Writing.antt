@@ -8,7 +8,7 @@ use borrow.Author.Tests.{le-leb, lt-leb}
 use lib.ListN.{length, take, drop, set, take-append-drop}
 use lib.Seq.{sets, sets-eq, drop-at, length-take-le}
 use Rattle.schedule.proofs.Standing.{Found-at, found, reads-entry}
-use Rattle.schedule.specs.Format.{bytesOf, entryAt}
+use Rattle.schedule.specs.Format.{bytesOfEntry, entryAt}
 use Rattle.schedule.specs.Writing.{placed, writtenOf, numberOfWritten, Writes}
 use Rattle.schedule.specs.declared.Entry.{Entry}
 use Rattle.schedule.specs.declared.EntryRead.the-variants.{Found}
@@ -44,17 +44,17 @@ room-three k x y b at h =
     rw (add-one at, two) (room (k ∷ x ∷ y ∷ []) b at h)
 
 -- a written entry reads back as itself, with the position after its bytes
-pub reads-written : (e : Entry) (b : List ℕ) (at : ℕ) → at + length (bytesOf e) ≤ length b → entryAt (placed (bytesOf e) b at) at ≡ Found e (at + length (bytesOf e))
+pub reads-written : (e : Entry) (b : List ℕ) (at : ℕ) → at + length (bytesOfEntry e) ≤ length b → entryAt (placed (bytesOfEntry e) b at) at ≡ Found e (at + length (bytesOfEntry e))
 unfolding placed
 reads-written e b at h =
-    let rest : List ℕ = drop (at + length (bytesOf e)) b in
-    let d : drop at ((take at b ++ bytesOf e) ++ rest) ≡ bytesOf e ++ rest = rw append-assoc (drop-at (take at b) (bytesOf e ++ rest) at (length-take-le at b (omega arith))) in
-    rw (le-leb _ _ h) (reads-entry ((take at b ++ bytesOf e) ++ rest) at e rest d)
+    let rest : List ℕ = drop (at + length (bytesOfEntry e)) b in
+    let d : drop at ((take at b ++ bytesOfEntry e) ++ rest) ≡ bytesOfEntry e ++ rest = rw append-assoc (drop-at (take at b) (bytesOfEntry e ++ rest) at (length-take-le at b (omega arith))) in
+    rw (le-leb _ _ h) (reads-entry ((take at b ++ bytesOfEntry e) ++ rest) at e rest d)
 
 -- what is read is written again as the same bytes
-pub writes-read : (e : Entry) (s : List ℕ) (at next : ℕ) → entryAt s at ≡ Found e next → placed (bytesOf e) s at ≡ s
+pub writes-read : (e : Entry) (s : List ℕ) (at next : ℕ) → entryAt s at ≡ Found e next → placed (bytesOfEntry e) s at ≡ s
 unfolding placed
 writes-read e s at next h =
     let f : Found-at s at e next = found s at e next h in
-    let l : at + length (bytesOf e) ≤ length s = omega (arith, f .after, f .within) in
+    let l : at + length (bytesOfEntry e) ≤ length s = omega (arith, f .after, f .within) in
     rw (le-leb _ _ l, append-assoc, ← f .after, ← f .bytes) (take-append-drop at s)

@@ -12,16 +12,16 @@ use Rattle.schedule.specs.declared.EntryRead.{EntryRead}
 use Rattle.schedule.specs.declared.EntryRead.the-variants.{Found, End, Malformed}
 
 -- "01 c step; 02 c take ..; 03 c t steal ..; 04 t enable"
-abbrev pub bytesOf : Entry → List ℕ
-bytesOf (Step c) = 1 ∷ c ∷ []
-bytesOf (Take c) = 2 ∷ c ∷ []
-bytesOf (Steal c t) = 3 ∷ c ∷ t ∷ []
-bytesOf (Enable t) = 4 ∷ t ∷ []
+abbrev pub bytesOfEntry : Entry → List ℕ
+bytesOfEntry (Step c) = 1 ∷ c ∷ []
+bytesOfEntry (Take c) = 2 ∷ c ∷ []
+bytesOfEntry (Steal c t) = 3 ∷ c ∷ t ∷ []
+bytesOfEntry (Enable t) = 4 ∷ t ∷ []
 
 -- the bytes of entries, one after another
 unfoldable pub bytesOfEntries : List Entry → List ℕ
 bytesOfEntries [] = []
-bytesOfEntries (e ∷ es) = bytesOf e ++ bytesOfEntries es
+bytesOfEntries (e ∷ es) = bytesOfEntry e ++ bytesOfEntries es
 
 -- what is made of an entry with the one operand x, by its command byte k: 01, 02 or 04; and of any other byte
 abbrev pub oneOperand : {A : Type 0} → ℕ → ℕ → (Entry → A) → A → A
@@ -50,7 +50,7 @@ numberOfEntryRead Malformed = 13
 
 -- an entry's bytes stand at a position
 abbrev pub StandsAt : List ℕ → ℕ → Entry → Type 0
-StandsAt s at e = (rest : List ℕ) × (drop at s ≡ bytesOf e ++ rest)
+StandsAt s at e = (rest : List ℕ) × (drop at s ≡ bytesOfEntry e ++ rest)
 
 -- what `read` gives: each answer exactly under its condition, which does not cite the row of tests
 pub record EntryAnswer (s : List ℕ) (at : ℕ) (r : EntryRead) : Type 0 where
@@ -61,4 +61,4 @@ pub record EntryAnswer (s : List ℕ) (at : ℕ) (r : EntryRead) : Type 0 where
   pub number0 : (numberOfEntryRead r ≡ 0) ↔ ((length s ≤ at) ⊎ ((e : Entry) × StandsAt s at e))
   pub ends : (r ≡ End) ↔ (length s ≤ at)
   -- that entry is given, with "the next entry's position"
-  pub finds : (e : Entry) → (r ≡ Found e (at + length (bytesOf e))) ↔ StandsAt s at e
+  pub finds : (e : Entry) → (r ≡ Found e (at + length (bytesOfEntry e))) ↔ StandsAt s at e

@@ -49,9 +49,9 @@ abbrev pub WellFormed : List ℕ → Type 0
 WellFormed schedule = (es : List Entry) × IsSchedule schedule es
 
 -- the count of a schedule's entries
-abbrev pub countOf : Schedule → Counted
-countOf (entries es) = Entries (length es)
-countOf malformed = Malformed
+abbrev pub countedOf : Schedule → Counted
+countedOf (entries es) = Entries (length es)
+countedOf malformed = Malformed
 
 -- document 01's number for each answer of `count`
 abbrev pub numberOfCounted : Counted → ℕ
@@ -60,7 +60,7 @@ numberOfCounted Malformed = 13
 
 -- what `count` gives of a schedule's bytes: each number exactly under its condition, which does not cite the reading
 pub record Counts (s : List ℕ) (r : Counted) : Type 0 where
-  pub is : r ≡ countOf (scheduleOf s)
+  pub is : r ≡ countedOf (scheduleOf s)
   pub number : numberOfCounted r ≡ numberOfSchedule (scheduleOf s)
   -- "13 (whole run): unknown byte, cut entry, or over 32,768 bytes"
   pub number13 : (numberOfCounted r ≡ 13) ↔ (¬ (WellFormed s))

@@ -2,7 +2,7 @@
 // written at a position, and the entries of a whole schedule are counted, which is where document 01's number 13 is found.
 ghost use mathlib.Core.Path.{_≡_};
 ghost use mathlib.Core.List.{[], _∷_};
-ghost use Rattle.schedule.specs.Format.{bytesOf, EntryAnswer};
+ghost use Rattle.schedule.specs.Format.{bytesOfEntry, EntryAnswer};
 ghost use Rattle.schedule.specs.Four.{fourSteps};
 ghost use Rattle.schedule.specs.Meaning.{Counts};
 ghost use Rattle.schedule.specs.Writing.{Writes};
@@ -162,7 +162,7 @@ fn write_three(kind: u8, first: u8, second: u8, buffer: &mut [u8], at: usize) ->
 
 // An entry's bytes at a position of a buffer; the other bytes stay. An entry that does not fit leaves all bytes as they were.
 pub fn write(entry: Entry, buffer: &mut [u8], at: usize) -> Written
-    ensures { λ r. ⌜ Writes (bytesOf entry) (now (buffer .entry)) at r (now (buffer .exit)) ⌝ }
+    ensures { λ r. ⌜ Writes (bytesOfEntry entry) (now (buffer .entry)) at r (now (buffer .exit)) ⌝ }
 {
     match entry {
         Entry::Step(c) => write_two(STEP, c, buffer, at),

@@ -11,7 +11,7 @@ use lib.ListN.{getD, length}
 use Rattle.command.proofs.Bools.{both}
 use Rattle.schedule.specs.declared.Entry.{Entry}
 use Rattle.schedule.specs.declared.Entry.the-variants.{Enable}
-use Rattle.schedule.specs.Format.{bytesOf, bytesOfEntries}
+use Rattle.schedule.specs.Format.{bytesOfEntry, bytesOfEntries}
 use Rattle.schedule.proofs.Following.{accepts-short}
 use Rattle.rules.specs.Lists.{Every}
 use Rattle.rules.specs.State.{Job, State, isOver}
@@ -23,13 +23,13 @@ use Rattle.demands.specs.Demands.{Demand3}
 use Rattle.demands.proofs.Demands.{demand-3}
 use Rattle.demands.proofs.Passing.{takes}
 use Rattle.search.specs.Search.{choiceOf, lowestSuspended}
-use Rattle.rounds.specs.Rounds.{Progress, isWritten, mayTry, recorded, tried, turns, fresh, round, goesOn, wakened, rounds, usable, beginning}
+use Rattle.rounds.specs.Rounds.{Progress, isWritten, mayTry, recorded, tried, turns, fresh, round, playsOn, wakened, rounds, usable, beginning}
 use Rattle.turns.proofs.Keeping.{short, many-append}
 use Rattle.scheduler.specs.Promise.{scheduledOf, refusalIn, EqualsRun}
 
-one-many : (e : Entry) → length (bytesOfEntries (e ∷ [])) ≡ length (bytesOf e)
+one-many : (e : Entry) → length (bytesOfEntries (e ∷ [])) ≡ length (bytesOfEntry e)
 unfolding bytesOfEntries
-one-many e = ap length (append-nil (bytesOf e))
+one-many e = ap length (append-nil (bytesOfEntry e))
 
 module _ (j : Job) where
   logs-snoc : (P : ℕ → Type 0) (s : State) (es : List Entry) (e : Entry) → Every P (logsFrom j s es) → P (entryOf j (runFrom j s es) e .log)
@@ -87,7 +87,7 @@ module _ (j : Job) where
     ran-rounds (suc n) p r =
         let q = ran-round p r in
         let next = ran-rounds n (wakened j (round j p)) (ran-wakened (round j p) q) in
-        either (goesOn (round j p)) (rounds n j (wakened j (round j p))) (round j p) (λ h. next) q
+        either (playsOn (round j p)) (rounds n j (wakened j (round j p))) (round j p) (λ h. next) q
 
 module _ (i : Input) (size : ℕ) where
   whole : Ran (jobIn i) (startIn i) (usable size) (scheduledOf i size)

@@ -8,7 +8,7 @@ use native.Mathlib.Decide.{decLt}
 use native.Mathlib.Omega.{arith}
 use lib.ListN.{length, take, replicate, length-set, length-take, length-append, length-replicate, List·getD-eq-default}
 use Rattle.command.specs.Command.{widthOf}
-use Rattle.image.specs.Layout.{countOf, slotsOf, argumentsOf, codeOf}
+use Rattle.image.specs.Layout.{routineCount, slotsOf, argumentsOf, codeOf}
 use Rattle.image.specs.Code.{commandsOf, isStart}
 use Rattle.image.proofs.Accepted.{accepted}
 use Rattle.image.proofs.Laws.{start-good}
@@ -18,14 +18,14 @@ use Rattle.window.proofs.Laws.{store-in-memory, load-memory, rejoined-fits}
 use Rattle.stacklets.specs.Frames.{slotOf}
 use Rattle.thread.specs.declared.Effect.{Effect}
 use Rattle.thread.specs.declared.Effect.the-variants.{Faults, Sets, Loads, Stores, Goes, Continues, Lforks, Forks, Joins, Suspends, Yields, Returns}
-use Rattle.thread.specs.View.{viewOf}
+use Rattle.thread.specs.View.{contextOf}
 use Rattle.thread.specs.Thread.{isPending}
 use Rattle.thread.specs.Job.{Job, GoodJob, offsetAt, byteAt}
 use Rattle.met.proofs.CommandMet as command
 use Rattle.thread.proofs.EffectFacts.{Guarded}
 use Rattle.thread.proofs.Widths.{Widened}
 use Rattle.serial.specs.declared.Routine.{Routine}
-use Rattle.serial.specs.Serial.{movedTo, withSlot, goesOn, joined, forked, startedOn, argumentsFrom, weightAt, effectAt}
+use Rattle.serial.specs.Serial.{jumpedTo, assigned, advanced, joined, forked, startedOn, argumentsFrom, weightAt, nextEffect}
 use Rattle.serial.specs.Steps.{GoodRoutine, InReach}
 
 -- an address that may be loaded lies in the parameter words or in memory
@@ -80,20 +80,20 @@ module _ (j : Job) (good : GoodJob j) (l : Routine) (g : GoodRoutine j l) where
   abbrev Told : Effect → Type 0
   Told e = command.Met (j .image) (slotsOf (j .image) (l .routine)) (starts j l) (nextOf j l) (slotOf (l .slots) 0) (isPending (l .pending)) (l .window) e
 
-  told : Told (effectAt j l)
-  unfolding effectAt
+  told : Told (nextEffect j l)
+  unfolding nextEffect
   told = command.met-here j good (l .routine) (l .position) (g .routine) (g .position) (slotOf (l .slots) 0) (isPending (l .pending)) (l .window)
 
-  tested : Guarded (argumentsOf (j .image)) (viewOf (slotOf (l .slots) 0) (isPending (l .pending)) (l .window)) (effectAt j l)
-  unfolding effectAt
-  tested = command.tested-here j good (l .routine) (l .position) (g .routine) (g .position) (viewOf (slotOf (l .slots) 0) (isPending (l .pending)) (l .window))
+  tested : Guarded (argumentsOf (j .image)) (contextOf (slotOf (l .slots) 0) (isPending (l .pending)) (l .window)) (nextEffect j l)
+  unfolding nextEffect
+  tested = command.tested-here j good (l .routine) (l .position) (g .routine) (g .position) (contextOf (slotOf (l .slots) 0) (isPending (l .pending)) (l .window))
 
   -- the effect tells the command's bytes
-  pub width-met : Widened (widthOf (byteAt j (l .routine) (l .position))) (effectAt j l)
-  unfolding effectAt
-  width-met = command.width-here j good (l .routine) (l .position) (g .routine) (g .position) (viewOf (slotOf (l .slots) 0) (isPending (l .pending)) (l .window))
+  pub width-met : Widened (widthOf (byteAt j (l .routine) (l .position))) (nextEffect j l)
+  unfolding nextEffect
+  width-met = command.width-here j good (l .routine) (l .position) (g .routine) (g .position) (contextOf (slotOf (l .slots) 0) (isPending (l .pending)) (l .window))
 
-  in-reach : (e : Effect) → Told e → Guarded (argumentsOf (j .image)) (viewOf (slotOf (l .slots) 0) (isPending (l .pending)) (l .window)) e → InReach e
+  in-reach : (e : Effect) → Told e → Guarded (argumentsOf (j .image)) (contextOf (slotOf (l .slots) 0) (isPending (l .pending)) (l .window)) e → InReach e
   in-reach (Faults x) k t = tt
   in-reach (Sets d v) k t = omega (arith, k .facts .0, slots-few)
   in-reach (Loads d a) k t = (omega (arith, k .facts .0, slots-few), load-reach (l .window) a (g .window) (t .facts .1))
@@ -112,29 +112,29 @@ module _ (j : Job) (good : GoodJob j) (l : Routine) (g : GoodRoutine j l) where
     pub reach : InReach e
     pub told : Told e
 
-  pub met : Known (effectAt j l)
-  met = record { reach = in-reach (effectAt j l) told tested; told = told }
+  pub met : Known (nextEffect j l)
+  met = record { reach = in-reach (nextEffect j l) told tested; told = told }
 
 -- the routines that are open behind an effect are good
 abbrev pub Next : Job → Routine → Effect → Type 0
 Next j l (Faults x) = Unit {0}
-Next j l (Sets d v) = GoodRoutine j (goesOn j (withSlot d v l))
-Next j l (Loads d a) = (v : ℕ) → GoodRoutine j (goesOn j (withSlot d v l))
-Next j l (Stores a v) = GoodRoutine j (goesOn j l)
-Next j l (Goes t) = GoodRoutine j (movedTo t l)
-Next j l Continues = GoodRoutine j (goesOn j l)
+Next j l (Sets d v) = GoodRoutine j (advanced j (assigned d v l))
+Next j l (Loads d a) = (v : ℕ) → GoodRoutine j (advanced j (assigned d v l))
+Next j l (Stores a v) = GoodRoutine j (advanced j l)
+Next j l (Goes t) = GoodRoutine j (jumpedTo t l)
+Next j l Continues = GoodRoutine j (advanced j l)
 Next j l (Lforks r d a e) = GoodRoutine j (startedOn r (argumentsFrom j l r a) (childOf (l .window) e))
-    × ((v : ℕ) → GoodRoutine j (withSlot d v (goesOn j (forked d e l))))
+    × ((v : ℕ) → GoodRoutine j (assigned d v (advanced j (forked d e l))))
 Next j l (Forks r d a e) = GoodRoutine j (startedOn r (argumentsFrom j l r a) (childOf (l .window) e))
-    × ((v : ℕ) → GoodRoutine j (withSlot d v (goesOn j (forked d e l))))
-Next j l Joins = GoodRoutine j (goesOn j (joined l))
-Next j l Suspends = GoodRoutine j (goesOn j l)
-Next j l Yields = GoodRoutine j (goesOn j l)
+    × ((v : ℕ) → GoodRoutine j (assigned d v (advanced j (forked d e l))))
+Next j l Joins = GoodRoutine j (advanced j (joined l))
+Next j l Suspends = GoodRoutine j (advanced j l)
+Next j l Yields = GoodRoutine j (advanced j l)
 Next j l (Returns v) = Unit {0}
 
 module _ (j : Job) (good : GoodJob j) where
   -- a routine at its first command
-  pub fresh : (r : ℕ) (xs : List ℕ) (w : Window) → r < countOf (j .image) → Fits w → GoodRoutine j (startedOn r xs w)
+  pub fresh : (r : ℕ) (xs : List ℕ) (w : Window) → r < routineCount (j .image) → Fits w → GoodRoutine j (startedOn r xs w)
   fresh r xs w h f = record {
     routine = h;
     position = start-good (j .image) (accepted (j .image) (good .image)) r h;
@@ -143,13 +143,13 @@ module _ (j : Job) (good : GoodJob j) where
   }
 
   module _ (l : Routine) (g : GoodRoutine j l) where
-    moved : (p : ℕ) → starts j l p ≡ true → GoodRoutine j (movedTo p l)
+    moved : (p : ℕ) → starts j l p ≡ true → GoodRoutine j (jumpedTo p l)
     moved p h = record { routine = g .routine; position = h; slots = g .slots; window = g .window }
 
-    set-moved : (d v p : ℕ) → starts j l p ≡ true → GoodRoutine j (movedTo p (withSlot d v l))
+    set-moved : (d v p : ℕ) → starts j l p ≡ true → GoodRoutine j (jumpedTo p (assigned d v l))
     set-moved d v p h = record { routine = g .routine; position = h; slots = length-set (l .slots) d v ∙ g .slots; window = g .window }
 
-    rejoined-moved : (p : ℕ) → starts j l p ≡ true → GoodRoutine j (movedTo p (joined l))
+    rejoined-moved : (p : ℕ) → starts j l p ≡ true → GoodRoutine j (jumpedTo p (joined l))
     rejoined-moved p h = record { routine = g .routine; position = h; slots = g .slots; window = rejoined-fits (l .window) (g .window) }
 
     child-good : (r d a e : ℕ) → ForkMet j good l g r d a e → GoodRoutine j (startedOn r (argumentsFrom j l r a) (childOf (l .window) e))
@@ -161,7 +161,7 @@ module _ (j : Job) (good : GoodJob j) where
     })
 
     parent-good : (r d a e : ℕ) → ForkMet j good l g r d a e → starts j l (nextOf j l) ≡ true
-        → (v : ℕ) → GoodRoutine j (withSlot d v (goesOn j (forked d e l)))
+        → (v : ℕ) → GoodRoutine j (assigned d v (advanced j (forked d e l)))
     parent-good r d a e f h v = record {
       routine = g .routine;
       position = h;
@@ -189,5 +189,5 @@ module _ (j : Job) (good : GoodJob j) where
     next-good (Returns v) k = tt
 
     -- behind the command that is met
-    pub next-met : Next j l (effectAt j l)
-    next-met = next-good (effectAt j l) (met j good l g)
+    pub next-met : Next j l (nextEffect j l)
+    next-met = next-good (nextEffect j l) (met j good l g)

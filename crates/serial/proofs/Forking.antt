@@ -10,7 +10,7 @@ use lib.ListN.{length, set, take, drop, length-take, length-drop}
 use Rattle.image.specs.Layout.{argumentsOf}
 use Rattle.window.specs.declared.Window.{Window}
 use Rattle.window.specs.declared.Cut.{Cut}
-use Rattle.window.specs.declared.Cut.the-variants.{Parts, OutOfRange}
+use Rattle.window.specs.declared.Cut.the-variants.{Parts, BadCut}
 use Rattle.window.specs.Rights.{childOf, cutAt}
 use Rattle.window.proofs.Laws.{Cutting, cut-means, cut-made}
 use Rattle.thread.specs.Thread.{withPending}
@@ -20,8 +20,8 @@ use Rattle.serial.specs.declared.Routine.{Routine}
 use Rattle.serial.specs.declared.row.Fork.{Fork}
 use Rattle.serial.specs.declared.Ending.{Ending}
 use Rattle.serial.specs.declared.Ending.the-variants.{ByNumber, ByReturn}
-use Rattle.serial.specs.Serial.{Ended, stopped, andThen, endedBy, withSlot, goesOn, forked, startedOn, argumentsFrom, weightAt, effectAt, forkCalled, runFrom}
-use Rattle.serial.specs.Steps.{openAt, Far, IsFork, EndAs, answerOf}
+use Rattle.serial.specs.Serial.{Ended, stopped, andThen, endedBy, assigned, advanced, forked, startedOn, argumentsFrom, weightAt, nextEffect, forkCalled, callFrom}
+use Rattle.serial.specs.Steps.{openAt, Far, IsFork, EndAs, serialAnswer}
 use Rattle.serial.proofs.CommandMet.{weighs, slots-few, next-small, nextOf}
 use Rattle.serial.proofs.Turns.{Calls, turn-calls}
 
@@ -31,10 +31,10 @@ module _ {j : Job} {n : ℕ} {whole : Ended} {l : Routine} {m : List ℕ} {left 
   abbrev u : ℕ
   u = j .allowance - left
 
-  called : (runFrom j n l m u ≡ forkCalled j (runFrom j) n l (asked (f .routine) (f .result) (f .first) (f .cut)) m u)
-      × Calls j n l m u (f .cut) (f .routine) (f .result) (f .first) (effectAt j l)
+  called : (callFrom j n l m u ≡ forkCalled j (callFrom j) n l (asked (f .routine) (f .result) (f .first) (f .cut)) m u)
+      × Calls j n l m u (f .cut) (f .routine) (f .result) (f .first) (nextEffect j l)
   called =
-      turn-calls j n l m u (far .job) (far .routine) (omega (arith, fork .weight, fork .paid, far .most)) (effectAt j l) refl (f .cut) (f .routine) (f .result) (f .first) (fork .asked)
+      turn-calls j n l m u (far .job) (far .routine) (omega (arith, fork .weight, fork .paid, far .most)) (nextEffect j l) refl (f .cut) (f .routine) (f .result) (f .first) (fork .asked)
 
   pub fork-slot : f .result < 16
   fork-slot = omega (arith, called .1 .asks .result, slots-few j (far .job) l (far .routine))
@@ -43,7 +43,7 @@ module _ {j : Job} {n : ℕ} {whole : Ended} {l : Routine} {m : List ℕ} {left 
   fork-fits = omega (arith, called .1 .five, next-small j (far .job) l (far .routine))
 
   -- the cut is in range
-  pub fork-cuts : cutAt (l .window) (f .cut) ≡ OutOfRange → ⊥
+  pub fork-cuts : cutAt (l .window) (f .cut) ≡ BadCut → ⊥
   fork-cuts q =
       let x = cut-made (l .window) (f .cut) (called .1 .asks .low) (called .1 .asks .high) in
       let z : _≡_ {A = ℕ} 0 1 = cc in
@@ -58,10 +58,10 @@ module _ {j : Job} {n : ℕ} {whole : Ended} {l : Routine} {m : List ℕ} {left 
   young = startedOn (f .routine) (argumentsFrom j l (f .routine) (f .first)) (childOf (l .window) (f .cut))
 
   abbrev onward : ℕ → List ℕ → ℕ → Ended
-  onward v m' u' = runFrom j n (withSlot (f .result) v (goesOn j (forked (f .result) (f .cut) l))) m' u'
+  onward v m' u' = callFrom j n (assigned (f .result) v (advanced j (forked (f .result) (f .cut) l))) m' u'
 
-  led : (b : Bool) → leb 32 n ≡ b → cond b (stopped 26 m u) (andThen (runFrom j (suc n) young m (u + weightAt j l)) onward) ≡ whole
-  led b h = sym (called .0 ∙ ap (λ z. cond z (stopped 26 m u) (andThen (runFrom j (suc n) young m (u + weightAt j l)) onward)) h) ∙ far .is
+  led : (b : Bool) → leb 32 n ≡ b → cond b (stopped 26 m u) (andThen (callFrom j (suc n) young m (u + weightAt j l)) onward) ≡ whole
+  led b h = sym (called .0 ∙ ap (λ z. cond z (stopped 26 m u) (andThen (callFrom j (suc n) young m (u + weightAt j l)) onward)) h) ∙ far .is
 
   -- "A fork from 32 deep, the root being 1, meets 26"
   pub fork-deep : 32 ≤ n → stopped 26 m u ≡ whole
@@ -85,7 +85,7 @@ module _ {j : Job} {n : ℕ} {whole : Ended} {l : Routine} {m : List ℕ} {left 
 
     -- what the child's run gives
     abbrev pub ran : Ended
-    ran = runFrom j deeper (startedOn (f .routine) arguments child) m (j .allowance - (left - f .weight))
+    ran = callFrom j deeper (startedOn (f .routine) arguments child) m (j .allowance - (left - f .weight))
 
     pub child-few : length arguments ≤ 16
     child-few = rw same-arguments (simp (length-take, length-drop) (omega (arith, fork-end given)))
@@ -101,10 +101,10 @@ module _ {j : Job} {n : ℕ} {whole : Ended} {l : Routine} {m : List ℕ} {left 
 
     -- the child has ended
     module _ {ending : Ending} {m' : List ℕ} (ends : EndAs (j .allowance) ran (left - f .weight) m' ending) where
-      continued : andThen (endedBy (answerOf (j .allowance) ending) m') onward ≡ whole
+      continued : andThen (endedBy (serialAnswer (j .allowance) ending) m') onward ≡ whole
       continued =
-          ap (λ x. andThen x onward) (ends .is ∙ ap (λ x. runFrom j deeper x m (j .allowance - (left - f .weight))) same-child
-          ∙ ap (λ x. runFrom j x young m (j .allowance - (left - f .weight))) deeper-is ∙ ap (λ x. runFrom j (suc n) young m x) paid-units)
+          ap (λ x. andThen x onward) (ends .is ∙ ap (λ x. callFrom j deeper x m (j .allowance - (left - f .weight))) same-child
+          ∙ ap (λ x. callFrom j x young m (j .allowance - (left - f .weight))) deeper-is ∙ ap (λ x. callFrom j (suc n) young m x) paid-units)
           ∙ led false (lt-leb 32 n shallow)
 
       pub fork-stops : {x left' : ℕ} → ending ≡ ByNumber x left' → (left' ≤ left) × (stopped x m' (j .allowance - left') ≡ whole)

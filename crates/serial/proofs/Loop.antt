@@ -14,14 +14,14 @@ use Rattle.stacklets.specs.Frames.{slotOf}
 use Rattle.thread.specs.declared.Effect.{Effect}
 use Rattle.thread.specs.declared.Effect.the-variants.{Faults, Sets, Loads, Stores, Goes, Continues, Lforks, Forks, Joins, Suspends, Yields, Returns}
 use Rattle.thread.specs.Effect.{effectOf, bytesBy}
-use Rattle.thread.specs.View.{viewOf}
+use Rattle.thread.specs.View.{contextOf}
 use Rattle.thread.specs.Thread.{isPending}
 use Rattle.thread.specs.Job.{Job, GoodJob}
 use Rattle.thread.proofs.Widths.{bytes-below}
 use Rattle.serial.specs.declared.Routine.{Routine}
 use Rattle.serial.specs.declared.Ask.{Ask}
 use Rattle.serial.specs.declared.Ask.the-variants.{GoOn, Join, Call, Stop, Return}
-use Rattle.serial.specs.Serial.{Ended, done, stopped, weightAt, effectAt, runFrom}
+use Rattle.serial.specs.Serial.{Ended, done, stopped, weightAt, nextEffect, callFrom}
 use Rattle.serial.specs.Steps.{openAt, Padded, askedOf, slotsAfter, memoryAfter, GoodRoutine, InReach, Far, IsFork}
 use Rattle.serial.proofs.CommandMet.{met, weighs, byte-few, place-inside, next-small}
 use Rattle.serial.proofs.Turns.{wide-here, turn-22, turn-goes, turn-joins, turn-stops, turn-returns, turn-calls}
@@ -57,8 +57,8 @@ module _ (j : Job) (l : Routine) {code : ℕ} (code-is : code ≡ getD (j .start
     cost-met w c = c ∙ rw (w, five-are, code-is)
 
     pub effect-met : {command : Command} → command ≡ decodedAt five 0 → {e : Effect}
-        → e ≡ effectOf (argumentsOf (j .image)) (viewOf (slotOf (l .slots) 0) (isPending (l .pending)) (l .window)) command → e ≡ effectAt j l
-    unfolding effectAt
+        → e ≡ effectOf (argumentsOf (j .image)) (contextOf (slotOf (l .slots) 0) (isPending (l .pending)) (l .window)) command → e ≡ nextEffect j l
+    unfolding nextEffect
     effect-met c x = x ∙ rw (c, five-are, code-is)
 
 module _ {j : Job} {n : ℕ} {whole : Ended} {l : Routine} {m : List ℕ} {left cost : ℕ} (far : Far j n whole l m left) (cost-is : cost ≡ weightAt j l) where
@@ -73,7 +73,7 @@ pub record Met (j : Job) (n : ℕ) (whole : Ended) (l : Routine) (m : List ℕ) 
   pub far : Far j n whole l m left
   pub weight : cost ≡ weightAt j l
   pub paid : cost ≤ left
-  pub effect : e ≡ effectAt j l
+  pub effect : e ≡ nextEffect j l
 
 -- what the code has once the effect is carried out: what it leaves to the run, the slots and the memory words
 pub record Acted (j : Job) (n : ℕ) (whole : Ended) (l : Routine) (m : List ℕ) (left cost : ℕ) (e : Effect) (k : Ask) (slots' m' : List ℕ) : Type 0 where
@@ -121,7 +121,7 @@ module _ {j : Job} {n : ℕ} {whole : Ended} {l : Routine} {m : List ℕ} {left 
   behind = omega (arith, t .met .weight, t .met .paid, far .most)
 
   -- the run goes on from another routine
-  far-on : (l' : Routine) → (runFrom j n l' (memoryAfter m e) (u + weightAt j l) ≡ runFrom j n l m u) × GoodRoutine j l'
+  far-on : (l' : Routine) → (callFrom j n l' (memoryAfter m e) (u + weightAt j l) ≡ callFrom j n l m u) × GoodRoutine j l'
       → Far j n whole l' m' (left - cost)
   far-on l' x = record {
     job = good;

@@ -18,7 +18,7 @@ use Rattle.thread.specs.Effect.{asked}
 use Rattle.serial.specs.declared.Routine.{Routine}
 use Rattle.serial.specs.declared.Ask.{Ask}
 use Rattle.serial.specs.declared.Ask.the-variants.{GoOn, Join, Call, Stop, Return}
-use Rattle.serial.specs.Serial.{done, stopped, withSlot, goesOn, forked, startedOn, argumentsFrom, weightAt, effectAt, forkCalled, carried, runFrom}
+use Rattle.serial.specs.Serial.{done, stopped, assigned, advanced, forked, startedOn, argumentsFrom, weightAt, nextEffect, forkCalled, carried, callFrom}
 use Rattle.serial.specs.Steps.{openAt, askedOf, slotsAfter, memoryAfter, GoodRoutine}
 use Rattle.serial.proofs.CommandMet.{Next, next-met, met, Known, width-met}
 use Rattle.serial.proofs.Unrolled.{unrolled}
@@ -59,7 +59,7 @@ module _ (j : Job) (n : ℕ) (l : Routine) (m : List ℕ) (u : ℕ) where
 
   -- the run goes on from a good routine
   pub record Leads (e : Effect) (l' : Routine) : Type 0 where
-    pub is : carried j (runFrom j) n l m u e ≡ runFrom j n l' (memoryAfter m e) (u + weightAt j l)
+    pub is : carried j (callFrom j) n l m u e ≡ callFrom j n l' (memoryAfter m e) (u + weightAt j l)
     pub good : GoodRoutine j l'
 
   pub goes : (e : Effect) (next : ℕ) → askedOf e (l .position) ≡ GoOn next → Widened width e → Next j l e
@@ -94,7 +94,7 @@ module _ (j : Job) (n : ℕ) (l : Routine) (m : List ℕ) (u : ℕ) where
   joins Yields h k g = unlike _ _ h (λ z. omega arith)
   joins (Returns v) h k g = unlike _ _ h (λ z. omega arith)
 
-  pub stops : (e : Effect) (x : ℕ) → askedOf e (l .position) ≡ Stop x → carried j (runFrom j) n l m u e ≡ stopped x (memoryAfter m e) u
+  pub stops : (e : Effect) (x : ℕ) → askedOf e (l .position) ≡ Stop x → carried j (callFrom j) n l m u e ≡ stopped x (memoryAfter m e) u
   unfolding askedOf carried memoryAfter kind
   stops (Faults y) x h = ap (λ z. stopped z m u) (same-stop y x h)
   stops (Sets d v) x h = unlike _ _ h (λ z. omega arith)
@@ -110,7 +110,7 @@ module _ (j : Job) (n : ℕ) (l : Routine) (m : List ℕ) (u : ℕ) where
   stops (Returns v) x h = unlike _ _ h (λ z. omega arith)
 
   pub returns : (e : Effect) (v : ℕ) → askedOf e (l .position) ≡ Return v
-      → carried j (runFrom j) n l m u e ≡ done v (memoryAfter m e) (u + weightAt j l)
+      → carried j (callFrom j) n l m u e ≡ done v (memoryAfter m e) (u + weightAt j l)
   unfolding askedOf carried memoryAfter kind
   returns (Faults y) v h = unlike _ _ h (λ z. omega arith)
   returns (Sets d x) v h = unlike _ _ h (λ z. omega arith)
@@ -127,10 +127,10 @@ module _ (j : Job) (n : ℕ) (l : Routine) (m : List ℕ) (u : ℕ) where
 
   -- what a fork leads to: the run's equation, what it asks for, and good routines; slots and memory are as they were
   pub record Calls (c r d a : ℕ) (e : Effect) : Type 0 where
-    pub is : carried j (runFrom j) n l m u e ≡ forkCalled j (runFrom j) n l (asked r d a c) m u
+    pub is : carried j (callFrom j) n l m u e ≡ forkCalled j (callFrom j) n l (asked r d a c) m u
     pub asks : ForkMet (j .image) (slotsOf (j .image) (l .routine)) (l .window) r d a c
     pub child : GoodRoutine j (startedOn r (argumentsFrom j l r a) (childOf (l .window) c))
-    pub parent : (v : ℕ) → GoodRoutine j (withSlot d v (goesOn j (forked d c l)))
+    pub parent : (v : ℕ) → GoodRoutine j (assigned d v (advanced j (forked d c l)))
     pub five : width ≡ 5
     pub slots : after e ≡ l .slots
     pub memory : memoryAfter m e ≡ m
@@ -158,18 +158,18 @@ module _ (j : Job) (n : ℕ) (l : Routine) (m : List ℕ) (u : ℕ) where
     calls (Returns v) c r d a h w k x = unlike _ _ h (λ z. omega arith)
 
     -- the run where the command is not paid for, and where it is
-    pub turn-22 : j .allowance - u < weightAt j l → stopped 22 m u ≡ runFrom j n l m u
-    turn-22 h = sym (unrolled j good n l m u g ∙ ap (λ b. cond b (stopped 22 m u) (carried j (runFrom j) n l m u (effectAt j l)))
+    pub turn-22 : j .allowance - u < weightAt j l → stopped 22 m u ≡ callFrom j n l m u
+    turn-22 h = sym (unrolled j good n l m u g ∙ ap (λ b. cond b (stopped 22 m u) (carried j (callFrom j) n l m u (nextEffect j l)))
         (lt-ltb (j .allowance - u) (weightAt j l) h))
 
     module _ (h : weightAt j l ≤ j .allowance - u) where
-      after-test : runFrom j n l m u ≡ carried j (runFrom j) n l m u (effectAt j l)
-      after-test = unrolled j good n l m u g ∙ ap (λ b. cond b (stopped 22 m u) (carried j (runFrom j) n l m u (effectAt j l)))
+      after-test : callFrom j n l m u ≡ carried j (callFrom j) n l m u (nextEffect j l)
+      after-test = unrolled j good n l m u g ∙ ap (λ b. cond b (stopped 22 m u) (carried j (callFrom j) n l m u (nextEffect j l)))
           (le-ltb (j .allowance - u) (weightAt j l) h)
 
-      module _ (e : Effect) (is : e ≡ effectAt j l) where
-        turned : runFrom j n l m u ≡ carried j (runFrom j) n l m u e
-        turned = after-test ∙ ap (carried j (runFrom j) n l m u) (sym is)
+      module _ (e : Effect) (is : e ≡ nextEffect j l) where
+        turned : callFrom j n l m u ≡ carried j (callFrom j) n l m u e
+        turned = after-test ∙ ap (carried j (callFrom j) n l m u) (sym is)
 
         known : Known j good l g e
         known = rw is (met j good l g)
@@ -182,25 +182,25 @@ module _ (j : Job) (n : ℕ) (l : Routine) (m : List ℕ) (u : ℕ) where
 
         -- the run, by what the effect leaves to it
         pub turn-goes : (p : ℕ) → askedOf e (l .position) ≡ GoOn p
-            → (runFrom j n (openAt (l .routine) p (l .pending) (l .window) (after e)) (memoryAfter m e) (u + weightAt j l) ≡ runFrom j n l m u)
+            → (callFrom j n (openAt (l .routine) p (l .pending) (l .window) (after e)) (memoryAfter m e) (u + weightAt j l) ≡ callFrom j n l m u)
             × GoodRoutine j (openAt (l .routine) p (l .pending) (l .window) (after e))
         turn-goes p q = let x = goes e p q wide-here next in (sym (turned ∙ x .is), x .good)
 
         pub turn-joins : askedOf e (l .position) ≡ Join
-            → (runFrom j n (openAt (l .routine) (l .position + 1) 0 (rejoined (l .window)) (after e)) (memoryAfter m e) (u + weightAt j l) ≡ runFrom j n l m u)
+            → (callFrom j n (openAt (l .routine) (l .position + 1) 0 (rejoined (l .window)) (after e)) (memoryAfter m e) (u + weightAt j l) ≡ callFrom j n l m u)
             × GoodRoutine j (openAt (l .routine) (l .position + 1) 0 (rejoined (l .window)) (after e)) × (width ≡ 1)
         turn-joins q =
             let x = joins e q wide-here next in
-            subst (λ i. (runFrom j n (openAt (l .routine) (l .position + i) 0 (rejoined (l .window)) (after e)) (memoryAfter m e) (u + weightAt j l) ≡ runFrom j n l m u)
+            subst (λ i. (callFrom j n (openAt (l .routine) (l .position + i) 0 (rejoined (l .window)) (after e)) (memoryAfter m e) (u + weightAt j l) ≡ callFrom j n l m u)
             × GoodRoutine j (openAt (l .routine) (l .position + i) 0 (rejoined (l .window)) (after e)) × (width ≡ i)) (x .0)
             (sym (turned ∙ x .1 .is), x .1 .good, refl)
 
-        pub turn-stops : (x : ℕ) → askedOf e (l .position) ≡ Stop x → stopped x (memoryAfter m e) u ≡ runFrom j n l m u
+        pub turn-stops : (x : ℕ) → askedOf e (l .position) ≡ Stop x → stopped x (memoryAfter m e) u ≡ callFrom j n l m u
         turn-stops x q = sym (turned ∙ stops e x q)
 
-        pub turn-returns : (v : ℕ) → askedOf e (l .position) ≡ Return v → done v (memoryAfter m e) (u + weightAt j l) ≡ runFrom j n l m u
+        pub turn-returns : (v : ℕ) → askedOf e (l .position) ≡ Return v → done v (memoryAfter m e) (u + weightAt j l) ≡ callFrom j n l m u
         turn-returns v q = sym (turned ∙ returns e v q)
 
         pub turn-calls : (c r d a : ℕ) → askedOf e (l .position) ≡ Call c r d a
-            → (runFrom j n l m u ≡ forkCalled j (runFrom j) n l (asked r d a c) m u) × Calls c r d a e
+            → (callFrom j n l m u ≡ forkCalled j (callFrom j) n l (asked r d a c) m u) × Calls c r d a e
         turn-calls c r d a q = let x = calls e c r d a q wide-here known next in (turned ∙ x .is, x)

@@ -14,7 +14,7 @@ use Rattle.thread.specs.declared.Effect.the-variants.{Faults, Sets, Loads, Stor
 use Rattle.thread.specs.Job.{Job, GoodJob, wordAt}
 use Rattle.thread.specs.Effect.{asked}
 use Rattle.serial.specs.declared.Routine.{Routine}
-use Rattle.serial.specs.Serial.{Ended, done, stopped, andThen, Call, movedTo, withSlot, goesOn, joined, forked, startedOn, argumentsFrom, weightAt, effectAt, forkCalled, carried, callWithin, runFrom}
+use Rattle.serial.specs.Serial.{Ended, done, stopped, andThen, Call, jumpedTo, assigned, advanced, joined, forked, startedOn, argumentsFrom, weightAt, nextEffect, forkCalled, carried, callWithin, callFrom}
 use Rattle.serial.specs.Steps.{GoodRoutine}
 use Rattle.serial.proofs.CommandMet.{Next, next-met, weighs}
 
@@ -55,36 +55,36 @@ module _ (j : Job) where
     where
       go : (b : Bool) → Between u (j .allowance) (length m) (cond b (stopped 26 m u)
           (andThen (within f (suc n) (startedOn r (argumentsFrom j l r a) (childOf (l .window) e)) m (u + weightAt j l))
-          (λ v m' u'. within f n (withSlot d v (goesOn j (forked d e l))) m' u')))
+          (λ v m' u'. within f n (assigned d v (advanced j (forked d e l))) m' u')))
       go true = ended refl
       go false = then-between _ (ih (suc n) (startedOn r (argumentsFrom j l r a) (childOf (l .window) e)) m (u + weightAt j l) h)
-          (λ v m' u' p q z. subst (λ k. Between u (j .allowance) k (within f n (withSlot d v (goesOn j (forked d e l))) m' u')) z
-          (weaken (omega arith) (ih n (withSlot d v (goesOn j (forked d e l))) m' u' q)))
+          (λ v m' u' p q z. subst (λ k. Between u (j .allowance) k (within f n (assigned d v (advanced j (forked d e l))) m' u')) z
+          (weaken (omega arith) (ih n (assigned d v (advanced j (forked d e l))) m' u' q)))
 
   carried-between : (f : ℕ) → Bounded f → (n : ℕ) (l : Routine) (m : List ℕ) (u : ℕ) → u + weightAt j l ≤ j .allowance → (e : Effect)
       → Between u (j .allowance) (length m) (carried j (within f) n l m u e)
   unfolding carried Bounded
   carried-between f ih n l m u h (Faults x) = ended refl
-  carried-between f ih n l m u h (Sets d v) = weaken (omega arith) (ih n (goesOn j (withSlot d v l)) m (u + weightAt j l) h)
-  carried-between f ih n l m u h (Loads d a) = weaken (omega arith) (ih n (goesOn j (withSlot d (wordAt j m a) l)) m (u + weightAt j l) h)
+  carried-between f ih n l m u h (Sets d v) = weaken (omega arith) (ih n (advanced j (assigned d v l)) m (u + weightAt j l) h)
+  carried-between f ih n l m u h (Loads d a) = weaken (omega arith) (ih n (advanced j (assigned d (wordAt j m a) l)) m (u + weightAt j l) h)
   carried-between f ih n l m u h (Stores a v) =
-      subst (λ k. Between u (j .allowance) k (within f n (goesOn j l) (set m (a - 32) v) (u + weightAt j l))) (length-set m (a - 32) v)
-      (weaken (omega arith) (ih n (goesOn j l) (set m (a - 32) v) (u + weightAt j l) h))
-  carried-between f ih n l m u h (Goes t) = weaken (omega arith) (ih n (movedTo t l) m (u + weightAt j l) h)
-  carried-between f ih n l m u h Continues = weaken (omega arith) (ih n (goesOn j l) m (u + weightAt j l) h)
+      subst (λ k. Between u (j .allowance) k (within f n (advanced j l) (set m (a - 32) v) (u + weightAt j l))) (length-set m (a - 32) v)
+      (weaken (omega arith) (ih n (advanced j l) (set m (a - 32) v) (u + weightAt j l) h))
+  carried-between f ih n l m u h (Goes t) = weaken (omega arith) (ih n (jumpedTo t l) m (u + weightAt j l) h)
+  carried-between f ih n l m u h Continues = weaken (omega arith) (ih n (advanced j l) m (u + weightAt j l) h)
   carried-between f ih n l m u h (Lforks r d a e) = fork-between f ih n l r d a e m u h
   carried-between f ih n l m u h (Forks r d a e) = fork-between f ih n l r d a e m u h
-  carried-between f ih n l m u h Joins = weaken (omega arith) (ih n (goesOn j (joined l)) m (u + weightAt j l) h)
-  carried-between f ih n l m u h Suspends = weaken (omega arith) (ih n (goesOn j l) m (u + weightAt j l) h)
-  carried-between f ih n l m u h Yields = weaken (omega arith) (ih n (goesOn j l) m (u + weightAt j l) h)
+  carried-between f ih n l m u h Joins = weaken (omega arith) (ih n (advanced j (joined l)) m (u + weightAt j l) h)
+  carried-between f ih n l m u h Suspends = weaken (omega arith) (ih n (advanced j l) m (u + weightAt j l) h)
+  carried-between f ih n l m u h Yields = weaken (omega arith) (ih n (advanced j l) m (u + weightAt j l) h)
   carried-between f ih n l m u h (Returns v) = let e : u ≤ u + weightAt j l = omega arith in returned e h refl
 
   test-between : (f : ℕ) → Bounded f → (n : ℕ) (l : Routine) (m : List ℕ) (u : ℕ) → u ≤ j .allowance → (b : Bool)
       → ltb (j .allowance - u) (weightAt j l) ≡ b
-      → Between u (j .allowance) (length m) (cond b (stopped 22 m u) (carried j (within f) n l m u (effectAt j l)))
+      → Between u (j .allowance) (length m) (cond b (stopped 22 m u) (carried j (within f) n l m u (nextEffect j l)))
   test-between f ih n l m u h true e = ended refl
   test-between f ih n l m u h false e =
-      carried-between f ih n l m u (omega (arith, ltb-false (j .allowance - u) (weightAt j l) e)) (effectAt j l)
+      carried-between f ih n l m u (omega (arith, ltb-false (j .allowance - u) (weightAt j l) e)) (nextEffect j l)
 
   bounded : (f : ℕ) → Bounded f
   unfolding callWithin Bounded
@@ -92,8 +92,8 @@ module _ (j : Job) where
   bounded (suc f) n l m u h = test-between f (λ n l m u h. bounded f n l m u h) n l m u h (ltb (j .allowance - u) (weightAt j l)) refl
 
   -- units do not fall, and do not pass the allowance
-  pub between : (n : ℕ) (l : Routine) (m : List ℕ) (u : ℕ) → u ≤ j .allowance → Between u (j .allowance) (length m) (runFrom j n l m u)
-  unfolding runFrom Bounded
+  pub between : (n : ℕ) (l : Routine) (m : List ℕ) (u : ℕ) → u ≤ j .allowance → Between u (j .allowance) (length m) (callFrom j n l m u)
+  unfolding callFrom Bounded
   between n l m u h = bounded (suc (j .allowance)) n l m u h
 
   module _ (good : GoodJob j) where
@@ -104,42 +104,42 @@ module _ (j : Job) where
 
     fork-stable : (f : ℕ) → Stable f → (n : ℕ) (l : Routine) (r d a e : ℕ) (m : List ℕ) (u : ℕ) → 1 ≤ weightAt j l → u + weightAt j l ≤ j .allowance
         → j .allowance < u + suc f → GoodRoutine j (startedOn r (argumentsFrom j l r a) (childOf (l .window) e))
-        → ((v : ℕ) → GoodRoutine j (withSlot d v (goesOn j (forked d e l))))
+        → ((v : ℕ) → GoodRoutine j (assigned d v (advanced j (forked d e l))))
         → forkCalled j (within f) n l (asked r d a e) m u ≡ forkCalled j (within (suc f)) n l (asked r d a e) m u
     unfolding Stable Bounded
     fork-stable f ih n l r d a e m u w h k child parent = ap (cond (leb 32 n) (stopped 26 m u))
-        (then-alike (λ v m' u'. within f n (withSlot d v (goesOn j (forked d e l))) m' u')
-        (λ v m' u'. within (suc f) n (withSlot d v (goesOn j (forked d e l))) m' u')
+        (then-alike (λ v m' u'. within f n (assigned d v (advanced j (forked d e l))) m' u')
+        (λ v m' u'. within (suc f) n (assigned d v (advanced j (forked d e l))) m' u')
         (bounded f (suc n) (startedOn r (argumentsFrom j l r a) (childOf (l .window) e)) m (u + weightAt j l) h)
-        (λ v m' u' p. ih n (withSlot d v (goesOn j (forked d e l))) m' u' (parent v) (omega arith))
-        ∙ ap (λ o. andThen o (λ v m' u'. within (suc f) n (withSlot d v (goesOn j (forked d e l))) m' u'))
+        (λ v m' u' p. ih n (assigned d v (advanced j (forked d e l))) m' u' (parent v) (omega arith))
+        ∙ ap (λ o. andThen o (λ v m' u'. within (suc f) n (assigned d v (advanced j (forked d e l))) m' u'))
         (ih (suc n) (startedOn r (argumentsFrom j l r a) (childOf (l .window) e)) m (u + weightAt j l) child (omega arith)))
 
     carried-stable : (f : ℕ) → Stable f → (n : ℕ) (l : Routine) (m : List ℕ) (u : ℕ) → 1 ≤ weightAt j l → u + weightAt j l ≤ j .allowance
         → j .allowance < u + suc f → (e : Effect) → Next j l e → carried j (within f) n l m u e ≡ carried j (within (suc f)) n l m u e
     unfolding carried Stable
     carried-stable f ih n l m u w h k (Faults x) g = refl
-    carried-stable f ih n l m u w h k (Sets d v) g = ih n (goesOn j (withSlot d v l)) m (u + weightAt j l) g (omega arith)
-    carried-stable f ih n l m u w h k (Loads d a) g = ih n (goesOn j (withSlot d (wordAt j m a) l)) m (u + weightAt j l) (g (wordAt j m a)) (omega arith)
-    carried-stable f ih n l m u w h k (Stores a v) g = ih n (goesOn j l) (set m (a - 32) v) (u + weightAt j l) g (omega arith)
-    carried-stable f ih n l m u w h k (Goes t) g = ih n (movedTo t l) m (u + weightAt j l) g (omega arith)
-    carried-stable f ih n l m u w h k Continues g = ih n (goesOn j l) m (u + weightAt j l) g (omega arith)
+    carried-stable f ih n l m u w h k (Sets d v) g = ih n (advanced j (assigned d v l)) m (u + weightAt j l) g (omega arith)
+    carried-stable f ih n l m u w h k (Loads d a) g = ih n (advanced j (assigned d (wordAt j m a) l)) m (u + weightAt j l) (g (wordAt j m a)) (omega arith)
+    carried-stable f ih n l m u w h k (Stores a v) g = ih n (advanced j l) (set m (a - 32) v) (u + weightAt j l) g (omega arith)
+    carried-stable f ih n l m u w h k (Goes t) g = ih n (jumpedTo t l) m (u + weightAt j l) g (omega arith)
+    carried-stable f ih n l m u w h k Continues g = ih n (advanced j l) m (u + weightAt j l) g (omega arith)
     carried-stable f ih n l m u w h k (Lforks r d a e) g = fork-stable f ih n l r d a e m u w h k (g .0) (g .1)
     carried-stable f ih n l m u w h k (Forks r d a e) g = fork-stable f ih n l r d a e m u w h k (g .0) (g .1)
-    carried-stable f ih n l m u w h k Joins g = ih n (goesOn j (joined l)) m (u + weightAt j l) g (omega arith)
-    carried-stable f ih n l m u w h k Suspends g = ih n (goesOn j l) m (u + weightAt j l) g (omega arith)
-    carried-stable f ih n l m u w h k Yields g = ih n (goesOn j l) m (u + weightAt j l) g (omega arith)
+    carried-stable f ih n l m u w h k Joins g = ih n (advanced j (joined l)) m (u + weightAt j l) g (omega arith)
+    carried-stable f ih n l m u w h k Suspends g = ih n (advanced j l) m (u + weightAt j l) g (omega arith)
+    carried-stable f ih n l m u w h k Yields g = ih n (advanced j l) m (u + weightAt j l) g (omega arith)
     carried-stable f ih n l m u w h k (Returns v) g = refl
 
     by-test : (f : ℕ) → Stable f → (n : ℕ) (l : Routine) (m : List ℕ) (u : ℕ) → GoodRoutine j l → j .allowance < u + suc f → (b : Bool)
         → ltb (j .allowance - u) (weightAt j l) ≡ b
-        → cond b (stopped 22 m u) (carried j (within f) n l m u (effectAt j l))
-        ≡ cond b (stopped 22 m u) (carried j (within (suc f)) n l m u (effectAt j l))
+        → cond b (stopped 22 m u) (carried j (within f) n l m u (nextEffect j l))
+        ≡ cond b (stopped 22 m u) (carried j (within (suc f)) n l m u (nextEffect j l))
     by-test f ih n l m u g k true e = refl
     by-test f ih n l m u g k false e =
         let x = ltb-false (j .allowance - u) (weightAt j l) e in
         let w = weighs j good l g in
-        carried-stable f ih n l m u w (omega arith) k (effectAt j l) (next-met j good l g)
+        carried-stable f ih n l m u w (omega arith) k (nextEffect j l) (next-met j good l g)
 
     stable : (f : ℕ) → Stable f
     unfolding callWithin Stable
@@ -149,7 +149,7 @@ module _ (j : Job) where
 
     -- "The first test met ends it before that command": 22 first; then the command by its effect, and the run goes on
     pub unrolled : (n : ℕ) (l : Routine) (m : List ℕ) (u : ℕ) → GoodRoutine j l
-        → runFrom j n l m u
-        ≡ cond (ltb (j .allowance - u) (weightAt j l)) (stopped 22 m u) (carried j (runFrom j) n l m u (effectAt j l))
-    unfolding runFrom callWithin
+        → callFrom j n l m u
+        ≡ cond (ltb (j .allowance - u) (weightAt j l)) (stopped 22 m u) (carried j (callFrom j) n l m u (nextEffect j l))
+    unfolding callFrom callWithin
     unrolled n l m u g = by-test (j .allowance) (stable (j .allowance)) n l m u g (omega arith) (ltb (j .allowance - u) (weightAt j l)) refl

@@ -6,7 +6,7 @@ use native.Mathlib.Omega.{arith}
 use borrow.Author.Tests.{eq-eqb, ne-eqb}
 use lib.ListN.{getD, length}
 use Rattle.command.proofs.Tables.{weight-least}
-use Rattle.image.specs.declared.Verdict.the-variants.{Accepted, Refused}
+use Rattle.image.specs.declared.Verdict.the-variants.{Accepted, Rejected}
 use Rattle.image.specs.declared.Refusal.{Refusal}
 use Rattle.image.specs.declared.Checked.{Checked}
 use Rattle.image.specs.Layout.{argumentsOf, programOf, startsIn}
@@ -18,7 +18,7 @@ use Rattle.window.specs.declared.Window.{Window}
 use Rattle.window.specs.Rights.{rootWindow}
 use Rattle.window.proofs.Laws.{root-fits}
 use Rattle.thread.specs.Job.{Job, jobOf, GoodJob}
-use Rattle.serial.specs.Serial.{Ended, stopped, startedOn, runFrom, serialFrom, serialOf}
+use Rattle.serial.specs.Serial.{Ended, stopped, startedOn, callFrom, serialFrom, serialOf}
 use Rattle.serial.specs.Steps.{Far}
 use Rattle.serial.proofs.CommandMet.{fresh}
 
@@ -46,7 +46,7 @@ module _ (image parameters arguments memory : List ℕ) (allowance : ℕ) where
   abbrev j : Job
   j = jobOf image (startsIn (programOf image)) parameters allowance
 
-  pub refused : (x : Refusal) → imageVerdict image ≡ Refused x → stopped (numberOfRefusal x) memory 0 ≡ serialOf j arguments memory
+  pub refused : (x : Refusal) → imageVerdict image ≡ Rejected x → stopped (numberOfRefusal x) memory 0 ≡ serialOf j arguments memory
   unfolding serialOf
   refused x h = rw h
 
@@ -80,7 +80,7 @@ module _ (image parameters arguments memory : List ℕ) (allowance : ℕ) where
     module _ (starts : List ℕ) (starts-are : starts ≡ startsIn (programOf image)) (root : Window) (root-is : root ≡ rootWindow)
         (c : length arguments ≡ argumentsOf image 0) where
       abbrev run : Ended
-      run = runFrom (jobOf image starts parameters allowance) 1 (startedOn 0 arguments root) memory 0
+      run = callFrom (jobOf image starts parameters allowance) 1 (startedOn 0 arguments root) memory 0
 
       pub whole-far : ((i : ℕ) → getD image i 0 < 256) → length parameters ≡ 32 → length memory ≡ 992
           → Far (jobOf image starts parameters allowance) 1 run (startedOn 0 arguments root) memory allowance

@@ -4,11 +4,11 @@ use mathlib.Core.Bool.{cond, not}
 use mathlib.Core.List.{List, _++_}
 use Prim.Native.Nat.{ℕ, zero, suc, _+_, _-_}
 use lib.Dec.{ltb, leb, eqb}
-use lib.ListN.{getD, set, take, drop, length, replicate}
+use lib.ListN.{set, take, drop, length, replicate}
 use Rattle.command.specs.Command.{decodedAt, widthOf}
 use Rattle.command.specs.Weight.{weightOf}
 use Rattle.image.specs.declared.Verdict.{Verdict}
-use Rattle.image.specs.declared.Verdict.the-variants.{Accepted, Refused}
+use Rattle.image.specs.declared.Verdict.the-variants.{Accepted, Rejected}
 use Rattle.image.specs.Layout.{argumentsOf}
 use Rattle.image.specs.Image.{imageVerdict, numberOfRefusal}
 use Rattle.window.specs.declared.Window.{Window}
@@ -17,12 +17,12 @@ use Rattle.stacklets.specs.Frames.{slotOf}
 use Rattle.thread.specs.declared.Effect.{Effect}
 use Rattle.thread.specs.declared.Effect.the-variants.{Faults, Sets, Loads, Stores, Goes, Continues, Lforks, Forks, Joins, Suspends, Yields, Returns}
 use Rattle.thread.specs.Effect.{Asked, asked, effectOf}
-use Rattle.thread.specs.View.{viewOf}
+use Rattle.thread.specs.View.{contextOf}
 use Rattle.thread.specs.Thread.{isPending, withPending}
 use Rattle.thread.specs.Job.{Job, offsetAt, byteAt, wordAt}
 use Rattle.serial.specs.declared.Routine.{Routine}
 use Rattle.serial.specs.declared.SerialAnswer.{SerialAnswer}
-use Rattle.serial.specs.declared.SerialAnswer.the-variants.{Finished, Stopped}
+use Rattle.serial.specs.declared.SerialAnswer.the-variants.{Returned, Stopped}
 
 -- how a run or a call ends: "It gives result and units, or the number it ended by and the units so far", memory as it then is
 pub data Ended : Type 0 where
@@ -31,22 +31,22 @@ pub data Ended : Type 0 where
 
 -- how the run ended, of an answer and the memory words: "It gives result and units, or the number it ended by and the units so far"
 abbrev pub endedBy : SerialAnswer → List ℕ → Ended
-endedBy (Finished result units) memory = done result memory units
+endedBy (Returned result units) memory = done result memory units
 endedBy (Stopped number units) memory = stopped number memory units
 
 -- an open routine, going on
-abbrev pub movedTo : ℕ → Routine → Routine
-movedTo p l = record { routine = l .routine; position = p; pending = l .pending; window = l .window; slots = l .slots }
+abbrev pub jumpedTo : ℕ → Routine → Routine
+jumpedTo p l = record { routine = l .routine; position = p; pending = l .pending; window = l .window; slots = l .slots }
 
 abbrev pub weightAt : Job → Routine → ℕ
 weightAt j l = weightOf (j .weights) (byteAt j (l .routine) (l .position))
 
 -- behind its command
-abbrev pub goesOn : Job → Routine → Routine
-goesOn j l = movedTo (l .position + widthOf (byteAt j (l .routine) (l .position))) l
+abbrev pub advanced : Job → Routine → Routine
+advanced j l = jumpedTo (l .position + widthOf (byteAt j (l .routine) (l .position))) l
 
-abbrev pub withSlot : ℕ → ℕ → Routine → Routine
-withSlot d v l = record { routine = l .routine; position = l .position; pending = l .pending; window = l .window; slots = set (l .slots) d v }
+abbrev pub assigned : ℕ → ℕ → Routine → Routine
+assigned d v l = record { routine = l .routine; position = l .position; pending = l .pending; window = l .window; slots = set (l .slots) d v }
 
 -- "A join always passes, clears the pending slots and puts the mark back to lo"
 abbrev pub joined : Routine → Routine
@@ -71,9 +71,9 @@ abbrev pub argumentsFrom : Job → Routine → ℕ → ℕ → List ℕ
 argumentsFrom j l r a = take (argumentsOf (j .image) r) (drop a (l .slots))
 
 -- what the next command does
-unfoldable pub effectAt : Job → Routine → Effect
-effectAt j l =
-    effectOf (argumentsOf (j .image)) (viewOf (slotOf (l .slots) 0) (isPending (l .pending)) (l .window))
+unfoldable pub nextEffect : Job → Routine → Effect
+nextEffect j l =
+    effectOf (argumentsOf (j .image)) (contextOf (slotOf (l .slots) 0) (isPending (l .pending)) (l .window))
     (decodedAt (j .image) (offsetAt j (l .routine) (l .position)))
 
 -- an ended call, and what follows it
@@ -92,21 +92,21 @@ module _ (j : Job) (call : Call) where
   forkCalled n l f m u =
       cond (leb 32 n) (stopped 26 m u)
       (andThen (call (suc n) (startedOn (f .routine) (argumentsFrom j l (f .routine) (f .first)) (childOf (l .window) (f .cut))) m (u + weightAt j l))
-      (λ v m' u'. call n (withSlot (f .result) v (goesOn j (forked (f .result) (f .cut) l))) m' u'))
+      (λ v m' u'. call n (assigned (f .result) v (advanced j (forked (f .result) (f .cut) l))) m' u'))
 
   -- a command by its effect: "01 to 07 act by the table"; "suspend and yield only cost"
   unfoldable pub carried : ℕ → Routine → List ℕ → ℕ → Effect → Ended
   carried n l m u (Faults x) = stopped x m u
-  carried n l m u (Sets d v) = call n (goesOn j (withSlot d v l)) m (u + weightAt j l)
-  carried n l m u (Loads d a) = call n (goesOn j (withSlot d (wordAt j m a) l)) m (u + weightAt j l)
-  carried n l m u (Stores a v) = call n (goesOn j l) (set m (a - 32) v) (u + weightAt j l)
-  carried n l m u (Goes p) = call n (movedTo p l) m (u + weightAt j l)
-  carried n l m u Continues = call n (goesOn j l) m (u + weightAt j l)
+  carried n l m u (Sets d v) = call n (advanced j (assigned d v l)) m (u + weightAt j l)
+  carried n l m u (Loads d a) = call n (advanced j (assigned d (wordAt j m a) l)) m (u + weightAt j l)
+  carried n l m u (Stores a v) = call n (advanced j l) (set m (a - 32) v) (u + weightAt j l)
+  carried n l m u (Goes p) = call n (jumpedTo p l) m (u + weightAt j l)
+  carried n l m u Continues = call n (advanced j l) m (u + weightAt j l)
   carried n l m u (Lforks r d a e) = forkCalled n l (asked r d a e) m u
   carried n l m u (Forks r d a e) = forkCalled n l (asked r d a e) m u
-  carried n l m u Joins = call n (goesOn j (joined l)) m (u + weightAt j l)
-  carried n l m u Suspends = call n (goesOn j l) m (u + weightAt j l)
-  carried n l m u Yields = call n (goesOn j l) m (u + weightAt j l)
+  carried n l m u Joins = call n (advanced j (joined l)) m (u + weightAt j l)
+  carried n l m u Suspends = call n (advanced j l) m (u + weightAt j l)
+  carried n l m u Yields = call n (advanced j l) m (u + weightAt j l)
   carried n l m u (Returns v) = done v m (u + weightAt j l)
 
 -- "The first test met ends it before that command": 22 first. At most `left` commands in a row; each weighs 1 at least, so one more than
@@ -114,20 +114,20 @@ module _ (j : Job) (call : Call) where
 unfoldable pub callWithin : Job → ℕ → Call
 callWithin j zero n l m u = stopped 22 m u
 callWithin j (suc left) n l m u =
-    let next = carried j (λ n l m u. callWithin j left n l m u) n l m u (effectAt j l) in
+    let next = carried j (λ n l m u. callWithin j left n l m u) n l m u (nextEffect j l) in
     cond (ltb (j .allowance - u) (weightAt j l)) (stopped 22 m u) next
 
 -- the run from an open routine
-unfoldable pub runFrom : Job → Call
-runFrom j n l m u = callWithin j (suc (j .allowance)) n l m u
+unfoldable pub callFrom : Job → Call
+callFrom j n l m u = callWithin j (suc (j .allowance)) n l m u
 
 -- "Routine 0 starts on the arguments, other slots zero, in the root's window"
 unfoldable pub serialFrom : Job → List ℕ → List ℕ → Ended
-serialFrom j arguments memory = runFrom j 1 (startedOn 0 arguments rootWindow) memory 0
+serialFrom j arguments memory = callFrom j 1 (startedOn 0 arguments rootWindow) memory 0
 
 -- an image's number, or what follows it
 abbrev pub byVerdict : Verdict → List ℕ → Ended → Ended
-byVerdict (Refused n) memory run = stopped (numberOfRefusal n) memory 0
+byVerdict (Rejected n) memory run = stopped (numberOfRefusal n) memory 0
 byVerdict Accepted memory run = run
 
 -- "Plain run: image, 24, 25", then the run; the number and nothing changed where one is met

@@ -1,11 +1,10 @@
 -- What the private functions of the serial run give, part by part; and what they rely on.
-use mathlib.Core.Bool.{true, cond}
+use mathlib.Core.Bool.{true}
 use mathlib.Core.List.{List, _++_}
 use mathlib.Core.Path.{_≡_}
 use Prim.Native.Nat.{ℕ, _+_, _-_, _≤_, _<_}
-use lib.Dec.{ltb}
 use lib.ListN.{getD, set, take, length, replicate}
-use Rattle.image.specs.Layout.{countOf, codeOf}
+use Rattle.image.specs.Layout.{routineCount, codeOf}
 use Rattle.image.specs.Code.{commandsOf, isStart}
 use Rattle.window.specs.declared.Window.{Window}
 use Rattle.window.specs.Rights.{Fits, rejoined}
@@ -25,8 +24,8 @@ use Rattle.serial.specs.declared.Turn.the-variants.{AfterJoin, AfterFork
 use Rattle.serial.specs.declared.Ending.{Ending}
 use Rattle.serial.specs.declared.Ending.the-variants.{ByNumber, ByReturn}
 use Rattle.serial.specs.declared.SerialAnswer.{SerialAnswer}
-use Rattle.serial.specs.declared.SerialAnswer.the-variants.{Finished, Stopped}
-use Rattle.serial.specs.Serial.{Ended, done, stopped, endedBy, weightAt, effectAt, runFrom}
+use Rattle.serial.specs.declared.SerialAnswer.the-variants.{Returned, Stopped}
+use Rattle.serial.specs.Serial.{Ended, done, stopped, endedBy, weightAt, nextEffect, callFrom}
 
 -- an open routine of its parts, which the code holds one by one
 abbrev pub openAt : ℕ → ℕ → ℕ → Window → List ℕ → Routine
@@ -88,7 +87,7 @@ pub record Padded (s padded : List ℕ) : Type 0 where
 
 -- an open routine of a good job: a command starts at its position, it has 16 slots, and its window lies in memory
 pub record GoodRoutine (j : Job) (l : Routine) : Type 0 where
-  pub routine : l .routine < countOf (j .image)
+  pub routine : l .routine < routineCount (j .image)
   pub position : isStart (commandsOf (codeOf (j .image) (l .routine))) (l .position) ≡ true
   pub slots : length (l .slots) ≡ 16
   pub window : Fits (l .window)
@@ -114,7 +113,7 @@ pub record Far (j : Job) (n : ℕ) (whole : Ended) (l : Routine) (m : List ℕ) 
   pub routine : GoodRoutine j l
   pub memory : length m ≡ 992
   pub most : left ≤ j .allowance
-  pub is : runFrom j n l m (j .allowance - left) ≡ whole
+  pub is : callFrom j n l m (j .allowance - left) ≡ whole
 
 -- some run has come there
 pub record Come (image starts parameters : List ℕ) (n : ℕ) (l : Routine) (m : List ℕ) (left : ℕ) : Type 0 where
@@ -134,7 +133,7 @@ openIn at slots = openAt (at .routine) (at .position) (at .pending) (at .window)
 pub record IsFork (j : Job) (l : Routine) (left : ℕ) (f : Fork) : Type 0 where
   pub weight : f .weight ≡ weightAt j l
   pub paid : f .weight ≤ left
-  pub asked : askedOf (effectAt j l) (l .position) ≡ Call (f .cut) (f .routine) (f .result) (f .first)
+  pub asked : askedOf (nextEffect j l) (l .position) ≡ Call (f .cut) (f .routine) (f .result) (f .first)
 
 -- what a row relies on: some run has come to its place, in the code that starts there
 pub record RowReady (image parameters : List ℕ) (code : ℕ) (at : Place) (slots m : List ℕ) : Type 0 where
@@ -191,14 +190,14 @@ leftOf (ByNumber x left) = left
 leftOf (ByReturn v left) = left
 
 -- the answer of an allowance
-abbrev pub answerOf : ℕ → Ending → SerialAnswer
-answerOf allowance (ByNumber x left) = Stopped x (allowance - left)
-answerOf allowance (ByReturn v left) = Finished v (allowance - left)
+abbrev pub serialAnswer : ℕ → Ending → SerialAnswer
+serialAnswer allowance (ByNumber x left) = Stopped x (allowance - left)
+serialAnswer allowance (ByReturn v left) = Returned v (allowance - left)
 
 -- what a routine's run gives to every run that had come to it
 pub record EndAs (allowance : ℕ) (whole : Ended) (most : ℕ) (m : List ℕ) (o : Ending) : Type 0 where
   pub less : leftOf o ≤ most
-  pub is : endedBy (answerOf allowance o) m ≡ whole
+  pub is : endedBy (serialAnswer allowance o) m ≡ whole
 
 abbrev pub RunFrom : List ℕ → List ℕ → List ℕ → ℕ → Routine → List ℕ → ℕ → List ℕ → Ending → Type 0
 RunFrom image starts parameters n l m most m' o =

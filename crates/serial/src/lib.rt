@@ -28,7 +28,7 @@ ghost use Rattle.command.specs.Weight.{standardWeights};
 ghost use Rattle.image.specs.Layout.{programOf, startsIn};
 ghost use Rattle.thread.specs.Job.{jobOf};
 ghost use Rattle.serial.specs.Serial.{endedBy, startedOn, serialOf};
-ghost use Rattle.serial.specs.Steps.{Padded, Come, ForkReady, ForkFrom, TurnFrom, RunFrom, openIn, leftOf, answerOf};
+ghost use Rattle.serial.specs.Steps.{Padded, Come, ForkReady, ForkFrom, TurnFrom, RunFrom, openIn, leftOf, serialAnswer};
 
 // An open routine, as the definition of the run has it. The code holds its parts.
 pub struct Routine {
@@ -42,7 +42,7 @@ pub struct Routine {
 
 // How the run ended, with its units: finished with a result, or by a number.
 pub enum SerialAnswer {
-    Finished(u32, u32),
+    Returned(u32, u32),
     Stopped(u8, u32),
 }
 
@@ -226,10 +226,10 @@ fn run_routine(
 // The answer, with the units of an allowance that are not left.
 fn with_units(ending: Ending, allowance: u32) -> SerialAnswer
     requires { ⌜ leftOf ending ≤ allowance ⌝ }
-    ensures { λ r. ⌜ r ≡ answerOf allowance ending ⌝ }
+    ensures { λ r. ⌜ r ≡ serialAnswer allowance ending ⌝ }
 {
     match ending {
-        Ending::ByReturn(value, left) => SerialAnswer::Finished(value, allowance - left),
+        Ending::ByReturn(value, left) => SerialAnswer::Returned(value, allowance - left),
         Ending::ByNumber(number, left) => SerialAnswer::Stopped(number, allowance - left),
     }
 }
@@ -247,7 +247,7 @@ pub fn serial(
     let checked = image::check(image);
     let verdict = checked.verdict;
     match verdict {
-        Verdict::Refused(refusal) => {
+        Verdict::Rejected(refusal) => {
             return SerialAnswer::Stopped(number_of(refusal), 0);
         }
         Verdict::Accepted => {}

@@ -7,7 +7,7 @@ use mathlib.Core.Logic.{_⊎_, ⊎-elim}
 use mathlib.Core.Path.{_≡_, refl, sym, _∙_, ap, subst}
 use Prim.Native.Nat.{ℕ, _+_, _-_, _≤_, _<_}
 use native.Mathlib.Omega.{arith}
-use Rattle.image.specs.Layout.{countOf}
+use Rattle.image.specs.Layout.{routineCount}
 use Rattle.schedule.specs.declared.Entry.{Entry}
 use Rattle.window.specs.declared.Window.{Window}
 use Rattle.window.proofs.Instance.{windows}
@@ -177,7 +177,7 @@ module _ (j : Job) (good : GoodJob j) (s : State) (ok : Sound j s) (results : Re
       })
 
   -- the child of a fork has room
-  room : (kind : ForkKind) (h : Thread) (r n : ℕ) (ns : List ℕ) (x : ℕ) (xs : List ℕ) → Forked j s kind h r n ns x xs → r < countOf (j .image)
+  room : (kind : ForkKind) (h : Thread) (r n : ℕ) (ns : List ℕ) (x : ℕ) (xs : List ℕ) → Forked j s kind h r n ns x xs → r < routineCount (j .image)
       → Room j s r n x
   room kind h r n ns x xs f low = by (f .place)
     where

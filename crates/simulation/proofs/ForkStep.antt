@@ -12,7 +12,7 @@ use lib.Dec.{ltb}
 use lib.ListN.{getD, set, length, length-set}
 use borrow.Author.Tests.{lt-ltb, le-ltb, lt-leb}
 use Rattle.command.proofs.Bools.{both}
-use Rattle.image.specs.Layout.{countOf, slotsOf, argumentsOf}
+use Rattle.image.specs.Layout.{routineCount, slotsOf, argumentsOf}
 use Rattle.image.proofs.Accepted.{accepted}
 use Rattle.image.proofs.Laws.{slots-some, slots-most, arguments-most}
 use Rattle.window.specs.declared.Window.{Window}
@@ -67,7 +67,7 @@ room-above j s ok kind h r n ns e above =
 
 -- on a free stacklet
 pub room-free : (j : Job) (s : State) → GoodJob j → Sound j s → (r n x : ℕ) (ns xs : List ℕ) → s .queues .freeThreads ≡ n ∷ ns → s .queues .freeStacklets ≡ x ∷ xs
-    → r < countOf (j .image) → Room j s r n x
+    → r < routineCount (j .image) → Room j s r n x
 room-free j s good ok r n x ns xs e e' l =
     let f : Every (λ m. (m < 32) × (statusAt s m ≡ 0)) (n ∷ ns) = subst (Every (λ m. (m < 32) × (statusAt s m ≡ 0))) e (ok .freeThreads .free) in
     let g : Every (λ y. (y < 16) × (topAt (s .store .tops) y ≡ 0) × Unused s y) (x ∷ xs) =

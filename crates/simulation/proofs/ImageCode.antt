@@ -15,7 +15,7 @@ use Rattle.command.specs.Weight.{weightOf}
 use Rattle.command.proofs.RoundTrip.{stands}
 use Rattle.command.proofs.Bools.{both}
 use Rattle.image.specs.declared.Verdict.the-variants.{Accepted}
-use Rattle.image.specs.Layout.{countOf, slotsOf, argumentsOf, startOf, codeOf}
+use Rattle.image.specs.Layout.{routineCount, slotsOf, argumentsOf, startOf, codeOf}
 use Rattle.image.specs.Code.{commandsOf, isStart}
 use Rattle.image.specs.Image.{imageVerdict}
 use Rattle.image.proofs.Accepted.{Accepts, accepted}
@@ -25,7 +25,7 @@ use Rattle.met.proofs.Operands.{InFrame, in-frame, in-range}
 
 -- does a command of routine r start at position p?
 abbrev pub isCommand : List ℕ → ℕ → ℕ → Bool
-isCommand image r p = ltb r (countOf image) && isStart (commandsOf (codeOf image r)) p
+isCommand image r p = ltb r (routineCount image) && isStart (commandsOf (codeOf image r)) p
 
 -- its first byte
 abbrev pub firstByte : List ℕ → ℕ → ℕ → ℕ
@@ -37,8 +37,8 @@ fetchOf image r p = cond (isCommand image r p) (decodedAt image (startOf image r
 unfoldable pub weightAt : List ℕ → List ℕ → ℕ → ℕ → ℕ
 weightAt image weights r p = cond (isCommand image r p) (weightOf weights (firstByte image r p)) 1
 
-pub is-command : (image : List ℕ) (r p : ℕ) → r < countOf image → isStart (commandsOf (codeOf image r)) p ≡ true → isCommand image r p ≡ true
-is-command image r p h st = rw (lt-ltb r (countOf image) h) st
+pub is-command : (image : List ℕ) (r p : ℕ) → r < routineCount image → isStart (commandsOf (codeOf image r)) p ≡ true → isCommand image r p ≡ true
+is-command image r p h st = rw (lt-ltb r (routineCount image) h) st
 
 pub fetch-is : (image : List ℕ) (r p : ℕ) → isCommand image r p ≡ true → fetchOf image r p ≡ decodedAt image (startOf image r + p)
 unfolding fetchOf
@@ -57,7 +57,7 @@ pub record Stood (image : List ℕ) (r p : ℕ) : Type 0 where
   pub wide : 1 ≤ widthOf (firstByte image r p)
 
 module _ (image : List ℕ) (verdict : imageVerdict image ≡ Accepted) where
-  pub stood : (r p : ℕ) → r < countOf image → isStart (commandsOf (codeOf image r)) p ≡ true → Stood image r p
+  pub stood : (r p : ℕ) → r < routineCount image → isStart (commandsOf (codeOf image r)) p ≡ true → Stood image r p
   stood r p h st =
       let accepts : Accepts image = accepted image verdict in
       let q = placed image accepts r h p st in
@@ -70,8 +70,8 @@ module _ (image : List ℕ) (verdict : imageVerdict image ≡ Accepted) where
 
   stood-by : (r p : ℕ) → isCommand image r p ≡ true → Stood image r p
   stood-by r p h =
-      let q = both (ltb r (countOf image)) (isStart (commandsOf (codeOf image r)) p) h in
-      stood r p (ltb-true r (countOf image) (q .0)) (q .1)
+      let q = both (ltb r (routineCount image)) (isStart (commandsOf (codeOf image r)) p) h in
+      stood r p (ltb-true r (routineCount image) (q .0)) (q .1)
 
   pub fetch-in-range : (r p : ℕ) → InRange (fetchOf image r p)
   unfolding fetchOf

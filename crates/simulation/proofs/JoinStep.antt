@@ -21,7 +21,7 @@ use Rattle.thread.proofs.ThreadState.{ThreadState, behind-join}
 use Rattle.thread.proofs.MarkedWindows.{window-tests}
 use Rattle.thread.proofs.ThreadSteps.{ThreadStep, joins-step}
 use Rattle.rules.specs.State.{Job, State, threadAt}
-use Rattle.rules.specs.Turn.{turnAt, byteOf, effectAt, waits, done}
+use Rattle.rules.specs.Turn.{turnAt, byteOf, effectAt, waits, completed}
 use Rattle.rules.specs.Sound.{GoodJob, Sound, Used, statusAt, isChild, childrenAmong}
 use Rattle.soundness.proofs.Tested.{join-tested}
 use Rattle.simulation.proofs.JobCode.{codeOf}
@@ -91,7 +91,7 @@ module _ (j : Job) (good : GoodJob j) (s : State) (ok : Sound j s) (c t : ℕ) (
 
   -- 0A
   pub joins-goes : waits j h ≡ false → effectAt j s h ≡ Joins
-      → StepsTo j good s ok c t in-use (done (turnAt j s c t) (joinedAt (turnAt j s c t .next) h) s)
+      → StepsTo j good s ok c t in-use (completed (turnAt j s c t) (joinedAt (turnAt j s c t .next) h) s)
   joins-goes w met = subst (ThreadStep windows window-tests (codeOf j good) t (poolOf j s)) (λ ι. record {
     cell = own-cells j good s ok c t in-use (s .store .words) (joinedAt (turnAt j s c t .next) h)
         (behind-join windows (codeOf j good) (here j good s ok c t in-use) (here j good s ok c t in-use .slots)) (λ u n k. refl) join-cell ι;

@@ -15,14 +15,14 @@ use Rattle.stacklets.specs.Frames.{slotOf}
 use Rattle.forkjoin.proofs.Arrays.{frame}
 use Rattle.thread.specs.declared.Thread.{Thread}
 use Rattle.thread.specs.Effect.{effectOf}
-use Rattle.thread.specs.View.{viewOf}
+use Rattle.thread.specs.View.{contextOf}
 use Rattle.thread.specs.Thread.{isPending}
 use Rattle.thread.proofs.ThreadState.{effect}
 use Rattle.thread.proofs.MarkedWindows.{window-tests}
 use Rattle.met.proofs.Operands.{effect-alike}
 use Rattle.rules.specs.State.{Job, State, threadAt}
 use Rattle.rules.specs.Turn.{offsetOf, byteOf, effectAt}
-use Rattle.rules.specs.Sound.{GoodJob, Placed, Used, sizeAt}
+use Rattle.rules.specs.Sound.{GoodJob, Positioned, Used, sizeAt}
 use Rattle.simulation.proofs.ImageCode.{Stood, stood, isCommand, is-command, firstByte, fetch-is, weight-is}
 use Rattle.simulation.proofs.JobCode.{weightIn, codeOf}
 use Rattle.simulation.proofs.StatePool.{threadOf}
@@ -35,7 +35,7 @@ frame-slot ws base n k h = go (decLt k n)
     go (yes _) = refl
     go (no x) = absurd (x h)
 
-module _ (j : Job) (good : GoodJob j) (s : State) (placed : Placed j s) (t : ℕ) (in-use : Used s t) where
+module _ (j : Job) (good : GoodJob j) (s : State) (placed : Positioned j s) (t : ℕ) (in-use : Used s t) where
   abbrev h : Thread
   h = threadAt s t
 
@@ -63,10 +63,10 @@ module _ (j : Job) (good : GoodJob j) (s : State) (placed : Placed j s) (t : ℕ
   pub effect-here : effect windows window-tests (codeOf j good) (threadOf j (s .store .words) h) ≡ effectAt j s h
   unfolding effectAt
   effect-here =
-      ap (effectOf (argumentsOf (j .image)) (viewOf (frame (s .store .words) (h .origin .base) (sizeAt j s t)) (isPending (h .family .pending)) (h .family .window)))
+      ap (effectOf (argumentsOf (j .image)) (contextOf (frame (s .store .words) (h .origin .base) (sizeAt j s t)) (isPending (h .family .pending)) (h .family .window)))
       (fetch-is (j .image) (h .origin .routine) (h .position) command-here)
       ∙ effect-alike (j .image) (sizeAt j s t) (frame (s .store .words) (h .origin .base) (sizeAt j s t)) (slotOf (s .store .words) (h .origin .base))
       (frame-slot (s .store .words) (h .origin .base) (sizeAt j s t)) (isPending (h .family .pending)) (h .family .window)
       (decodedAt (j .image) (startOf (j .image) (h .origin .routine) + h .position)) (stands-here .operands)
-      ∙ ap (λ z. effectOf (argumentsOf (j .image)) (viewOf (slotOf (s .store .words) (h .origin .base)) (isPending (h .family .pending)) (h .family .window)) (decodedAt (j .image) z))
+      ∙ ap (λ z. effectOf (argumentsOf (j .image)) (contextOf (slotOf (s .store .words) (h .origin .base)) (isPending (h .family .pending)) (h .family .window)) (decodedAt (j .image) z))
       (sym offset-here)

@@ -27,7 +27,7 @@ use Rattle.thread.proofs.ThreadSteps.{ThreadStep, moved, sets-step, goes-step, 
 use Rattle.thread.specs.Job.{wordAt}
 use Rattle.rules.specs.State.{Job, State, threadAt}
 use Rattle.rules.specs.Update.{setSlot, setMemory}
-use Rattle.rules.specs.Turn.{turnAt, effectAt, done, goesOn}
+use Rattle.rules.specs.Turn.{turnAt, effectAt, completed, goesOn}
 use Rattle.rules.specs.Sound.{GoodJob, Sound, Used, sizeAt}
 use Rattle.soundness.proofs.CommandMet.{MetAt, met-at}
 use Rattle.simulation.proofs.JobCode.{weightIn, codeOf}
@@ -181,7 +181,7 @@ module _ (j : Job) (good : GoodJob j) (s : State) (ok : Sound j s) (c t : ℕ) (
       place = store-in-memory (h .family .window) a (ok .windows .fits t in-use) (effect-tested (Stores a v) met)
 
   -- 07, and 06 where the slot is 0
-  pub goes-goes : (p : ℕ) → effectAt j s h ≡ Goes p → StepsTo (done (turnAt j s c t) (movedTo p h) s)
+  pub goes-goes : (p : ℕ) → effectAt j s h ≡ Goes p → StepsTo (completed (turnAt j s c t) (movedTo p h) s)
   goes-goes p met = subst (ThreadStep windows window-tests (codeOf j good) t (poolOf j s)) (λ ι. record {
     cell = own-cells (s .store .words) (movedTo p h) (at-target here p) (λ u n k. refl) (cell-used j (s .store .words) (movedTo p h) in-use) ι;
     words = words-from 32 (s .store .memory);

@@ -10,7 +10,7 @@ use Rattle.thread.specs.Thread.{isPending}
 use Rattle.met.proofs.CommandMet.{Facts, met-here}
 use Rattle.rules.specs.State.{Job, State, threadAt}
 use Rattle.rules.specs.Turn.{byteOf, effectAt}
-use Rattle.rules.specs.Sound.{GoodJob, Placed, Used}
+use Rattle.rules.specs.Sound.{GoodJob, Positioned, Used}
 
 -- what thread t of a sound state meets
 abbrev pub MetAt : Job → State → ℕ → Effect → Type 0
@@ -19,7 +19,7 @@ MetAt j s t e =
     (threadAt s t .position + widthOf (byteOf j (threadAt s t))) (slotOf (s .store .words) (threadAt s t .origin .base))
     (isPending (threadAt s t .family .pending)) (threadAt s t .family .window) e
 
-pub met-at : (j : Job) (s : State) → GoodJob j → Placed j s → (t : ℕ) → Used s t → (e : Effect) → effectAt j s (threadAt s t) ≡ e → MetAt j s t e
+pub met-at : (j : Job) (s : State) → GoodJob j → Positioned j s → (t : ℕ) → Used s t → (e : Effect) → effectAt j s (threadAt s t) ≡ e → MetAt j s t e
 unfolding effectAt
 met-at j s g p t u e f =
     (rw f at (met-here j g (threadAt s t .origin .routine) (threadAt s t .position) (p .routine t u) (p .position t u)

@@ -12,7 +12,7 @@ use Rattle.thread.specs.Job.{wordAt}
 use Rattle.rules.specs.declared.ForkKind.the-variants.{Called, Queued, Stolen}
 use Rattle.rules.specs.State.{Job, State, going, faulted, threadAt}
 use Rattle.rules.specs.Update.{setThread, setReady, setSlot, setMemory, setOutcome, enqueueReady}
-use Rattle.rules.specs.Turn.{turnAt, offsetOf, effectAt, done, goesOn}
+use Rattle.rules.specs.Turn.{turnAt, offsetOf, effectAt, completed, goesOn}
 use Rattle.rules.specs.Leave.{runs, leaves}
 use Rattle.rules.specs.Fork.{asked, born, handed}
 use Rattle.rules.specs.Return.{returnOf}
@@ -35,7 +35,7 @@ pub record Kept (P : State → Type 0) (j : Job) (s : State) : Type 0 where
   pub stores : (c t : ℕ) → Stepped j s c t → (a v : ℕ) → effectAt j s (threadAt s t) ≡ Stores a v
       → P (goesOn (turnAt j s c t) (setMemory a v s))
   pub goes : (c t : ℕ) → Stepped j s c t → (p : ℕ) → effectAt j s (threadAt s t) ≡ Goes p
-      → P (done (turnAt j s c t) (movedTo p (threadAt s t)) s)
+      → P (completed (turnAt j s c t) (movedTo p (threadAt s t)) s)
   pub continues : (c t : ℕ) → Stepped j s c t → effectAt j s (threadAt s t) ≡ Continues
       → P (goesOn (turnAt j s c t) s)
   pub lforks : (c t : ℕ) → Stepped j s c t → (r d a e : ℕ) → effectAt j s (threadAt s t) ≡ Lforks r d a e
@@ -45,7 +45,7 @@ pub record Kept (P : State → Type 0) (j : Job) (s : State) : Type 0 where
       → (n : ℕ) (ns : List ℕ) (x : ℕ) (xs : List ℕ) → Forked j s Queued (threadAt s t) r n ns x xs
       → P (born j s Queued (turnAt j s c t) (asked r d a e) (handed n ns x xs))
   pub joins : (c t : ℕ) → Stepped j s c t → effectAt j s (threadAt s t) ≡ Joins
-      → P (done (turnAt j s c t) (joinedAt (turnAt j s c t .next) (threadAt s t)) s)
+      → P (completed (turnAt j s c t) (joinedAt (turnAt j s c t .next) (threadAt s t)) s)
   pub suspends : (c t : ℕ) → Stepped j s c t → effectAt j s (threadAt s t) ≡ Suspends
       → P (leaves c t Suspended (goesOn (turnAt j s c t) s))
   pub yields : (c t : ℕ) → Stepped j s c t → effectAt j s (threadAt s t) ≡ Yields

@@ -21,7 +21,7 @@ use Rattle.rules.specs.declared.ForkKind.{ForkKind}
 use Rattle.rules.specs.declared.ForkKind.the-variants.{Called, Queued, Stolen}
 use Rattle.rules.specs.State.{Job, State, After, Outcome, going, finished, faulted, isOver, threadAt, onCore, isBusy}
 use Rattle.rules.specs.Update.{setThread, setReady, setSlot, setMemory, enqueueReady, accepted, refused}
-use Rattle.rules.specs.Turn.{Turn, turnAt, byteOf, effectAt, tooDear, waits, done, goesOn, faults}
+use Rattle.rules.specs.Turn.{Turn, turnAt, byteOf, effectAt, tooDear, waits, completed, goesOn, faults}
 use Rattle.rules.specs.Leave.{runs, leaves}
 use Rattle.rules.specs.Fork.{Asked, asked, goesAbove, placeOf, born, forkOn, forkWith, forkOf, handed}
 use Rattle.rules.specs.Return.{returnOf}
@@ -74,7 +74,7 @@ pub record Cases (P : After → Type 0) (j : Job) (s : State) : Type 0 where
   pub stores : (c t : ℕ) → Stepped j s c t → (a v : ℕ) → effectAt j s (threadAt s t) ≡ Stores a v
       → P (accepted (goesOn (turnAt j s c t) (setMemory a v s)))
   pub goes : (c t : ℕ) → Stepped j s c t → (p : ℕ) → effectAt j s (threadAt s t) ≡ Goes p
-      → P (accepted (done (turnAt j s c t) (movedTo p (threadAt s t)) s))
+      → P (accepted (completed (turnAt j s c t) (movedTo p (threadAt s t)) s))
   pub continues : (c t : ℕ) → Stepped j s c t → effectAt j s (threadAt s t) ≡ Continues
       → P (accepted (goesOn (turnAt j s c t) s))
   pub lforks : (c t : ℕ) → Stepped j s c t → (r d a e : ℕ) → effectAt j s (threadAt s t) ≡ Lforks r d a e
@@ -84,7 +84,7 @@ pub record Cases (P : After → Type 0) (j : Job) (s : State) : Type 0 where
       → (n : ℕ) (ns : List ℕ) (x : ℕ) (xs : List ℕ) → Forked j s Queued (threadAt s t) r n ns x xs
       → P (accepted (born j s Queued (turnAt j s c t) (asked r d a e) (handed n ns x xs)))
   pub joins : (c t : ℕ) → Stepped j s c t → effectAt j s (threadAt s t) ≡ Joins
-      → P (accepted (done (turnAt j s c t) (joinedAt (turnAt j s c t .next) (threadAt s t)) s))
+      → P (accepted (completed (turnAt j s c t) (joinedAt (turnAt j s c t .next) (threadAt s t)) s))
   pub suspends : (c t : ℕ) → Stepped j s c t → effectAt j s (threadAt s t) ≡ Suspends
       → P (accepted (leaves c t Suspended (goesOn (turnAt j s c t) s)))
   pub yields : (c t : ℕ) → Stepped j s c t → effectAt j s (threadAt s t) ≡ Yields

@@ -26,7 +26,7 @@ use Rattle.rules.specs.declared.ForkKind.{ForkKind}
 use Rattle.rules.specs.declared.ForkKind.the-variants.{Called, Queued, Stolen}
 use Rattle.rules.specs.State.{Job, State, going, finished, threadAt}
 use Rattle.rules.specs.Update.{setThread, setCore, setOutcome}
-use Rattle.rules.specs.Turn.{effectAt, turnAt, done, goesOn}
+use Rattle.rules.specs.Turn.{effectAt, turnAt, completed, goesOn}
 use Rattle.rules.specs.Leave.{runs, leaves}
 use Rattle.rules.specs.Fork.{born, goesAbove, isConnected, childStatus, parentStatus}
 use Rattle.rules.specs.Return.{freed, wakes, statusAfter, returnToParent, returnOf}
@@ -97,7 +97,7 @@ module _ (j : Job) (s : State) (ok : Sound j s) where
     window = refl;
   })
 
-  -- the command is done, and the thread leaves its core
+  -- the command is completed, and the thread leaves its core
   done-leaves : (c t : ℕ) (status : Status) → Stepped j s c t → 0 < statusNumber status
       → (u : ℕ) → Like (threadAt s u) (threadAt (leaves c t status (goesOn (turnAt j s c t) s)) u)
   done-leaves c t status k l u =
@@ -113,7 +113,7 @@ module _ (j : Job) (s : State) (ok : Sound j s) where
 
   -- a join that passes
   join-change : (c t : ℕ) → Stepped j s c t → effectAt j s (threadAt s t) ≡ Joins
-      → Change j s (done (turnAt j s c t) (joinedAt (turnAt j s c t .next) (threadAt s t)) s)
+      → Change j s (completed (turnAt j s c t) (joinedAt (turnAt j s c t .next) (threadAt s t)) s)
   join-change c t k e = steady (record {
     stays = λ u. view u (ℕ-discrete u t) .0;
     lo = λ u. view u (ℕ-discrete u t) .1;

@@ -1,6 +1,7 @@
 -- The faults in document 01's words: a command faults by 9 exactly where a slot that it reads or writes is pending, by 10 where none is and
 -- its address is not allowed, by 11 where none is and its cut is out of range, and by 12 where it is a return and a slot is pending.
 -- Assumes nothing.
+use mathlib.Core.Logic.{_↔_}
 use mathlib.Core.Bool.{Bool, true, false, cond, true≢false}
 use mathlib.Core.List.{List}
 use mathlib.Core.Path.{_≡_, refl, sym, ap}
@@ -12,11 +13,10 @@ use Rattle.command.specs.declared.Command.the-variants.{Set, Add, Subtract, Loa
 use Rattle.image.specs.Layout.{argumentsOf}
 use Rattle.thread.specs.declared.Effect.{Effect}
 use Rattle.thread.specs.declared.Effect.the-variants.{Faults, Sets, Loads, Stores, Goes, Continues, Lforks, Forks, Joins, Suspends, Yields, Returns}
-use Rattle.thread.specs.Effect.{Own, anyPending, unlessPending, provided, forking, effectOf}
+use Rattle.thread.specs.Effect.{Context, anyPending, unlessPending, provided, forking, effectOf}
 use Rattle.rules.specs.State.{Job, State, threadAt}
 use Rattle.rules.specs.Turn.{effectAt}
-pub use Rattle.soundness.specs.Faults.{slotsOf, readsPending, addressAllowed, cutAllowed, returnsPending, Condition9, Condition10, Condition11, Condition12, commandOf, ownOf, Next}
-use Rattle.soundness.proofs.Exactly.{Exactly}
+pub use Rattle.soundness.specs.Faults.{operandSlots, readsPending, addressAllowed, cutAllowed, returnsPending, Condition9, Condition10, Condition11, Condition12, commandOf, contextAt, Next}
 
 -- a fault's number, or 0
 abbrev pub numberOf : Effect → ℕ
@@ -33,7 +33,7 @@ numberOf Suspends = 0
 numberOf Yields = 0
 numberOf (Returns v) = 0
 
-pub number-faults : (e : Effect) (n : ℕ) → 0 < n → Exactly (e ≡ Faults n) (numberOf e ≡ n)
+pub number-faults : (e : Effect) (n : ℕ) → 0 < n → ((e ≡ Faults n) ↔ (numberOf e ≡ n))
 number-faults e n l = (ap numberOf, back e)
   where
     back : (x : Effect) → numberOf x ≡ n → x ≡ Faults n
@@ -64,7 +64,7 @@ unfolding provided
 number-provided true n e m q = q
 number-provided false n e m q = refl
 
-module _ (arguments : ℕ → ℕ) (own : Own) where
+module _ (arguments : ℕ → ℕ) (own : Context) where
   -- THE TESTS in their order, "12, 9, 10 or 11": which one a command meets first
   pub fault-number : (c : Command) → numberOf (effectOf arguments own c)
       ≡ cond (returnsPending arguments own c) 12 (cond (readsPending arguments own c) 9
@@ -90,10 +90,10 @@ module _ (arguments : ℕ → ℕ) (own : Own) where
 
 -- what each number of a chain of tests means: r a return's, p pending slots', a the address's, c the cut's
 record Order (n : ℕ) (r p a c : Bool) : Type 0 where
-  by12 : Exactly (n ≡ 12) (r ≡ true)
-  by9 : Exactly (n ≡ 9) ((r ≡ false) × (p ≡ true))
-  by10 : Exactly (n ≡ 10) ((r ≡ false) × (p ≡ false) × (a ≡ false))
-  by11 : Exactly (n ≡ 11) ((r ≡ false) × (p ≡ false) × (a ≡ true) × (c ≡ false))
+  by12 : (n ≡ 12) ↔ (r ≡ true)
+  by9 : (n ≡ 9) ↔ ((r ≡ false) × (p ≡ true))
+  by10 : (n ≡ 10) ↔ ((r ≡ false) × (p ≡ false) × (a ≡ false))
+  by11 : (n ≡ 11) ↔ ((r ≡ false) × (p ≡ false) × (a ≡ true) × (c ≡ false))
 
 yes-no : {A : Type 0} → true ≡ false → A
 yes-no e = absurd (true≢false e)
@@ -134,40 +134,40 @@ order false false true false = record {
 }
 
 -- A COMMAND'S FAULT, exactly under its condition
-module _ (arguments : ℕ → ℕ) (own : Own) (c : Command) where
+module _ (arguments : ℕ → ℕ) (own : Context) (c : Command) where
   ordered : Order (numberOf (effectOf arguments own c)) (returnsPending arguments own c) (readsPending arguments own c)
       (addressAllowed arguments own c) (cutAllowed arguments own c)
   ordered = rw (fault-number arguments own c) (order _ _ _ _)
 
-  both : {B : Type 0} (n : ℕ) → 0 < n → Exactly (numberOf (effectOf arguments own c) ≡ n) B → Exactly (effectOf arguments own c ≡ Faults n) B
+  both : {B : Type 0} (n : ℕ) → 0 < n → ((numberOf (effectOf arguments own c) ≡ n) ↔ B) → ((effectOf arguments own c ≡ Faults n) ↔ B)
   both n l z = let y = number-faults (effectOf arguments own c) n l in (λ e. z .0 (y .0 e), λ b. y .1 (z .1 b))
 
-  pub faults-12 : Exactly (effectOf arguments own c ≡ Faults 12) (Condition12 arguments own c)
+  pub faults-12 : (effectOf arguments own c ≡ Faults 12) ↔ (Condition12 arguments own c)
   faults-12 = both 12 (omega arith) (ordered .by12)
 
-  pub faults-9 : Exactly (effectOf arguments own c ≡ Faults 9) (Condition9 arguments own c)
+  pub faults-9 : (effectOf arguments own c ≡ Faults 9) ↔ (Condition9 arguments own c)
   faults-9 = both 9 (omega arith) (ordered .by9)
 
-  pub faults-10 : Exactly (effectOf arguments own c ≡ Faults 10) (Condition10 arguments own c)
+  pub faults-10 : (effectOf arguments own c ≡ Faults 10) ↔ (Condition10 arguments own c)
   faults-10 = both 10 (omega arith) (ordered .by10)
 
-  pub faults-11 : Exactly (effectOf arguments own c ≡ Faults 11) (Condition11 arguments own c)
+  pub faults-11 : (effectOf arguments own c ≡ Faults 11) ↔ (Condition11 arguments own c)
   faults-11 = both 11 (omega arith) (ordered .by11)
 
 -- THE NEXT COMMAND of thread t
 module _ (j : Job) (s : State) (t : ℕ) where
-  pub next-12 : Exactly (effectAt j s (threadAt s t) ≡ Faults 12) (Next j s t Condition12)
+  pub next-12 : (effectAt j s (threadAt s t) ≡ Faults 12) ↔ (Next j s t Condition12)
   unfolding effectAt
-  next-12 = faults-12 (argumentsOf (j .image)) (ownOf j s t) (commandOf j s t)
+  next-12 = faults-12 (argumentsOf (j .image)) (contextAt j s t) (commandOf j s t)
 
-  pub next-9 : Exactly (effectAt j s (threadAt s t) ≡ Faults 9) (Next j s t Condition9)
+  pub next-9 : (effectAt j s (threadAt s t) ≡ Faults 9) ↔ (Next j s t Condition9)
   unfolding effectAt
-  next-9 = faults-9 (argumentsOf (j .image)) (ownOf j s t) (commandOf j s t)
+  next-9 = faults-9 (argumentsOf (j .image)) (contextAt j s t) (commandOf j s t)
 
-  pub next-10 : Exactly (effectAt j s (threadAt s t) ≡ Faults 10) (Next j s t Condition10)
+  pub next-10 : (effectAt j s (threadAt s t) ≡ Faults 10) ↔ (Next j s t Condition10)
   unfolding effectAt
-  next-10 = faults-10 (argumentsOf (j .image)) (ownOf j s t) (commandOf j s t)
+  next-10 = faults-10 (argumentsOf (j .image)) (contextAt j s t) (commandOf j s t)
 
-  pub next-11 : Exactly (effectAt j s (threadAt s t) ≡ Faults 11) (Next j s t Condition11)
+  pub next-11 : (effectAt j s (threadAt s t) ≡ Faults 11) ↔ (Next j s t Condition11)
   unfolding effectAt
-  next-11 = faults-11 (argumentsOf (j .image)) (ownOf j s t) (commandOf j s t)
+  next-11 = faults-11 (argumentsOf (j .image)) (contextAt j s t) (commandOf j s t)

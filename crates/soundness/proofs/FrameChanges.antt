@@ -9,7 +9,7 @@ use native.Mathlib.Decide.{ℕ-discrete, decLt}
 use native.Mathlib.Omega.{arith}
 use lib.ListN.{getD, set, length}
 use lib.Seq.{getD-set-same, getD-set-other, set-out}
-use Rattle.image.specs.Layout.{countOf, slotsOf}
+use Rattle.image.specs.Layout.{routineCount, slotsOf}
 use Rattle.window.specs.Rights.{childOf, restOf}
 use Rattle.stacklets.specs.Tops.{topAt, baseOn, fitsOn, pushedTops, poppedTops}
 use Rattle.thread.specs.declared.Thread.{Thread}
@@ -87,7 +87,7 @@ pub record Birth (j : Job) (s s' : State) (t n r d x cut : ℕ) : Type 0 where
   pub number : n < 32
   pub unused : statusAt s n ≡ 0
   pub not-root : n ≡ 0 → ⊥
-  pub routine : r < countOf (j .image)
+  pub routine : r < routineCount (j .image)
   pub low : threadAt s t .family .window .mark ≤ cut
   pub high : cut ≤ threadAt s t .family .window .hi
   pub fit : fitsOn (s .store .tops) x (slotsOf (j .image) r) ≡ true

@@ -8,7 +8,7 @@ use lib.ListN.{getD, length, replicate}
 use Rattle.command.specs.Command.{commandAt, decoded}
 use Rattle.command.proofs.Tables.{weight-least}
 use Rattle.image.specs.declared.Verdict.the-variants.{Accepted}
-use Rattle.image.specs.Layout.{countOf, startOf}
+use Rattle.image.specs.Layout.{routineCount, startOf}
 use Rattle.image.specs.Code.{commandsFrom, commandsOf, verdictFrom, lastEnds, isStart, targetsGood, routineVerdict}
 use Rattle.image.specs.Image.{imageVerdict, rowsGood, inRange, routinesVerdict}
 use Rattle.rules.specs.State.{jobOf}
@@ -18,7 +18,7 @@ use Rattle.rules.specs.Sound.{GoodJob, Sound}
 use Rattle.soundness.proofs.StartSound.{start-sound}
 
 pub good-job : (image starts parameters : List ℕ) (allowance : ℕ) → imageVerdict image ≡ Accepted → ((i : ℕ) → getD image i 0 < 256)
-    → ((r : ℕ) → r < countOf image → getD starts r 0 ≡ startOf image r) → length parameters ≡ 32 → GoodJob (jobOf image starts parameters allowance)
+    → ((r : ℕ) → r < routineCount image → getD starts r 0 ≡ startOf image r) → length parameters ≡ 32 → GoodJob (jobOf image starts parameters allowance)
 good-job image starts parameters allowance accepted bytes begin many =
     record { image = accepted; bytes = bytes; starts = begin; parameters = many; weighs = weight-least }
 

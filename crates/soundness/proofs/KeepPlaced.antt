@@ -8,7 +8,7 @@ use native.Mathlib.Decide.{ℕ-discrete, decLt}
 use native.Mathlib.Omega.{arith}
 use lib.ListN.{getD, set, length}
 use lib.Seq.{getD-set-same, getD-set-other, set-out}
-use Rattle.image.specs.Layout.{countOf, codeOf}
+use Rattle.image.specs.Layout.{routineCount, codeOf}
 use Rattle.image.specs.Code.{commandsOf, isStart}
 use Rattle.image.proofs.Accepted.{Accepts, accepted}
 use Rattle.image.proofs.Laws.{slots-most, start-good}
@@ -29,7 +29,7 @@ use Rattle.rules.specs.Leave.{runs, leaves}
 use Rattle.rules.specs.Fork.{born, isConnected, childStatus, parentStatus}
 use Rattle.rules.specs.Return.{freed, wakes, statusAfter, returnToParent, returnOf}
 use Rattle.rules.specs.Rules.{entryOf}
-use Rattle.rules.specs.Sound.{Sound, Placed, Used, statusAt}
+use Rattle.rules.specs.Sound.{Sound, Positioned, Used, statusAt}
 use Rattle.soundness.proofs.Entries.{Kept, Stepped, entry-by}
 use Rattle.soundness.proofs.Changes.{used-below}
 use Rattle.soundness.proofs.CommandMet.{MetAt}
@@ -39,7 +39,7 @@ use Rattle.soundness.proofs.Pending.{pending-bound}
 
 -- a record, if it is in use
 pub record WellPlaced (j : Job) (h : Thread) : Type 0 where
-  pub routine : h .origin .routine < countOf (j .image)
+  pub routine : h .origin .routine < routineCount (j .image)
   pub position : isStart (commandsOf (codeOf (j .image) (h .origin .routine))) (h .position) ≡ true
   pub pending : h .family .pending < 65536
   pub result : h .origin .result < 16
@@ -48,10 +48,10 @@ pub record WellPlaced (j : Job) (h : Thread) : Type 0 where
 abbrev pub Good : Job → Thread → Type 0
 Good j h = 0 < statusNumber (h .status) → WellPlaced j h
 
-pub placed-good : (j : Job) (s : State) → Placed j s → (u : ℕ) → Good j (threadAt s u)
+pub placed-good : (j : Job) (s : State) → Positioned j s → (u : ℕ) → Good j (threadAt s u)
 placed-good j s p u h = record { routine = p .routine u h; position = p .position u h; pending = p .pending u h; result = p .result u h; join = p .join u }
 
-pub good-placed : (j : Job) (s : State) → ((u : ℕ) → Good j (threadAt s u)) → Placed j s
+pub good-placed : (j : Job) (s : State) → ((u : ℕ) → Good j (threadAt s u)) → Positioned j s
 good-placed j s f = record {
   routine = λ u h. f u h .routine;
   position = λ u h. f u h .position;
@@ -113,13 +113,13 @@ module _ (j : Job) (s : State) (ok : Sound j s) where
       record { routine = g .routine; position = e; pending = g .pending; result = g .result; join = λ q. let z = running c t k in absurd (omega arith) })
 
   moved-placed : (c t p : ℕ) (s' : State) → Stepped j s c t → isStart (commandsOf (codeOf (j .image) (threadAt s t .origin .routine))) p ≡ true
-      → s' .threads ≡ set (s .threads) t (movedTo p (threadAt s t)) → Placed j s'
+      → s' .threads ≡ set (s .threads) t (movedTo p (threadAt s t)) → Positioned j s'
   moved-placed c t p s' k e threads = good-placed j s' (λ u. rw threads (good-moved c t p k e u))
 
-  same-placed : (s' : State) → s' .threads ≡ s .threads → Placed j s'
+  same-placed : (s' : State) → s' .threads ≡ s .threads → Positioned j s'
   same-placed s' threads = good-placed j s' (λ u. rw threads (all u))
 
-  status-placed : (t : ℕ) (status : Status) (s' : State) → Used s t → (statusNumber status ≡ 4 → ⊥) → s' .threads ≡ set (s .threads) t (withStatus status (threadAt s t)) → Placed j s'
+  status-placed : (t : ℕ) (status : Status) (s' : State) → Used s t → (statusNumber status ≡ 4 → ⊥) → s' .threads ≡ set (s .threads) t (withStatus status (threadAt s t)) → Positioned j s'
   status-placed t status s' h n threads = good-placed j s' (λ u. rw threads
       (good-replaced j (s .threads) all t (withStatus status (threadAt s t)) (good-status j (threadAt s t) status (all t h) (λ e. absurd (n e))) u))
 
@@ -154,7 +154,7 @@ module _ (j : Job) (s : State) (ok : Sound j s) where
       → isStart (commandsOf (codeOf (j .image) (threadAt s t .origin .routine))) next ≡ true
       → s' .threads ≡ set (set (s .threads) t (behindFork (parentStatus kind) next d (restOf (threadAt s t .family .window) e) (threadAt s t)))
       n (newThread (originOf r t d (baseOn (s .store .tops) x)) (childStatus kind) (isConnected kind) (childOf (threadAt s t .family .window) e))
-      → Placed j s'
+      → Positioned j s'
   fork-placed kind t r d a e n x next s' h m st threads = good-placed j s' (λ u. rw threads
       (good-replaced j (set (s .threads) t p) (good-replaced j (s .threads) all t p (λ _. parent)) n q (λ _. child) u))
     where
@@ -217,7 +217,7 @@ module _ (j : Job) (s : State) (ok : Sound j s) where
       go true = with-status Running (λ z. absurd (omega arith))
       go false = woken (wakes false q)
 
-  return-placed : (c t v : ℕ) → Stepped j s c t → Placed j (returnOf s (turnAt j s c t) v)
+  return-placed : (c t v : ℕ) → Stepped j s c t → Positioned j (returnOf s (turnAt j s c t) v)
   unfolding returnOf returnToParent
   return-placed c t v k = go (isRoot (threadAt s t)) refl
     where
@@ -234,12 +234,12 @@ module _ (j : Job) (s : State) (ok : Sound j s) where
       freed-good = good-replaced j (s .threads) all t blankThread (λ z. absurd (omega arith))
 
       go : (b : Bool) → isRoot (threadAt s t) ≡ b
-          → Placed j (cond b (setOutcome (finished v) (setCore c none (freed (turnAt j s c t) s))) (returnToParent s (turnAt j s c t) (threadAt s t .origin .parent) (threadAt s (threadAt s t .origin .parent)) v))
+          → Positioned j (cond b (setOutcome (finished v) (setCore c none (freed (turnAt j s c t) s))) (returnToParent s (turnAt j s c t) (threadAt s t .origin .parent) (threadAt s (threadAt s t .origin .parent)) v))
       go true r = good-placed j _ freed-good
       go false r = good-placed j _ (good-replaced j (set (s .threads) t blankThread) freed-good p (withoutChild (statusAfter (threadAt s t .connected) q) q)
           (good-parent (threadAt s t .connected) q (all p) (parent-used j s ok t h r)))
 
-  placed-kept : Kept (Placed j) j s
+  placed-kept : Kept (Positioned j) j s
   unfolding born
   placed-kept = record {
     unchanged = ok .placed;
@@ -265,5 +265,5 @@ module _ (j : Job) (s : State) (ok : Sound j s) where
   }
 
   -- every entry keeps threads at their places
-  pub keep-placed : (e : Entry) → Placed j (entryOf j s e .state)
-  keep-placed = entry-by (Placed j) j s placed-kept
+  pub keep-placed : (e : Entry) → Positioned j (entryOf j s e .state)
+  keep-placed = entry-by (Positioned j) j s placed-kept

@@ -1,7 +1,7 @@
 -- Each number of a take and of an enable is logged exactly under its condition: document 01, "Who can cause which number". Assumes nothing.
 use mathlib.Core.Bool.{Bool, true, false, _&&_}
 use mathlib.Core.List.{[]}
-use mathlib.Core.Logic.{_⊎_, inl, inr}
+use mathlib.Core.Logic.{_⊎_, inl, inr, _↔_}
 use mathlib.Core.Path.{_≡_, refl, ap}
 use Prim.Native.Nat.{ℕ, _-_, _<_, _≤_}
 use native.Mathlib.Omega.{arith}
@@ -13,7 +13,6 @@ use Rattle.thread.specs.Thread.{none, _is_}
 use Rattle.rules.specs.State.{State, going, isOver, threadAt, onCore}
 use Rattle.rules.specs.Rules.{takeInto, takeOf, enableOf}
 use Rattle.rules.specs.Sound.{statusAt}
-use Rattle.soundness.proofs.Exactly.{Exactly}
 use Rattle.soundness.proofs.Logs.{TakeLog, takeOver, takeNoCore, takeBusy, takeEmpty, takeAccepted, take-log, EnableLog, enableOver, enableAwake, enableAccepted, enable-log}
 
 -- TAKE
@@ -59,21 +58,21 @@ module _ (s : State) (c : ℕ) where
   taken : TakeMeans (takeOf s c .log)
   taken = take-means (take-log s c)
 
-  pub take-19 : Exactly (takeOf s c .log ≡ 19) (isOver (s .outcome) ≡ true)
+  pub take-19 : (takeOf s c .log ≡ 19) ↔ (isOver (s .outcome) ≡ true)
   unfolding takeOf
   take-19 = (taken .number19, λ o. rw o)
 
-  pub take-14 : Exactly (takeOf s c .log ≡ 14) ((s .outcome ≡ going) × (s .count ≤ c))
+  pub take-14 : (takeOf s c .log ≡ 14) ↔ ((s .outcome ≡ going) × (s .count ≤ c))
   unfolding takeOf
   take-14 = (taken .number14, λ z. rw (ap isOver (z .0), le-leb (s .count) c (z .1)))
 
   -- "15 .. take or steal for a busy one"
-  pub take-15 : Exactly (takeOf s c .log ≡ 15) ((s .outcome ≡ going) × (c < s .count) × (onCore s c < none))
+  pub take-15 : (takeOf s c .log ≡ 15) ↔ ((s .outcome ≡ going) × (c < s .count) × (onCore s c < none))
   unfolding takeOf
   take-15 = (taken .number15, λ z. rw (ap isOver (z .0), lt-leb (s .count) c (z .1), lt-ltb (onCore s c) none (z .2)))
 
   -- "16 line empty"
-  pub take-16 : Exactly (takeOf s c .log ≡ 16) ((s .outcome ≡ going) × (c < s .count) × (none ≤ onCore s c) × (s .queues .ready ≡ []))
+  pub take-16 : (takeOf s c .log ≡ 16) ↔ ((s .outcome ≡ going) × (c < s .count) × (none ≤ onCore s c) × (s .queues .ready ≡ []))
   unfolding takeOf takeInto
   take-16 = (
     taken .number16,
@@ -94,7 +93,7 @@ module _ (s : State) (c : ℕ) where
 
 -- ENABLE
 module _ (s : State) (t : ℕ) where
-  pub enable-19 : Exactly (enableOf s t .log ≡ 19) (isOver (s .outcome) ≡ true)
+  pub enable-19 : (enableOf s t .log ≡ 19) ↔ (isOver (s .outcome) ≡ true)
   unfolding enableOf
   enable-19 = (go (enable-log s t), λ o. rw o)
     where
@@ -104,7 +103,7 @@ module _ (s : State) (t : ℕ) where
       go (enableAccepted x) e = absurd (omega arith)
 
   -- "17 thread not suspended or above 31"
-  pub enable-17 : Exactly (enableOf s t .log ≡ 17) ((s .outcome ≡ going) × (¬ ((t < 32) × (statusAt s t ≡ 3))))
+  pub enable-17 : (enableOf s t .log ≡ 17) ↔ ((s .outcome ≡ going) × (¬ ((t < 32) × (statusAt s t ≡ 3))))
   unfolding enableOf
   enable-17 = (go (enable-log s t), λ z. rw (ap isOver (z .0), not-suspended (z .1)))
     where

@@ -3,7 +3,7 @@
 -- enables are in QueueRefusals, steals in StealRefusals. Assumes nothing but that the state is sound.
 use mathlib.Core.Bool.{true, false}
 use mathlib.Core.List.{List, [], _∷_}
-use mathlib.Core.Logic.{_⊎_, inl, inr}
+use mathlib.Core.Logic.{_⊎_, inl, inr, _↔_}
 use mathlib.Core.Path.{_≡_, refl, sym, _∙_, ap}
 use Prim.Native.Nat.{ℕ, _-_, _/_, _<_, _≤_}
 use native.Mathlib.Omega.{arith}
@@ -18,7 +18,7 @@ use Rattle.rules.specs.Rules.{carriedOf, turnOf, stepOf}
 use Rattle.rules.specs.Sound.{Sound}
 use Rattle.soundness.specs.Numbers.{FewThreads, FewStacklets}
 use Rattle.soundness.proofs.Entries.{Stepped}
-use Rattle.soundness.proofs.Exactly.{Exactly, exactly-and}
+use Rattle.soundness.proofs.Exactly.{exactly-and}
 use Rattle.soundness.proofs.Faults.{Condition9, Condition10, Condition11, Condition12, Next, next-9, next-10, next-11, next-12}
 use Rattle.soundness.proofs.NeededStacklets.{needs-stacklet}
 use Rattle.soundness.proofs.Tested.{fault-tested}
@@ -144,22 +144,22 @@ module _ (j : Job) (s : State) (sound : Sound j s) (c : ℕ) where
       )
 
   -- "19 machine over"
-  pub step-19 : Exactly (stepOf j s c .log ≡ 19) (isOver (s .outcome) ≡ true)
+  pub step-19 : (stepOf j s c .log ≡ 19) ↔ (isOver (s .outcome) ≡ true)
   unfolding stepOf
   step-19 = (means .number19, λ o. rw o)
 
   -- "14 core not below the count"
-  pub step-14 : Exactly (stepOf j s c .log ≡ 14) ((s .outcome ≡ going) × (s .count ≤ c))
+  pub step-14 : (stepOf j s c .log ≡ 14) ↔ ((s .outcome ≡ going) × (s .count ≤ c))
   unfolding stepOf
   step-14 = (means .number14, λ z. rw (ap isOver (z .0), le-leb (s .count) c (z .1)))
 
   -- "15 step of an idle core"
-  pub step-15 : Exactly (stepOf j s c .log ≡ 15) ((s .outcome ≡ going) × (c < s .count) × (none ≤ onCore s c))
+  pub step-15 : (stepOf j s c .log ≡ 15) ↔ ((s .outcome ≡ going) × (c < s .count) × (none ≤ onCore s c))
   unfolding stepOf
   step-15 = (means .number15, λ z. rw (ap isOver (z .0), lt-leb (s .count) c (z .1), le-ltb (onCore s c) none (z .2)))
 
   -- "22: units plus the command's weight pass the allowance"
-  pub step-22 : Exactly (stepOf j s c .log ≡ 22) (Dear j s c (onCore s c))
+  pub step-22 : (stepOf j s c .log ≡ 22) ↔ (Dear j s c (onCore s c))
   unfolding stepOf turnOf
   step-22 = (
     means .number22,
@@ -174,8 +174,8 @@ module _ (j : Job) (s : State) (sound : Sound j s) (c : ℕ) where
   )
 
   -- "12, 9, 10 or 11": the faults
-  pub step-fault : (n : ℕ) → 9 ≤ n → n ≤ 12 → Exactly (stepOf j s c .log ≡ n)
-      (Stepped j s c (onCore s c) × (effectAt j s (threadAt s (onCore s c)) ≡ Faults n))
+  pub step-fault : (n : ℕ) → 9 ≤ n → n ≤ 12 → ((stepOf j s c .log ≡ n) ↔
+      (Stepped j s c (onCore s c) × (effectAt j s (threadAt s (onCore s c)) ≡ Faults n)))
   unfolding carriedOf
   step-fault n l m = (
     λ e. rw e at (means .fault (rw e l) (rw e m)),
@@ -184,19 +184,19 @@ module _ (j : Job) (s : State) (sound : Sound j s) (c : ℕ) where
   )
 
   -- "12: return with pending slots"
-  pub step-12 : Exactly (stepOf j s c .log ≡ 12) (Stepped j s c (onCore s c) × Next j s (onCore s c) Condition12)
+  pub step-12 : (stepOf j s c .log ≡ 12) ↔ (Stepped j s c (onCore s c) × Next j s (onCore s c) Condition12)
   step-12 = exactly-and (step-fault 12 (omega arith) (omega arith)) (next-12 j s (onCore s c))
 
   -- "9: a pending slot read or written (a fork writes its d)"
-  pub step-9 : Exactly (stepOf j s c .log ≡ 9) (Stepped j s c (onCore s c) × Next j s (onCore s c) Condition9)
+  pub step-9 : (stepOf j s c .log ≡ 9) ↔ (Stepped j s c (onCore s c) × Next j s (onCore s c) Condition9)
   step-9 = exactly-and (step-fault 9 (omega arith) (omega arith)) (next-9 j s (onCore s c))
 
   -- "10: address not allowed"
-  pub step-10 : Exactly (stepOf j s c .log ≡ 10) (Stepped j s c (onCore s c) × Next j s (onCore s c) Condition10)
+  pub step-10 : (stepOf j s c .log ≡ 10) ↔ (Stepped j s c (onCore s c) × Next j s (onCore s c) Condition10)
   step-10 = exactly-and (step-fault 10 (omega arith) (omega arith)) (next-10 j s (onCore s c))
 
   -- "11: cut out of range"
-  pub step-11 : Exactly (stepOf j s c .log ≡ 11) (Stepped j s c (onCore s c) × Next j s (onCore s c) Condition11)
+  pub step-11 : (stepOf j s c .log ≡ 11) ↔ (Stepped j s c (onCore s c) × Next j s (onCore s c) Condition11)
   step-11 = exactly-and (step-fault 11 (omega arith) (omega arith)) (next-11 j s (onCore s c))
 
   fork-at : (kind : ForkKind) (r : ℕ) → StepForks j s (onCore s c) kind r → (n : ℕ)
@@ -211,7 +211,7 @@ module _ (j : Job) (s : State) (sound : Sound j s) (c : ℕ) where
       ∙ ap (λ x. forkOf j s x (turnAt j s c (onCore s c)) (asked r d a e) .log) (sym k) ∙ make (asked r d a e) refl
 
   -- "20: no free thread number"
-  pub step-20 : Exactly (stepOf j s c .log ≡ 20) (FewThreads j s c)
+  pub step-20 : (stepOf j s c .log ≡ 20) ↔ (FewThreads j s c)
   step-20 = (
     means .number20,
     λ (k, kind, r, f, t).
@@ -219,7 +219,7 @@ module _ (j : Job) (s : State) (sound : Sound j s) (c : ℕ) where
   )
 
   -- "21: a stacklet is needed and none is free"
-  pub step-21 : Exactly (stepOf j s c .log ≡ 21) (FewStacklets j s c)
+  pub step-21 : (stepOf j s c .log ≡ 21) ↔ (FewStacklets j s c)
   step-21 = (
     means .number21,
     λ (k, kind, r, f, t, a, u).

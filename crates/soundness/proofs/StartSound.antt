@@ -18,7 +18,7 @@ use Rattle.stacklets.proofs.Words.{length-pushed}
 use Rattle.thread.specs.Thread.{blankThread, rootThread, none}
 use Rattle.rules.specs.State.{Job, State, threadAt, onCore}
 use Rattle.rules.specs.Start.{startState}
-use Rattle.rules.specs.Sound.{GoodJob, Sized, Placed, Seats, Links, Turns, Tree, childrenAmong, Results, Windows, FreeThreads, Frames, FreeStacklets, Sound, Used, Unused, statusAt}
+use Rattle.rules.specs.Sound.{GoodJob, Sized, Positioned, Seats, Links, Turns, Tree, childrenAmong, Results, Windows, FreeThreads, Frames, FreeStacklets, Sound, Used, Unused, statusAt}
 use Rattle.soundness.proofs.AscendingNumbers.{ascending-every, ascending-distinct, ascending-stands}
 
 -- a table of equal records reads the same everywhere
@@ -80,7 +80,7 @@ module _ (j : Job) (count : ℕ) (arguments memory : List ℕ) where
   unfolding startState
   core-first = refl
 
-  start-placed : GoodJob j → Placed j start
+  start-placed : GoodJob j → Positioned j start
   unfolding startState
   start-placed g = record {
     routine = λ t u. rw (used-root t u) (accepted (j .image) (g .image) .some);

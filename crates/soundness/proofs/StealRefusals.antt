@@ -2,7 +2,7 @@
 -- nothing but that the state is sound.
 use mathlib.Core.Bool.{Bool, true, false}
 use mathlib.Core.List.{[]}
-use mathlib.Core.Logic.{_⊎_, inl, inr, ⊎-elim}
+use mathlib.Core.Logic.{_⊎_, inl, inr, ⊎-elim, _↔_}
 use mathlib.Core.Path.{_≡_, refl, _∙_, ap}
 use Prim.Native.Nat.{ℕ, _-_, _<_, _≤_}
 use native.Mathlib.Omega.{arith}
@@ -17,7 +17,7 @@ use Rattle.rules.specs.Fork.{Asked, asked, goesAbove, forkOf}
 use Rattle.rules.specs.Rules.{isSeed, stolenOf, stealOf}
 use Rattle.rules.specs.Sound.{Sound}
 use Rattle.soundness.proofs.Entries.{Seed, Seeded, seed-true}
-use Rattle.soundness.proofs.Exactly.{Exactly, exactly-and}
+use Rattle.soundness.proofs.Exactly.{exactly-and}
 use Rattle.soundness.proofs.Faults.{Condition9, Condition10, Condition11, Condition12, Next, next-9, next-10, next-11, next-12}
 use Rattle.soundness.proofs.Tested.{fault-tested}
 use Rattle.soundness.proofs.Logs.{DearSeed, SeedForks, true-seed, StealLog, stealOver, stealNoCore, stealBusy, stealNoSeed, stealDear, stealFaults, stealFewThreads, stealFewStacklets, stealAccepted, steal-log}
@@ -155,24 +155,24 @@ module _ (j : Job) (s : State) (sound : Sound j s) (c t : ℕ) where
         le-ltb (j .allowance - s .units) (turnAt j s c t .weight) (k .paid),
       )
 
-  pub steal-19 : Exactly (stealOf j s c t .log ≡ 19) (isOver (s .outcome) ≡ true)
+  pub steal-19 : (stealOf j s c t .log ≡ 19) ↔ (isOver (s .outcome) ≡ true)
   unfolding stealOf
   steal-19 = (stolen .number19, λ o. rw o)
 
-  pub steal-14 : Exactly (stealOf j s c t .log ≡ 14) ((s .outcome ≡ going) × (s .count ≤ c))
+  pub steal-14 : (stealOf j s c t .log ≡ 14) ↔ ((s .outcome ≡ going) × (s .count ≤ c))
   unfolding stealOf
   steal-14 = (stolen .number14, λ z. rw (ap isOver (z .0), le-leb (s .count) c (z .1)))
 
-  pub steal-15 : Exactly (stealOf j s c t .log ≡ 15) ((s .outcome ≡ going) × (c < s .count) × (onCore s c < none))
+  pub steal-15 : (stealOf j s c t .log ≡ 15) ↔ ((s .outcome ≡ going) × (c < s .count) × (onCore s c < none))
   unfolding stealOf
   steal-15 = (stolen .number15, λ z. rw (ap isOver (z .0), lt-leb (s .count) c (z .1), lt-ltb (onCore s c) none (z .2)))
 
   -- "18 thread above 31, not lent, or its next command not 08 or 09"
-  pub steal-18 : Exactly (stealOf j s c t .log ≡ 18) ((s .outcome ≡ going) × (c < s .count) × (none ≤ onCore s c) × (¬ (Seed j s t)))
+  pub steal-18 : (stealOf j s c t .log ≡ 18) ↔ ((s .outcome ≡ going) × (c < s .count) × (none ≤ onCore s c) × (¬ (Seed j s t)))
   unfolding stealOf
   steal-18 = (stolen .number18, λ z. rw (ap isOver (z .0), lt-leb (s .count) c (z .1), le-ltb (onCore s c) none (z .2), no-seed j s t (z .3)))
 
-  pub steal-22 : Exactly (stealOf j s c t .log ≡ 22) (DearSeed j s c t)
+  pub steal-22 : (stealOf j s c t .log ≡ 22) ↔ (DearSeed j s c t)
   unfolding stealOf
   steal-22 = (
     stolen .number22,
@@ -186,7 +186,7 @@ module _ (j : Job) (s : State) (sound : Sound j s) (c t : ℕ) where
         ),
   )
 
-  pub steal-fault : (n : ℕ) → 9 ≤ n → n ≤ 12 → Exactly (stealOf j s c t .log ≡ n) (Seeded j s c t × (effectAt j s (threadAt s t) ≡ Faults n))
+  pub steal-fault : (n : ℕ) → 9 ≤ n → n ≤ 12 → ((stealOf j s c t .log ≡ n) ↔ (Seeded j s c t × (effectAt j s (threadAt s t) ≡ Faults n)))
   unfolding stolenOf
   steal-fault n l m = (
     λ e. rw e at (stolen .fault (rw e l) (rw e m)),
@@ -194,16 +194,16 @@ module _ (j : Job) (s : State) (sound : Sound j s) (c t : ℕ) where
         ap (λ a. a .log) (steal-carried (z .0)) ∙ ap (λ e. stolenOf j s (turnAt j s c t) e .log) (z .1),
   )
 
-  pub steal-9 : Exactly (stealOf j s c t .log ≡ 9) (Seeded j s c t × Next j s t Condition9)
+  pub steal-9 : (stealOf j s c t .log ≡ 9) ↔ (Seeded j s c t × Next j s t Condition9)
   steal-9 = exactly-and (steal-fault 9 (omega arith) (omega arith)) (next-9 j s t)
 
-  pub steal-10 : Exactly (stealOf j s c t .log ≡ 10) (Seeded j s c t × Next j s t Condition10)
+  pub steal-10 : (stealOf j s c t .log ≡ 10) ↔ (Seeded j s c t × Next j s t Condition10)
   steal-10 = exactly-and (steal-fault 10 (omega arith) (omega arith)) (next-10 j s t)
 
-  pub steal-12 : Exactly (stealOf j s c t .log ≡ 12) (Seeded j s c t × Next j s t Condition12)
+  pub steal-12 : (stealOf j s c t .log ≡ 12) ↔ (Seeded j s c t × Next j s t Condition12)
   steal-12 = exactly-and (steal-fault 12 (omega arith) (omega arith)) (next-12 j s t)
 
-  pub steal-11 : Exactly (stealOf j s c t .log ≡ 11) (Seeded j s c t × Next j s t Condition11)
+  pub steal-11 : (stealOf j s c t .log ≡ 11) ↔ (Seeded j s c t × Next j s t Condition11)
   steal-11 = exactly-and (steal-fault 11 (omega arith) (omega arith)) (next-11 j s t)
 
   seed-at : (r : ℕ) → SeedForks j s t r → (n : ℕ) → ((f : Asked) → forkOf j s Stolen (turnAt j s c t) f .log ≡ n)
@@ -213,14 +213,14 @@ module _ (j : Job) (s : State) (sound : Sound j s) (c t : ℕ) where
       ⊎-elim (λ z. ap (λ x. stolenOf j s (turnAt j s c t) x .log) z ∙ make (asked r d a e))
       (λ z. ap (λ x. stolenOf j s (turnAt j s c t) x .log) z ∙ make (asked r d a e)) q
 
-  pub steal-20 : Exactly (stealOf j s c t .log ≡ 20) (Seeded j s c t × (r : ℕ) × SeedForks j s t r × (s .queues .freeThreads ≡ []))
+  pub steal-20 : (stealOf j s c t .log ≡ 20) ↔ (Seeded j s c t × (r : ℕ) × SeedForks j s t r × (s .queues .freeThreads ≡ []))
   steal-20 = (
     stolen .number20,
     λ (k, r, f, u).
         ap (λ a. a .log) (steal-carried k) ∙ seed-at r f 20 (λ g. few-threads j s Stolen (turnAt j s c t) g u),
   )
 
-  pub steal-21 : Exactly (stealOf j s c t .log ≡ 21) (Seeded j s c t × (r : ℕ) × SeedForks j s t r × (¬ (s .queues .freeThreads ≡ [])) ×
+  pub steal-21 : (stealOf j s c t .log ≡ 21) ↔ (Seeded j s c t × (r : ℕ) × SeedForks j s t r × (¬ (s .queues .freeThreads ≡ [])) ×
       (s .queues .freeStacklets ≡ []))
   steal-21 = (
     stolen .number21,

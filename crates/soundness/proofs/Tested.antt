@@ -14,15 +14,15 @@ use Rattle.command.specs.declared.Command.the-variants.{Set, Add, Subtract, Loa
 use Rattle.image.specs.Layout.{argumentsOf}
 use Rattle.thread.specs.declared.Effect.{Effect}
 use Rattle.thread.specs.declared.Effect.the-variants.{Faults, Sets, Loads, Stores, Goes, Continues, Lforks, Forks, Joins, Suspends, Yields, Returns}
-use Rattle.thread.specs.Effect.{Own, run, anyPending, unlessPending, provided, forking, effectOf}
+use Rattle.thread.specs.Effect.{Context, run, anyPending, unlessPending, provided, forking, effectOf}
 use Rattle.thread.specs.Thread.{isPending}
 use Rattle.thread.proofs.EffectFacts.{AllClear, all-clear, first-clear}
 use Rattle.rules.specs.State.{Job, State, threadAt}
 use Rattle.rules.specs.Turn.{effectAt, byteOf}
 use Rattle.soundness.proofs.Changes.{pendingAt}
-use Rattle.soundness.specs.Faults.{commandOf, ownOf}
+use Rattle.soundness.specs.Faults.{commandOf, contextAt}
 
-module _ (arguments : ℕ → ℕ) (own : Own) where
+module _ (arguments : ℕ → ℕ) (own : Context) where
   -- what has been tested where command c has this effect
   abbrev pub Tests : Command → Effect → Type 0
   Tests c (Faults n) = (9 ≤ n) × (n ≤ 12)
@@ -129,9 +129,9 @@ join-byte byte x y z w e =
 
 -- THE NEXT COMMAND of thread t
 module _ (j : Job) (s : State) (t : ℕ) where
-  next-tested : (e : Effect) → effectAt j s (threadAt s t) ≡ e → Tested (argumentsOf (j .image)) (ownOf j s t) (commandOf j s t) e
+  next-tested : (e : Effect) → effectAt j s (threadAt s t) ≡ e → Tested (argumentsOf (j .image)) (contextAt j s t) (commandOf j s t) e
   unfolding effectAt
-  next-tested e q = subst (Tested (argumentsOf (j .image)) (ownOf j s t) (commandOf j s t)) q (tested (argumentsOf (j .image)) (ownOf j s t) (commandOf j s t))
+  next-tested e q = subst (Tested (argumentsOf (j .image)) (contextAt j s t) (commandOf j s t)) q (tested (argumentsOf (j .image)) (contextAt j s t) (commandOf j s t))
 
   -- "faults": 9 to 12
   pub fault-tested : (n : ℕ) → effectAt j s (threadAt s t) ≡ Faults n → (9 ≤ n) × (n ≤ 12)
@@ -166,7 +166,7 @@ SeedEffect Suspends = ⊥
 SeedEffect Yields = ⊥
 SeedEffect (Returns v) = ⊥
 
-forking-seed : (arguments : ℕ → ℕ) (own : Own) (r d a w : ℕ) (e : Effect) → SeedEffect e → SeedEffect (forking arguments own r d a w e)
+forking-seed : (arguments : ℕ → ℕ) (own : Context) (r d a w : ℕ) (e : Effect) → SeedEffect e → SeedEffect (forking arguments own r d a w e)
 unfolding forking unlessPending provided
 forking-seed arguments own r d a w e k = go (anyPending (own .pending) (d ∷ w ∷ run a (arguments r))) (own .mayCut (own .slot w))
   where
@@ -175,15 +175,15 @@ forking-seed arguments own r d a w e k = go (anyPending (own .pending) (d ∷ w 
     go false true = k
     go false false = tt
 
-lfork-seed : (arguments : ℕ → ℕ) (own : Own) (r d a w : ℕ) → SeedEffect (effectOf arguments own (Lfork r d a w))
+lfork-seed : (arguments : ℕ → ℕ) (own : Context) (r d a w : ℕ) → SeedEffect (effectOf arguments own (Lfork r d a w))
 unfolding effectOf
 lfork-seed arguments own r d a w = forking-seed arguments own r d a w _ tt
 
-fork-seed : (arguments : ℕ → ℕ) (own : Own) (r d a w : ℕ) → SeedEffect (effectOf arguments own (Fork r d a w))
+fork-seed : (arguments : ℕ → ℕ) (own : Context) (r d a w : ℕ) → SeedEffect (effectOf arguments own (Fork r d a w))
 unfolding effectOf
 fork-seed arguments own r d a w = forking-seed arguments own r d a w _ tt
 
-decoded-seed : (arguments : ℕ → ℕ) (own : Own) (byte x y z w : ℕ) → (byte ≡ 8) ⊎ (byte ≡ 9)
+decoded-seed : (arguments : ℕ → ℕ) (own : Context) (byte x y z w : ℕ) → (byte ≡ 8) ⊎ (byte ≡ 9)
     → SeedEffect (effectOf arguments own (decoded byte x y z w))
 unfolding decoded
 decoded-seed arguments own byte x y z w k = ⊎-elim (λ e. rw e (lfork-seed arguments own x y z w)) (λ e. rw e (fork-seed arguments own x y z w)) k
@@ -191,4 +191,4 @@ decoded-seed arguments own byte x y z w k = ⊎-elim (λ e. rw e (lfork-seed arg
 pub seed-effect : (j : Job) (s : State) (t : ℕ) → (byteOf j (threadAt s t) ≡ 8) ⊎ (byteOf j (threadAt s t) ≡ 9)
     → SeedEffect (effectAt j s (threadAt s t))
 unfolding effectAt
-seed-effect j s t k = decoded-seed (argumentsOf (j .image)) (ownOf j s t) _ _ _ _ _ k
+seed-effect j s t k = decoded-seed (argumentsOf (j .image)) (contextAt j s t) _ _ _ _ _ k

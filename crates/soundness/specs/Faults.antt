@@ -8,32 +8,32 @@ use Rattle.command.specs.declared.Command.{Command}
 use Rattle.command.specs.declared.Command.the-variants.{Set, Add, Subtract, Load, Store, JumpIfZero, Jump, Lfork, Fork, Join, Suspend, Yield, Return}
 use Rattle.image.specs.Layout.{argumentsOf}
 use Rattle.stacklets.specs.Frames.{slotOf}
-use Rattle.thread.specs.Effect.{Own, run, anyPending}
+use Rattle.thread.specs.Effect.{Context, run, anyPending}
 use Rattle.thread.specs.Thread.{isPending}
-use Rattle.thread.specs.View.{viewOf}
+use Rattle.thread.specs.View.{contextOf}
 use Rattle.rules.specs.State.{Job, State, threadAt}
 use Rattle.rules.specs.Turn.{offsetOf}
 
-module _ (arguments : ℕ → ℕ) (own : Own) where
+module _ (arguments : ℕ → ℕ) (own : Context) where
   -- the slots that a command reads or writes ("a fork writes its d"); a return has a test of its own
-  abbrev pub slotsOf : Command → List ℕ
-  slotsOf (Set d v) = d ∷ []
-  slotsOf (Add d a b) = d ∷ a ∷ b ∷ []
-  slotsOf (Subtract d a b) = d ∷ a ∷ b ∷ []
-  slotsOf (Load d a) = d ∷ a ∷ []
-  slotsOf (Store a b) = a ∷ b ∷ []
-  slotsOf (JumpIfZero a t) = a ∷ []
-  slotsOf (Jump t) = []
-  slotsOf (Lfork r d a w) = d ∷ w ∷ run a (arguments r)
-  slotsOf (Fork r d a w) = d ∷ w ∷ run a (arguments r)
-  slotsOf Join = []
-  slotsOf Suspend = []
-  slotsOf Yield = []
-  slotsOf (Return a) = []
+  abbrev pub operandSlots : Command → List ℕ
+  operandSlots (Set d v) = d ∷ []
+  operandSlots (Add d a b) = d ∷ a ∷ b ∷ []
+  operandSlots (Subtract d a b) = d ∷ a ∷ b ∷ []
+  operandSlots (Load d a) = d ∷ a ∷ []
+  operandSlots (Store a b) = a ∷ b ∷ []
+  operandSlots (JumpIfZero a t) = a ∷ []
+  operandSlots (Jump t) = []
+  operandSlots (Lfork r d a w) = d ∷ w ∷ run a (arguments r)
+  operandSlots (Fork r d a w) = d ∷ w ∷ run a (arguments r)
+  operandSlots Join = []
+  operandSlots Suspend = []
+  operandSlots Yield = []
+  operandSlots (Return a) = []
 
   -- "9: a pending slot read or written"
   abbrev pub readsPending : Command → Bool
-  readsPending c = anyPending (own .pending) (slotsOf c)
+  readsPending c = anyPending (own .pending) (operandSlots c)
 
   -- "10: address not allowed"
   abbrev pub addressAllowed : Command → Bool
@@ -84,7 +84,7 @@ module _ (arguments : ℕ → ℕ) (own : Own) where
   returnsPending (Return a) = anyPending (own .pending) (run 0 16)
 
 -- the conditions: the tests before it are met by none
-module _ (arguments : ℕ → ℕ) (own : Own) (c : Command) where
+module _ (arguments : ℕ → ℕ) (own : Context) (c : Command) where
   abbrev pub Condition12 : Type 0
   Condition12 = returnsPending arguments own c ≡ true
 
@@ -104,9 +104,9 @@ module _ (j : Job) (s : State) (t : ℕ) where
   abbrev pub commandOf : Command
   commandOf = decodedAt (j .image) (offsetOf j (threadAt s t))
 
-  abbrev pub ownOf : Own
-  ownOf = viewOf (slotOf (s .store .words) (threadAt s t .origin .base)) (isPending (threadAt s t .family .pending)) (threadAt s t .family .window)
+  abbrev pub contextAt : Context
+  contextAt = contextOf (slotOf (s .store .words) (threadAt s t .origin .base)) (isPending (threadAt s t .family .pending)) (threadAt s t .family .window)
 
   -- a condition of it
-  abbrev pub Next : ((ℕ → ℕ) → Own → Command → Type 0) → Type 0
-  Next condition = condition (argumentsOf (j .image)) ownOf commandOf
+  abbrev pub Next : ((ℕ → ℕ) → Context → Command → Type 0) → Type 0
+  Next condition = condition (argumentsOf (j .image)) contextAt commandOf

@@ -3,7 +3,7 @@
 -- before it is met.
 use mathlib.Core.Bool.{true, false}
 use mathlib.Core.List.{[]}
-use mathlib.Core.Logic.{_⊎_}
+use mathlib.Core.Logic.{_⊎_, _↔_}
 use mathlib.Core.Path.{_≡_}
 use Prim.Native.Nat.{ℕ, _+_, _-_, _/_, _%_, _<_, _≤_}
 use Rattle.image.specs.Layout.{slotsOf}
@@ -17,10 +17,6 @@ use Rattle.rules.specs.Statuses.{IsSuspended, IsLent}
 use Rattle.rules.specs.Turn.{turnAt, byteOf, effectAt, waits}
 use Rattle.rules.specs.Rules.{stepOf, takeOf, stealOf, enableOf}
 use Rattle.soundness.specs.Faults.{Condition9, Condition10, Condition11, Condition12, Next}
-
--- each where the other
-abbrev pub Exactly : Type 0 → Type 0 → Type 0
-Exactly a b = (a → b) × (b → a)
 
 -- thread t on core c carries out its next command
 pub record Stepped (j : Job) (s : State) (c t : ℕ) : Type 0 where
@@ -75,37 +71,37 @@ FewStacklets j s c =
 -- a step of core c
 pub record StepNumbers (j : Job) (s : State) (c : ℕ) : Type 0 where
   -- "19 machine over"
-  pub number19 : Exactly (stepOf j s c .log ≡ 19) (isOver (s .outcome) ≡ true)
+  pub number19 : (stepOf j s c .log ≡ 19) ↔ (isOver (s .outcome) ≡ true)
   -- "14 core not below the count"
-  pub number14 : Exactly (stepOf j s c .log ≡ 14) ((s .outcome ≡ going) × (s .count ≤ c))
+  pub number14 : (stepOf j s c .log ≡ 14) ↔ ((s .outcome ≡ going) × (s .count ≤ c))
   -- "15 step of an idle core"
-  pub number15 : Exactly (stepOf j s c .log ≡ 15) ((s .outcome ≡ going) × (c < s .count) × (none ≤ onCore s c))
+  pub number15 : (stepOf j s c .log ≡ 15) ↔ ((s .outcome ≡ going) × (c < s .count) × (none ≤ onCore s c))
   -- "22: units plus the command's weight pass the allowance"
-  pub number22 : Exactly (stepOf j s c .log ≡ 22) (Dear j s c (onCore s c))
+  pub number22 : (stepOf j s c .log ≡ 22) ↔ (Dear j s c (onCore s c))
   -- "12: return with pending slots"
-  pub number12 : Exactly (stepOf j s c .log ≡ 12) (Stepped j s c (onCore s c) × Next j s (onCore s c) Condition12)
+  pub number12 : (stepOf j s c .log ≡ 12) ↔ (Stepped j s c (onCore s c) × Next j s (onCore s c) Condition12)
   -- "9: a pending slot read or written (a fork writes its d)"
-  pub number9 : Exactly (stepOf j s c .log ≡ 9) (Stepped j s c (onCore s c) × Next j s (onCore s c) Condition9)
+  pub number9 : (stepOf j s c .log ≡ 9) ↔ (Stepped j s c (onCore s c) × Next j s (onCore s c) Condition9)
   -- "10: address not allowed"
-  pub number10 : Exactly (stepOf j s c .log ≡ 10) (Stepped j s c (onCore s c) × Next j s (onCore s c) Condition10)
+  pub number10 : (stepOf j s c .log ≡ 10) ↔ (Stepped j s c (onCore s c) × Next j s (onCore s c) Condition10)
   -- "11: cut out of range"
-  pub number11 : Exactly (stepOf j s c .log ≡ 11) (Stepped j s c (onCore s c) × Next j s (onCore s c) Condition11)
+  pub number11 : (stepOf j s c .log ≡ 11) ↔ (Stepped j s c (onCore s c) × Next j s (onCore s c) Condition11)
   -- "20: no free thread number"
-  pub number20 : Exactly (stepOf j s c .log ≡ 20) (FewThreads j s c)
+  pub number20 : (stepOf j s c .log ≡ 20) ↔ (FewThreads j s c)
   -- "21: a stacklet is needed and none is free"
-  pub number21 : Exactly (stepOf j s c .log ≡ 21) (FewStacklets j s c)
+  pub number21 : (stepOf j s c .log ≡ 21) ↔ (FewStacklets j s c)
   -- no other number is logged
   pub others : (stepOf j s c .log ≡ 0) ⊎ (((9 ≤ stepOf j s c .log) × (stepOf j s c .log ≤ 12))
       ⊎ (((14 ≤ stepOf j s c .log) × (stepOf j s c .log ≤ 15)) ⊎ ((19 ≤ stepOf j s c .log) × (stepOf j s c .log ≤ 22))))
 
 -- a take by core c
 pub record TakeNumbers (s : State) (c : ℕ) : Type 0 where
-  pub number19 : Exactly (takeOf s c .log ≡ 19) (isOver (s .outcome) ≡ true)
-  pub number14 : Exactly (takeOf s c .log ≡ 14) ((s .outcome ≡ going) × (s .count ≤ c))
+  pub number19 : (takeOf s c .log ≡ 19) ↔ (isOver (s .outcome) ≡ true)
+  pub number14 : (takeOf s c .log ≡ 14) ↔ ((s .outcome ≡ going) × (s .count ≤ c))
   -- "15 .. take or steal for a busy one"
-  pub number15 : Exactly (takeOf s c .log ≡ 15) ((s .outcome ≡ going) × (c < s .count) × (onCore s c < none))
+  pub number15 : (takeOf s c .log ≡ 15) ↔ ((s .outcome ≡ going) × (c < s .count) × (onCore s c < none))
   -- "16 line empty"
-  pub number16 : Exactly (takeOf s c .log ≡ 16) ((s .outcome ≡ going) × (c < s .count) × (none ≤ onCore s c) × (s .queues .ready ≡ []))
+  pub number16 : (takeOf s c .log ≡ 16) ↔ ((s .outcome ≡ going) × (c < s .count) × (none ≤ onCore s c) × (s .queues .ready ≡ []))
   pub others : (takeOf s c .log ≡ 0) ⊎ (((14 ≤ takeOf s c .log) × (takeOf s c .log ≤ 16)) ⊎ (takeOf s c .log ≡ 19))
 
 -- thread t's next command is a seed: it is lent, and the command is an 08 or 09
@@ -136,28 +132,28 @@ SeedForks j s t r = (d : ℕ) × (a : ℕ) × (e : ℕ) × ((effectAt j s (threa
 
 -- a steal of thread t's seed for core c
 pub record StealNumbers (j : Job) (s : State) (c t : ℕ) : Type 0 where
-  pub number19 : Exactly (stealOf j s c t .log ≡ 19) (isOver (s .outcome) ≡ true)
-  pub number14 : Exactly (stealOf j s c t .log ≡ 14) ((s .outcome ≡ going) × (s .count ≤ c))
-  pub number15 : Exactly (stealOf j s c t .log ≡ 15) ((s .outcome ≡ going) × (c < s .count) × (onCore s c < none))
+  pub number19 : (stealOf j s c t .log ≡ 19) ↔ (isOver (s .outcome) ≡ true)
+  pub number14 : (stealOf j s c t .log ≡ 14) ↔ ((s .outcome ≡ going) × (s .count ≤ c))
+  pub number15 : (stealOf j s c t .log ≡ 15) ↔ ((s .outcome ≡ going) × (c < s .count) × (onCore s c < none))
   -- "18 thread above 31, not lent, or its next command not 08 or 09"
-  pub number18 : Exactly (stealOf j s c t .log ≡ 18) ((s .outcome ≡ going) × (c < s .count) × (none ≤ onCore s c) × (¬ (Seed j s t)))
-  pub number22 : Exactly (stealOf j s c t .log ≡ 22) (DearSeed j s c t)
-  pub number12 : Exactly (stealOf j s c t .log ≡ 12) (Seeded j s c t × Next j s t Condition12)
-  pub number9 : Exactly (stealOf j s c t .log ≡ 9) (Seeded j s c t × Next j s t Condition9)
-  pub number10 : Exactly (stealOf j s c t .log ≡ 10) (Seeded j s c t × Next j s t Condition10)
-  pub number11 : Exactly (stealOf j s c t .log ≡ 11) (Seeded j s c t × Next j s t Condition11)
-  pub number20 : Exactly (stealOf j s c t .log ≡ 20) (Seeded j s c t × (r : ℕ) × SeedForks j s t r × (s .queues .freeThreads ≡ []))
+  pub number18 : (stealOf j s c t .log ≡ 18) ↔ ((s .outcome ≡ going) × (c < s .count) × (none ≤ onCore s c) × (¬ (Seed j s t)))
+  pub number22 : (stealOf j s c t .log ≡ 22) ↔ (DearSeed j s c t)
+  pub number12 : (stealOf j s c t .log ≡ 12) ↔ (Seeded j s c t × Next j s t Condition12)
+  pub number9 : (stealOf j s c t .log ≡ 9) ↔ (Seeded j s c t × Next j s t Condition9)
+  pub number10 : (stealOf j s c t .log ≡ 10) ↔ (Seeded j s c t × Next j s t Condition10)
+  pub number11 : (stealOf j s c t .log ≡ 11) ↔ (Seeded j s c t × Next j s t Condition11)
+  pub number20 : (stealOf j s c t .log ≡ 20) ↔ (Seeded j s c t × (r : ℕ) × SeedForks j s t r × (s .queues .freeThreads ≡ []))
   -- a seed's child always needs a free stacklet
-  pub number21 : Exactly (stealOf j s c t .log ≡ 21) (Seeded j s c t × (r : ℕ) × SeedForks j s t r × (¬ (s .queues .freeThreads ≡ [])) ×
+  pub number21 : (stealOf j s c t .log ≡ 21) ↔ (Seeded j s c t × (r : ℕ) × SeedForks j s t r × (¬ (s .queues .freeThreads ≡ [])) ×
       (s .queues .freeStacklets ≡ []))
   pub others : (stealOf j s c t .log ≡ 0) ⊎ (((9 ≤ stealOf j s c t .log) × (stealOf j s c t .log ≤ 12))
       ⊎ (((14 ≤ stealOf j s c t .log) × (stealOf j s c t .log ≤ 15)) ⊎ ((18 ≤ stealOf j s c t .log) × (stealOf j s c t .log ≤ 22))))
 
 -- an enable of thread t
 pub record EnableNumbers (s : State) (t : ℕ) : Type 0 where
-  pub number19 : Exactly (enableOf s t .log ≡ 19) (isOver (s .outcome) ≡ true)
+  pub number19 : (enableOf s t .log ≡ 19) ↔ (isOver (s .outcome) ≡ true)
   -- "17 thread not suspended or above 31"
-  pub number17 : Exactly (enableOf s t .log ≡ 17) ((s .outcome ≡ going) × (¬ ((t < 32) × IsSuspended s t)))
+  pub number17 : (enableOf s t .log ≡ 17) ↔ ((s .outcome ≡ going) × (¬ ((t < 32) × IsSuspended s t)))
   pub others : (enableOf s t .log ≡ 0) ⊎ ((enableOf s t .log ≡ 17) ⊎ (enableOf s t .log ≡ 19))
 
 -- every entry that can meet this state

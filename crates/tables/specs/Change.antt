@@ -9,7 +9,7 @@ use Rattle.thread.specs.Thread.{movedTo}
 use Rattle.rules.specs.State.{State, Outcome, going, finished, faulted, threadAt}
 use Rattle.rules.specs.Update.{setThread, setTops}
 use Rattle.tables.specs.declared.Standing.{Standing}
-use Rattle.tables.specs.declared.Standing.the-variants.{Open, Finished, Faulted}
+use Rattle.tables.specs.declared.Standing.the-variants.{Going, Over, Failed}
 use Rattle.tables.specs.Meaning.{size, meaning}
 
 -- r is this part of what the tables mean, whatever words the machine is lent; of tables of another size it is `none`
@@ -65,6 +65,6 @@ charges w s = setUnits ((s .units + w) % 2 ^ 32) s
 
 -- how the machine stands, as the code tells it
 abbrev pub outcomeBy : Standing → Outcome
-outcomeBy Open = going
-outcomeBy (Finished v) = finished v
-outcomeBy (Faulted n t o) = faulted n t o
+outcomeBy Going = going
+outcomeBy (Over v) = finished v
+outcomeBy (Failed n t o) = faulted n t o

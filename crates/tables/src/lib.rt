@@ -13,7 +13,7 @@ pub const SIZE: usize = 712;
 
 // How the machine stands.
 pub enum Standing {
-    Open,
-    Finished(u32),
-    Faulted(u8, u8, u16),
+    Going,
+    Over(u32),
+    Failed(u8, u8, u16),
 }

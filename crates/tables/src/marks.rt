@@ -122,15 +122,15 @@ pub fn standing(tables: &[u8]) -> Standing
     ensures { λ r. ⌜ Reads (now (tables .entry)) (outcomeBy r) (λ s. s .outcome) going ⌝ }
 {
     if tables.len() != SIZE {
-        return Standing::Open;
+        return Standing::Going;
     }
     if tables[OVER] == 0 {
-        return Standing::Open;
+        return Standing::Going;
     }
     if tables[OVER] == 1 {
-        return Standing::Finished(four_at(tables, RESULT));
+        return Standing::Over(four_at(tables, RESULT));
     }
-    Standing::Faulted(
+    Standing::Failed(
         tables[FAULT],
         tables[FAULT_THREAD],
         two_at(tables, FAULT_OFFSET),

@@ -11,7 +11,7 @@ use Rattle.command.specs.declared.Command.the-variants.{Set, Add, Subtract, Loa
 use Rattle.command.proofs.Bools.{neither}
 use Rattle.thread.specs.declared.Effect.{Effect}
 use Rattle.thread.specs.declared.Effect.the-variants.{Faults, Sets, Loads, Stores, Goes, Continues, Lforks, Forks, Joins, Suspends, Yields, Returns}
-use Rattle.thread.specs.Effect.{Own, run, anyPending, unlessPending, provided, sum, difference, forking, effectOf}
+use Rattle.thread.specs.Effect.{Context, run, anyPending, unlessPending, provided, sum, difference, forking, effectOf}
 use Rattle.thread.proofs.Routines.{InRange}
 
 -- none of these slots is pending
@@ -34,13 +34,13 @@ pub first-clear : (p : ℕ → Bool) (n : ℕ) → AllClear p (run 0 n) → (k :
 first-clear p n h k l = ap p (omega arith) ∙ run-clear p 0 n h k l
 
 -- what a fork has tested
-pub record ForkFacts (arguments : ℕ → ℕ) (own : Own) (r d a e : ℕ) : Type 0 where
+pub record ForkFacts (arguments : ℕ → ℕ) (own : Context) (r d a e : ℕ) : Type 0 where
   pub in-range : d < 16
   pub fresh : own .pending d ≡ false
   pub clear : (k : ℕ) → k < arguments r → own .pending (a + k) ≡ false
   pub allowed : own .mayCut e ≡ true
 
-module _ (arguments : ℕ → ℕ) (own : Own) where
+module _ (arguments : ℕ → ℕ) (own : Context) where
   -- what has been tested where a command has this effect
   abbrev pub Facts : Effect → Type 0
   Facts (Faults n) = Unit {0}
@@ -114,7 +114,7 @@ module _ (arguments : ℕ → ℕ) (own : Own) where
   guarded (Return a) i = guarded-unless _ _ _ (λ none. guarded-return _ (λ k l. first-clear (own .pending) 16 none k l))
 
   -- the same with pending slots showing zero
-  abbrev pub hidden : Own
+  abbrev pub hidden : Context
   hidden = record {
     slot = λ k. cond (own .pending k) 0 (own .slot k);
     pending = own .pending;

@@ -10,7 +10,7 @@ use Rattle.forkjoin.proofs.Rights.{Within}
 use Rattle.forkjoin.proofs.ScheduleIndependence.{Job}
 use Rattle.window.specs.declared.Window.{Window}
 use Rattle.window.specs.declared.Cut.{Cut}
-use Rattle.window.specs.declared.Cut.the-variants.{Parts, OutOfRange}
+use Rattle.window.specs.declared.Cut.the-variants.{Parts, BadCut}
 use Rattle.window.specs.Rights.{mayLoad, mayStore, cutAt, rejoined, rootWindow}
 use Rattle.window.proofs.Laws.{load-parameter, load-memory, root-fits}
 use Rattle.window.proofs.Instance.{rights, partsOf, right-yes, right-no, windows}
@@ -28,11 +28,11 @@ load-refused w a h = go (decLt a 32)
 
 pub cut-found : (c : Cut) → isCut c ≡ true → (child : Window) × (rest : Window) × (partsOf c ≡ some (child, rest))
 cut-found (Parts child rest) h = (child, rest, refl)
-cut-found OutOfRange h = absurd (true≢false (sym h))
+cut-found BadCut h = absurd (true≢false (sym h))
 
 pub cut-missed : (c : Cut) → isCut c ≡ false → partsOf c ≡ none
 cut-missed (Parts child rest) h = absurd (true≢false h)
-cut-missed OutOfRange h = refl
+cut-missed BadCut h = refl
 
 abbrev pub window-tests : WindowTests windows
 window-tests = record {

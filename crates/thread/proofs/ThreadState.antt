@@ -12,7 +12,7 @@ use Rattle.forkjoin.proofs.Windows.{Windows}
 use Rattle.command.specs.declared.Command.{Command}
 use Rattle.thread.specs.declared.Effect.{Effect}
 use Rattle.thread.specs.declared.Effect.the-variants.{Faults, Sets, Loads, Stores, Goes, Continues, Lforks, Forks, Joins, Suspends, Yields, Returns}
-use Rattle.thread.specs.Effect.{Own, effectOf}
+use Rattle.thread.specs.Effect.{Context, effectOf}
 use Rattle.thread.proofs.Routines.{Code}
 
 -- tests of a window that say what its rights are; addresses below 32 are parameter words, to which windows give no right
@@ -142,7 +142,7 @@ module _ (𝓦 : Windows) (tests : WindowTests 𝓦) where
   open Windows 𝓦 using (W)
 
   -- what the thread's command may look at
-  abbrev pub view : ThreadState W → Own
+  abbrev pub view : ThreadState W → Context
   view l = record {
     slot = l .slots;
     pending = l .pending;

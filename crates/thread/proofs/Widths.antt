@@ -8,10 +8,10 @@ use lib.Dec.{eqb}
 use lib.ListN.{length, getD}
 use Rattle.command.specs.declared.Command.{Command}
 use Rattle.command.specs.declared.Command.the-variants.{Set, Add, Subtract, Load, Store, JumpIfZero, Jump, Lfork, Fork, Join, Suspend, Yield, Return}
-use Rattle.command.specs.Command.{bytesOf, decoded, decodedAt, widthOf}
+use Rattle.command.specs.Command.{bytesOfCommand, decoded, decodedAt, widthOf}
 use Rattle.thread.specs.declared.Effect.{Effect}
 use Rattle.thread.specs.declared.Effect.the-variants.{Faults, Sets, Loads, Stores, Goes, Continues, Lforks, Forks, Joins, Suspends, Yields, Returns}
-use Rattle.thread.specs.Effect.{Own, anyPending, unlessPending, provided, forking, effectOf, bytesBy}
+use Rattle.thread.specs.Effect.{Context, anyPending, unlessPending, provided, forking, effectOf, bytesBy}
 
 -- a command of n bytes can have the effect
 abbrev pub Wide : ℕ → Effect → Type 0
@@ -49,13 +49,13 @@ wide-choice : {n : ℕ} (t : Bool) (x y : Effect) → Widened n x → Widened n 
 wide-choice true x y f g = f
 wide-choice false x y f g = g
 
-wide-fork : {n : ℕ} (arguments : ℕ → ℕ) (own : Own) (r d a k : ℕ) (e : Effect) → Widened n e → Widened n (forking arguments own r d a k e)
+wide-fork : {n : ℕ} (arguments : ℕ → ℕ) (own : Context) (r d a k : ℕ) (e : Effect) → Widened n e → Widened n (forking arguments own r d a k e)
 unfolding forking
 wide-fork arguments own r d a k e f = wide-unless _ _ _ _ (wide-provided _ _ _ f)
 
 -- by the command
-pub wide : (arguments : ℕ → ℕ) (own : Own) (c : Command) → Widened (length (bytesOf c)) (effectOf arguments own c)
-unfolding effectOf bytesOf
+pub wide : (arguments : ℕ → ℕ) (own : Context) (c : Command) → Widened (length (bytesOfCommand c)) (effectOf arguments own c)
+unfolding effectOf bytesOfCommand
 wide arguments own (Set d v) = wide-unless _ _ _ _ (record { is = refl })
 wide arguments own (Add d x y) = wide-unless _ _ _ _ (record { is = refl })
 wide arguments own (Subtract d x y) = wide-unless _ _ _ _ (record { is = refl })
@@ -87,8 +87,8 @@ bytes-below p n top Yields k h = let q = k .is in omega arith
 bytes-below p n top (Returns v) k h = omega arith
 
 -- a decoded command has as many bytes as its first byte tells
-decoded-length : (x y z w byte : ℕ) → 1 ≤ widthOf byte → length (bytesOf (decoded byte x y z w)) ≡ widthOf byte
-unfolding bytesOf decoded
+decoded-length : (x y z w byte : ℕ) → 1 ≤ widthOf byte → length (bytesOfCommand (decoded byte x y z w)) ≡ widthOf byte
+unfolding bytesOfCommand decoded
 decoded-length x y z w zero h = absurd (omega arith)
 decoded-length x y z w (suc zero) h = refl
 decoded-length x y z w (suc (suc zero)) h = refl
@@ -106,6 +106,6 @@ decoded-length x y z w (suc (suc (suc (suc (suc (suc (suc (suc (suc (suc (suc (s
 decoded-length x y z w (suc (suc (suc (suc (suc (suc (suc (suc (suc (suc (suc (suc (suc (suc k)))))))))))))) h = absurd (omega arith)
 
 -- so its effect tells that number
-pub decoded-wide : (arguments : ℕ → ℕ) (own : Own) (s : List ℕ) (at : ℕ) → 1 ≤ widthOf (getD s at 0)
+pub decoded-wide : (arguments : ℕ → ℕ) (own : Context) (s : List ℕ) (at : ℕ) → 1 ≤ widthOf (getD s at 0)
     → Widened (widthOf (getD s at 0)) (effectOf arguments own (decodedAt s at))
 decoded-wide arguments own s at h = rw (← decoded-length (getD s (at + 1) 0) (getD s (at + 2) 0) (getD s (at + 3) 0) (getD s (at + 4) 0) (getD s at 0) h) (wide arguments own (decodedAt s at))

@@ -1,6 +1,6 @@
 -- What a command does to its own thread, as document 01's table of commands and its tests 12, 9, 10 and 11 say: the one definition
 -- that the machine's step, the steal and the serial run use.
-use mathlib.Core.Bool.{Bool, true, false, cond, _||_}
+use mathlib.Core.Bool.{Bool, false, cond, _||_}
 use mathlib.Core.List.{List, [], _∷_}
 use Prim.Native.Nat.{ℕ, zero, suc, _+_, _-_, _%_, _^_}
 use lib.Dec.{eqb}
@@ -10,7 +10,7 @@ use Rattle.thread.specs.declared.Effect.{Effect}
 use Rattle.thread.specs.declared.Effect.the-variants.{Faults, Sets, Loads, Stores, Goes, Continues, Lforks, Forks, Joins, Suspends, Yields, Returns}
 
 -- what a thread's command may look at: its slots' words, which slots are pending, and what its window allows
-pub record Own : Type 0 where
+pub record Context : Type 0 where
   pub slot : ℕ → ℕ
   pub pending : ℕ → Bool
   pub mayLoad : ℕ → Bool
@@ -43,7 +43,7 @@ abbrev pub difference : ℕ → ℕ → ℕ
 difference x y = (x + (2 ^ 32 - y)) % 2 ^ 32
 
 -- `arguments` gives each routine's number of arguments
-module _ (arguments : ℕ → ℕ) (own : Own) where
+module _ (arguments : ℕ → ℕ) (own : Context) where
   -- "a fork writes its d"; it reads its cut's slot and its arguments' slots; "11: cut out of range"
   unfoldable pub forking : ℕ → ℕ → ℕ → ℕ → Effect → Effect
   forking r d a w e =

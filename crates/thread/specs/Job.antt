@@ -8,7 +8,7 @@ use lib.ListN.{getD, length}
 use Rattle.command.specs.Command.{widthOf}
 use Rattle.command.specs.Weight.{standardWeights, weightOf}
 use Rattle.image.specs.declared.Verdict.the-variants.{Accepted}
-use Rattle.image.specs.Layout.{countOf, startOf}
+use Rattle.image.specs.Layout.{routineCount, startOf}
 use Rattle.image.specs.Image.{imageVerdict}
 
 -- the image, where its routines' codes start, the parameter words, the allowance and the weights
@@ -46,6 +46,6 @@ wordAt j memory a = wordIn (j .parameters) memory a
 pub record GoodJob (j : Job) : Type 0 where
   pub image : imageVerdict (j .image) ≡ Accepted
   pub bytes : (i : ℕ) → getD (j .image) i 0 < 256
-  pub starts : (r : ℕ) → r < countOf (j .image) → getD (j .starts) r 0 ≡ startOf (j .image) r
+  pub starts : (r : ℕ) → r < routineCount (j .image) → getD (j .starts) r 0 ≡ startOf (j .image) r
   pub parameters : length (j .parameters) ≡ 32
   pub weighs : (byte : ℕ) → 1 ≤ widthOf byte → 1 ≤ weightOf (j .weights) byte

@@ -8,7 +8,7 @@ use borrow.Author.Tests.{le-ltb}
 use lib.Dec.{eqb}
 use lib.ListN.{length, replicate, length-replicate}
 use Rattle.image.specs.declared.Verdict.{Verdict}
-use Rattle.image.specs.declared.Verdict.the-variants.{Accepted, Refused}
+use Rattle.image.specs.declared.Verdict.the-variants.{Accepted, Rejected}
 use Rattle.image.specs.declared.Refusal.the-variants.{BadLength, BadCount, BadRow, UnknownByte, OperandsCutOff, OutOfRange, BadEnd, BadTarget}
 use Rattle.image.specs.Image.{imageVerdict, numberIn}
 use Rattle.schedule.specs.Meaning.{scheduleOf, numberOfSchedule}
@@ -19,14 +19,14 @@ use Rattle.transcript.specs.Transcript.{numberOfRun}
 
 first-eight : (v : Verdict) → numberIn v ≤ 8
 first-eight Accepted = omega arith
-first-eight (Refused BadLength) = omega arith
-first-eight (Refused BadCount) = omega arith
-first-eight (Refused BadRow) = omega arith
-first-eight (Refused UnknownByte) = omega arith
-first-eight (Refused OperandsCutOff) = omega arith
-first-eight (Refused OutOfRange) = omega arith
-first-eight (Refused BadEnd) = omega arith
-first-eight (Refused BadTarget) = omega arith
+first-eight (Rejected BadLength) = omega arith
+first-eight (Rejected BadCount) = omega arith
+first-eight (Rejected BadRow) = omega arith
+first-eight (Rejected UnknownByte) = omega arith
+first-eight (Rejected OperandsCutOff) = omega arith
+first-eight (Rejected OutOfRange) = omega arith
+first-eight (Rejected BadEnd) = omega arith
+first-eight (Rejected BadTarget) = omega arith
 
 -- the whole run's tests, the last one not met
 tests : (n : ℕ) → n ≤ 8 → (a b c d : Bool) → cond a 23 (cond b n (cond c 24 (cond d 13 0))) ≡ 25 → ⊥

@@ -10,7 +10,7 @@ use lib.Dec.{eqb}
 use lib.ListN.{length, take, drop, replicate, length-append, length-replicate, length-take}
 use lib.Seq.{take-all, take-at}
 use Rattle.schedule.proofs.Standing.{two-bytes}
-use Rattle.schedule.specs.Meaning.{Schedule, entries, malformed, scheduleOf, countOf, Counts}
+use Rattle.schedule.specs.Meaning.{Schedule, entries, malformed, scheduleOf, countedOf, Counts}
 use Rattle.schedule.specs.declared.Entry.{Entry}
 use Rattle.schedule.specs.declared.Counted.{Counted}
 use Rattle.schedule.specs.declared.Counted.the-variants.{Entries, Malformed}
@@ -62,11 +62,11 @@ pub enough-log : (answer : RunAnswer) (s : List ℕ) (n : ℕ) → n ≡ linesOf
 enough-log answer s n h before after l k = omega (arith, most-lines answer s n h)
 
 -- what the count of a schedule's entries says
-count-is : (x : Schedule) (n : ℕ) → Entries n ≡ countOf x → n ≡ entryCount x
+count-is : (x : Schedule) (n : ℕ) → Entries n ≡ countedOf x → n ≡ entryCount x
 count-is (entries es) n h = cc
 count-is malformed n h = let z : _≡_ {A = ℕ} 0 1 = cc in absurd (omega arith)
 
-no-count : (x : Schedule) → Malformed ≡ countOf x → 0 ≡ entryCount x
+no-count : (x : Schedule) → Malformed ≡ countedOf x → 0 ≡ entryCount x
 no-count (entries es) h = let z : _≡_ {A = ℕ} 0 1 = cc in absurd (omega arith)
 no-count malformed h = refl
 

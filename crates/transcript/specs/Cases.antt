@@ -1,12 +1,14 @@
 -- Inputs of the print program, and all that it prints of them: document 01's starred case "Whole", and how an input can end.
 use mathlib.Core.List.{List, [], _∷_, _++_}
+use mathlib.Core.Path.{_≡_}
 use Prim.Native.Nat.{ℕ}
 use Rattle.image.specs.Cases.{oneRoutine, whole}
 use Rattle.demands.specs.Cases.{wholeSchedule}
 use Rattle.text.specs.Text.{ascii}
+use Rattle.transcript.specs.Transcript.{textOf}
 
 -- a row of the table
-pub record Case : Type 0 where
+pub record PrintedCase : Type 0 where
   pub input : List ℕ
   pub text : List ℕ
 
@@ -14,7 +16,7 @@ pub record Case : Type 0 where
 abbrev pub returning : List ℕ
 returning = (0x01 ∷ 0x00 ∷ 0x64 ∷ 0x00 ∷ 0x00 ∷ 0x00 ∷ 0x07 ∷ 0x00 ∷ []) ++ oneRoutine (0x0D ∷ 0x00 ∷ [])
 
-abbrev pub printed : List Case
+abbrev pub printed : List PrintedCase
 printed =
     -- "Whole": "2 cores, no arguments, allowance 100", an image of 36 bytes
     record {
@@ -35,3 +37,8 @@ printed =
     -- "Schedule byte 05: 13"
     ∷ record { input = returning ++ (0x01 ∷ 0x00 ∷ 0x05 ∷ 0x00 ∷ []); text = ascii "refused 13\n" }
     ∷ []
+
+-- each row's input is printed as its text
+abbrev pub TextsHold : List PrintedCase → Type 0
+TextsHold [] = Unit {0}
+TextsHold (c ∷ cs) = (textOf (c .input) ≡ c .text) × TextsHold cs

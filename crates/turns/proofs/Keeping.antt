@@ -11,13 +11,13 @@ use lib.Seq.{take-at, drop-at, drop-drop, length-take-le}
 use Rattle.schedule.specs.declared.Entry.{Entry}
 use Rattle.schedule.specs.declared.Entry.the-variants.{Step, Take, Steal, Enable}
 use Rattle.schedule.specs.declared.Written.the-variants.{Bytes, NoRoom}
-use Rattle.schedule.specs.Format.{bytesOf, bytesOfEntries}
+use Rattle.schedule.specs.Format.{bytesOfEntry, bytesOfEntries}
 use Rattle.schedule.specs.Writing.{placed, writtenOf, Writes}
 use Rattle.rounds.specs.Rounds.{isWritten}
 use Rattle.turns.specs.Steps.{lastKept, kept, Puts, Keeps}
 
 -- "when .. fewer than 3 bytes are left": an entry has 2 or 3
-pub short : (e : Entry) → (2 ≤ length (bytesOf e)) × (length (bytesOf e) ≤ 3)
+pub short : (e : Entry) → (2 ≤ length (bytesOfEntry e)) × (length (bytesOfEntry e) ≤ 3)
 short (Step c) = (omega arith, omega arith)
 short (Take c) = (omega arith, omega arith)
 short (Steal c t) = (omega arith, omega arith)
@@ -27,34 +27,34 @@ short (Enable t) = (omega arith, omega arith)
 pub bytes-append : (es ds : List Entry) → bytesOfEntries (es ++ ds) ≡ bytesOfEntries es ++ bytesOfEntries ds
 unfolding bytesOfEntries
 bytes-append [] ds = refl
-bytes-append (e ∷ es) ds = ap (λ (l : List ℕ). bytesOf e ++ l) (bytes-append es ds) ∙ sym (append-assoc (bytesOf e) (bytesOfEntries es) (bytesOfEntries ds))
+bytes-append (e ∷ es) ds = ap (λ (l : List ℕ). bytesOfEntry e ++ l) (bytes-append es ds) ∙ sym (append-assoc (bytesOfEntry e) (bytesOfEntries es) (bytesOfEntries ds))
 
 pub many-append : (es ds : List Entry) → length (bytesOfEntries (es ++ ds)) ≡ length (bytesOfEntries es) + length (bytesOfEntries ds)
 many-append es ds = ap length (bytes-append es ds) ∙ length-append (bytesOfEntries es) (bytesOfEntries ds)
 
 -- of one entry again and again
 module _ (e : Entry) where
-  pub row-more : (n : ℕ) → bytesOfEntries (replicate n e) ++ bytesOf e ≡ bytesOfEntries (replicate (suc n) e)
+  pub row-more : (n : ℕ) → bytesOfEntries (replicate n e) ++ bytesOfEntry e ≡ bytesOfEntries (replicate (suc n) e)
   unfolding bytesOfEntries
-  row-more zero = sym (append-nil (bytesOf e))
-  row-more (suc n) = append-assoc (bytesOf e) (bytesOfEntries (replicate n e)) (bytesOf e) ∙ ap (λ (l : List ℕ). bytesOf e ++ l) (row-more n)
+  row-more zero = sym (append-nil (bytesOfEntry e))
+  row-more (suc n) = append-assoc (bytesOfEntry e) (bytesOfEntries (replicate n e)) (bytesOfEntry e) ∙ ap (λ (l : List ℕ). bytesOfEntry e ++ l) (row-more n)
 
-  pub row-fits : (i n : ℕ) → i < n → length (bytesOfEntries (replicate i e)) + length (bytesOf e) ≤ length (bytesOfEntries (replicate n e))
+  pub row-fits : (i n : ℕ) → i < n → length (bytesOfEntries (replicate i e)) + length (bytesOfEntry e) ≤ length (bytesOfEntries (replicate n e))
   unfolding bytesOfEntries
   row-fits i zero l = absurd (omega (arith, l))
-  row-fits zero (suc n) l = omega (arith, length-append (bytesOf e) (bytesOfEntries (replicate n e)))
+  row-fits zero (suc n) l = omega (arith, length-append (bytesOfEntry e) (bytesOfEntries (replicate n e)))
   row-fits (suc i) (suc n) l =
-      omega (arith, row-fits i n (omega (arith, l)), length-append (bytesOf e) (bytesOfEntries (replicate i e)), length-append (bytesOf e) (bytesOfEntries (replicate n e)))
+      omega (arith, row-fits i n (omega (arith, l)), length-append (bytesOfEntry e) (bytesOfEntries (replicate i e)), length-append (bytesOfEntry e) (bytesOfEntries (replicate n e)))
 
-  pub row-many : (n : ℕ) → length (bytesOf e) ≡ 2 → length (bytesOfEntries (replicate n e)) ≡ 2 * n
+  pub row-many : (n : ℕ) → length (bytesOfEntry e) ≡ 2 → length (bytesOfEntries (replicate n e)) ≡ 2 * n
   unfolding bytesOfEntries
   row-many zero two = refl
-  row-many (suc n) two = length-append (bytesOf e) (bytesOfEntries (replicate n e)) ∙ omega (arith, two, row-many n two)
+  row-many (suc n) two = length-append (bytesOfEntry e) (bytesOfEntries (replicate n e)) ∙ omega (arith, two, row-many n two)
 
   -- the last one
-  pub last-bytes : (log : ℕ) → isWritten log ≡ true → bytesOfEntries (lastKept e log) ≡ bytesOf e
+  pub last-bytes : (log : ℕ) → isWritten log ≡ true → bytesOfEntries (lastKept e log) ≡ bytesOfEntry e
   unfolding bytesOfEntries
-  last-bytes log h = rw h (append-nil (bytesOf e))
+  last-bytes log h = rw h (append-nil (bytesOfEntry e))
 
   pub last-none : (log : ℕ) → isWritten log ≡ false → bytesOfEntries (lastKept e log) ≡ []
   unfolding bytesOfEntries
@@ -91,24 +91,24 @@ puts-more xs ys b b' b'' at p q low h k =
     }
 
 -- one entry where it fits
-module _ (e : Entry) (b : List ℕ) (at : ℕ) (room : at + length (bytesOf e) ≤ length b) where
-  pub puts : (n : ℕ) (after : List ℕ) → Writes (bytesOf e) b at (Bytes n) after → Puts (bytesOf e) b at (at + n) after
+module _ (e : Entry) (b : List ℕ) (at : ℕ) (room : at + length (bytesOfEntry e) ≤ length b) where
+  pub puts : (n : ℕ) (after : List ℕ) → Writes (bytesOfEntry e) b at (Bytes n) after → Puts (bytesOfEntry e) b at (at + n) after
   unfolding placed writtenOf
   puts n after w =
-      let f : Bytes n ≡ Bytes (length (bytesOf e)) = w .answer ∙ rw (le-leb _ _ room) in
-      let m : n ≡ length (bytesOf e) = cc in
+      let f : Bytes n ≡ Bytes (length (bytesOfEntry e)) = w .answer ∙ rw (le-leb _ _ room) in
+      let m : n ≡ length (bytesOfEntry e) = cc in
       record {
         position = rw m;
         buffer = w .buffer ∙ rw (le-leb _ _ room, append-assoc);
       }
 
-  pub few : (n : ℕ) (after : List ℕ) → Writes (bytesOf e) b at (Bytes n) after → at + n ≤ length b
+  pub few : (n : ℕ) (after : List ℕ) → Writes (bytesOfEntry e) b at (Bytes n) after → at + n ≤ length b
   few n after w = omega (arith, room, puts n after w .position)
 
-  pub has-room : (after : List ℕ) → Writes (bytesOf e) b at NoRoom after → ⊥
+  pub has-room : (after : List ℕ) → Writes (bytesOfEntry e) b at NoRoom after → ⊥
   unfolding writtenOf
   has-room after w =
-      let f : NoRoom ≡ Bytes (length (bytesOf e)) = w .answer ∙ rw (le-leb _ _ room) in
+      let f : NoRoom ≡ Bytes (length (bytesOfEntry e)) = w .answer ∙ rw (le-leb _ _ room) in
       let z : _≡_ {A = ℕ} 0 1 = cc in
       omega arith
 
@@ -134,18 +134,18 @@ module _ (e : Entry) (again log : ℕ) (b : List ℕ) (at : ℕ) (room : at + le
   module _ (p : ℕ) (b' : List ℕ) (same : length b' ≡ length b) where
     -- i of them are
     module _ (i : ℕ) (h : Puts (bytesOfEntries (replicate i e)) b at p b') where
-      pub next-fits : i < again → p + length (bytesOf e) ≤ length b'
+      pub next-fits : i < again → p + length (bytesOfEntry e) ≤ length b'
       next-fits l = omega (arith, same, all-fit, h .position, row-fits e i again l)
 
-      pub one-more : (q : ℕ) (b'' : List ℕ) → Puts (bytesOf e) b' p q b'' → Puts (bytesOfEntries (replicate (suc i) e)) b at q b''
+      pub one-more : (q : ℕ) (b'' : List ℕ) → Puts (bytesOfEntry e) b' p q b'' → Puts (bytesOfEntries (replicate (suc i) e)) b at q b''
       one-more q b'' k = subst (λ (l : List ℕ). Puts l b at q b'') (row-more e i) (puts-more _ _ b b' b'' at p q (omega (arith, all-fit)) h k)
 
     -- all of them are
     module _ (h : Puts (bytesOfEntries (replicate again e)) b at p b') where
-      pub last-fits : isWritten log ≡ true → p + length (bytesOf e) ≤ length b'
+      pub last-fits : isWritten log ≡ true → p + length (bytesOfEntry e) ≤ length b'
       last-fits w = omega (arith, same, all-fit, h .position, ap length (last-bytes e log w))
 
-      pub all-kept : isWritten log ≡ true → (q : ℕ) (b'' : List ℕ) → Puts (bytesOf e) b' p q b'' → Keeps e again log b at q b''
+      pub all-kept : isWritten log ≡ true → (q : ℕ) (b'' : List ℕ) → Puts (bytesOfEntry e) b' p q b'' → Keeps e again log b at q b''
       all-kept w q b'' k =
           subst (λ (l : List ℕ). Puts l b at q b'') (ap (λ (l : List ℕ). bytesOfEntries (replicate again e) ++ l) (sym (last-bytes e log w)) ∙ sym (bytes-append (replicate again e) (lastKept e log)))
           (puts-more _ _ b b' b'' at p q (omega (arith, all-fit)) h k)

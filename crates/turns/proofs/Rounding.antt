@@ -11,7 +11,7 @@ use lib.Dec.{eqb, leb}
 use lib.ListN.{length}
 use Rattle.schedule.specs.declared.Entry.{Entry}
 use Rattle.schedule.specs.declared.Entry.the-variants.{Enable}
-use Rattle.schedule.specs.Format.{bytesOf, bytesOfEntries}
+use Rattle.schedule.specs.Format.{bytesOfEntry, bytesOfEntries}
 use Rattle.thread.specs.Thread.{none}
 use Rattle.rules.specs.State.{Job, State, After, isOver}
 use Rattle.rules.specs.Rules.{entryOf}
@@ -19,7 +19,7 @@ use Rattle.rules.specs.Sound.{Sound}
 use Rattle.soundness.proofs.Kept.{entry-sound}
 use Rattle.soundness.proofs.KeepSized.{keep-count}
 use Rattle.search.specs.Search.{choiceOf, lowestSuspended, isNothing}
-use Rattle.rounds.specs.Rounds.{Progress, isWritten, mayTry, recorded, tried, turns, fresh, goesOn, wakened, rounds, usable, beginning, scheduledFrom}
+use Rattle.rounds.specs.Rounds.{Progress, isWritten, mayTry, recorded, tried, turns, fresh, playsOn, wakened, rounds, usable, beginning, scheduledFrom}
 use Rattle.turns.specs.Steps.{lastKept}
 use Rattle.turns.proofs.Keeping.{short, last-bytes, last-few, many-append}
 use Rattle.turns.proofs.Refusing.{refused-stays, nothing-refused}
@@ -65,14 +65,14 @@ module _ (room : ℕ) (s : State) (es : List Entry) (m : Bool) (e : Entry) (a : 
     where
       by : (b : Bool) → isWritten (a .log) ≡ b → recorded e a (standing room s es m) ≡ standing room (a .state) (es ++ lastKept e (a .log)) (m || eqb (a .log) 0)
       by true h =
-          let l : room - many es - length (bytesOf e) ≡ room - many (es ++ lastKept e (a .log)) = omega (arith, many-append es (lastKept e (a .log)), ap length (last-bytes e (a .log) h)) in
+          let l : room - many es - length (bytesOfEntry e) ≡ room - many (es ++ lastKept e (a .log)) = omega (arith, many-append es (lastKept e (a .log)), ap length (last-bytes e (a .log) h)) in
           rw h
           (ap (λ (n : ℕ). record { state = a .state; written = es ++ (e ∷ []); left = n; moved = m || eqb (a .log) 0 }) (rw h at l))
       by false h = rw (h, append-nil es, or-none m (a .log) h, stays h) refl
 
 -- what is left once a round has come to its end: the rounds behind it, n at most
 abbrev onward-from : Job → ℕ → Progress → Progress
-onward-from j n p = cond (goesOn p) (rounds n j (wakened j p)) p
+onward-from j n p = cond (playsOn p) (rounds n j (wakened j p)) p
 
 -- core c is next in a round; all rounds begin with the state `begin` and a buffer of so many bytes
 pub record Rounding (j : Job) (count room : ℕ) (begin : State) (size : ℕ) (s : State) (es : List Entry) (m : Bool) (c : ℕ) : Type 0 where
@@ -107,13 +107,13 @@ false-not : {A : Type 0} → false ≡ true → A
 false-not e = let z : _≡_ {A = ℕ} 0 1 = cc in absurd (omega arith)
 
 -- whether another round follows, and from where
-goes-not : (p : Progress) → p .moved ≡ false → none ≤ lowestSuspended (p .state) → goesOn p ≡ false
+goes-not : (p : Progress) → p .moved ≡ false → none ≤ lowestSuspended (p .state) → playsOn p ≡ false
 goes-not p still l = rw (still, le-ltb _ _ l) (and-false (mayTry p))
 
-goes-moved : (p : Progress) → mayTry p ≡ true → p .moved ≡ true → goesOn p ≡ true
+goes-moved : (p : Progress) → mayTry p ≡ true → p .moved ≡ true → playsOn p ≡ true
 goes-moved p try moved = rw (try, moved)
 
-goes-enabled : (p : Progress) → mayTry p ≡ true → p .moved ≡ false → lowestSuspended (p .state) < none → goesOn p ≡ true
+goes-enabled : (p : Progress) → mayTry p ≡ true → p .moved ≡ false → lowestSuspended (p .state) < none → playsOn p ≡ true
 goes-enabled p try still l = rw (try, still, lt-ltb _ _ l)
 
 from-moved : (j : Job) (p : Progress) → p .moved ≡ true → wakened j p ≡ p
@@ -212,7 +212,7 @@ module _ (j : Job) (count room : ℕ) where
       -- all cores have had their turn
       module _ (last : count ≤ c) where
         -- another round, from a progress that has written more
-        another : (s' : State) (es' : List Entry) (m' : Bool) → goesOn now ≡ true → wakened j now ≡ standing room s' es' m'
+        another : (s' : State) (es' : List Entry) (m' : Bool) → playsOn now ≡ true → wakened j now ≡ standing room s' es' m'
             → Sound j s' → s' .count ≡ count → room - many es' < r .fuel → many es' ≤ room → On s' es' false 0
         another s' es' m' g w ok n less fits = by-fuel (r .fuel) refl
           where
@@ -248,7 +248,7 @@ module _ (j : Job) (count room : ℕ) where
             (omega (arith, r .enough, wrote e (a .log), accepts e (a .log) log, three)) (omega (arith, wrote e (a .log), last-few e (a .log), three))
 
     -- it ends
-    module _ (n : turns (count - c) j c now ≡ now) (h : goesOn now ≡ false) where
+    module _ (n : turns (count - c) j c now ≡ now) (h : playsOn now ≡ false) where
       pub ends : now ≡ scheduledFrom j begin size
       ends = let e : onward-from j (r .fuel) (turns (count - c) j c now) ≡ now = rw (n, h) in sym e ∙ r .rest
 

@@ -9,7 +9,7 @@ use lib.Dec.{eqb, ltb}
 use lib.ListN.{length, getD, replicate}
 use Rattle.schedule.specs.declared.Entry.{Entry}
 use Rattle.schedule.specs.declared.Entry.the-variants.{Step, Take, Steal, Enable}
-use Rattle.schedule.specs.Format.{bytesOf}
+use Rattle.schedule.specs.Format.{bytesOfEntry}
 use Rattle.thread.specs.Thread.{none}
 use Rattle.rules.specs.State.{Job, State, After, Outcome, isOver, isBusy}
 use Rattle.rules.specs.Rules.{entryOf}
@@ -59,7 +59,7 @@ module _ (j : Job) (s : State) (c : ℕ) where
       let k : isBusy s' c ≡ true = ap (λ (l : List ℕ). ltb (getD l c 0) none) same ∙ b .0 in
       b .1 ∙ rw k
 
-step-two : (e : Entry) → isStep e ≡ true → length (bytesOf e) ≡ 2
+step-two : (e : Entry) → isStep e ≡ true → length (bytesOfEntry e) ≡ 2
 step-two (Step c) h = refl
 step-two (Take c) h = false-not h
 step-two (Steal c t) h = false-not h

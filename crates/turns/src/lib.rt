@@ -15,7 +15,7 @@ use tables::marks::is_over;
 ghost use mathlib.Core.Path.{_≡_};
 ghost use Prim.Native.Nat.{_+_, _≤_};
 ghost use lib.ListN.{length};
-ghost use Rattle.schedule.specs.Format.{bytesOf, bytesOfEntries};
+ghost use Rattle.schedule.specs.Format.{bytesOfEntry, bytesOfEntries};
 ghost use Rattle.rules.specs.State.{jobOf};
 ghost use Rattle.tables.specs.Meaning.{meaning};
 ghost use Rattle.entries.specs.Given.{Sounding};
@@ -37,8 +37,8 @@ fn steps_behind(cores: u8, left: usize) -> usize
 
 // Writes an entry; gives the position behind it.
 fn put(entry: Entry, buffer: &mut [u8], at: usize) -> usize
-    requires { ⌜ at + length (bytesOf entry) ≤ length (now buffer) ⌝ }
-    ensures { λ r. ⌜ Puts (bytesOf entry) (now (buffer .entry)) at r (now (buffer .exit)) ⌝ }
+    requires { ⌜ at + length (bytesOfEntry entry) ≤ length (now buffer) ⌝ }
+    ensures { λ r. ⌜ Puts (bytesOfEntry entry) (now (buffer .entry)) at r (now (buffer .exit)) ⌝ }
 {
     let written = schedule::write(entry, buffer, at);
     match written {

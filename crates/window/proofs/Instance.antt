@@ -8,7 +8,7 @@ use Rattle.forkjoin.proofs.Rights.{Rights}
 use Rattle.forkjoin.proofs.Windows.{Windows, Parts}
 use Rattle.window.specs.declared.Window.{Window}
 use Rattle.window.specs.declared.Cut.{Cut}
-use Rattle.window.specs.declared.Cut.the-variants.{Parts as Halves, OutOfRange}
+use Rattle.window.specs.declared.Cut.the-variants.{Parts as Halves, BadCut}
 use Rattle.window.specs.Rights.{mayStore, cutAt, rejoined, Fits}
 use Rattle.window.proofs.Laws.{cut-covers, cut-apart, child-fresh, child-fits, rest-fits, rejoined-fits, rejoined-rest, rejoined-fresh}
 
@@ -23,7 +23,7 @@ rights w a = right (mayStore w a)
 -- a cut as the theory has it
 abbrev pub partsOf : Cut → Option (Window × Window)
 partsOf (Halves child rest) = some (child, rest)
-partsOf OutOfRange = none
+partsOf BadCut = none
 
 -- the theory's test of a right is the window's own test
 pub right-yes : (w : Window) (a : ℕ) → mayStore w a ≡ true → rights w a ≡ 2
@@ -37,7 +37,7 @@ pub parts-cut : (c : Cut) (child rest : Window) → partsOf c ≡ some (child, r
 parts-cut (Halves x y) child rest h =
     let z : _≡_ {A = Window × Window} (x, y) (child, rest) = cc in
     λ ι. Halves (z ι .0) (z ι .1)
-parts-cut OutOfRange child rest h = let z : _≡_ {A = ℕ} 0 1 = cc in absurd (omega arith)
+parts-cut BadCut child rest h = let z : _≡_ {A = ℕ} 0 1 = cc in absurd (omega arith)
 
 -- of two that do not meet, each right lies within what they are together, and they add up to no more than one right to write
 left-within : (x y : Bool) → right x ≤ right (x || y)

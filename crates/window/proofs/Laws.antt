@@ -8,7 +8,7 @@ use native.Mathlib.Omega.{arith}
 use lib.Dec.{ltb, leb}
 use borrow.Author.Tests.{lt-ltb, le-ltb, le-leb, lt-leb}
 use Rattle.window.specs.declared.Window.{Window}
-use Rattle.window.specs.declared.Cut.the-variants.{Parts, OutOfRange}
+use Rattle.window.specs.declared.Cut.the-variants.{Parts, BadCut}
 use Rattle.window.specs.Rights.{rootWindow, mayLoad, mayStore, cutAt, childOf, restOf, rejoined, Fits}
 
 -- whether a window may store, seen with the reason
@@ -70,10 +70,10 @@ pub cut-means : (w : Window) (e : ℕ) (child rest : Window) → cutAt w e ≡ P
 unfolding cutAt
 cut-means w e c r h = go (decLe (w .mark) e) (decLe e (w .hi)) h
   where
-    refused : (x y : Bool) → x && y ≡ false → cond (x && y) (Parts (childOf w e) (restOf w e)) OutOfRange ≡ Parts c r → ⊥
-    refused x y f p = let q : OutOfRange ≡ Parts c r = rw f at p in let z : _≡_ {A = ℕ} 0 1 = cc in omega arith
+    refused : (x y : Bool) → x && y ≡ false → cond (x && y) (Parts (childOf w e) (restOf w e)) BadCut ≡ Parts c r → ⊥
+    refused x y f p = let q : BadCut ≡ Parts c r = rw f at p in let z : _≡_ {A = ℕ} 0 1 = cc in omega arith
 
-    go : Dec (w .mark ≤ e) → Dec (e ≤ w .hi) → cond (leb (w .mark) e && leb e (w .hi)) (Parts (childOf w e) (restOf w e)) OutOfRange ≡ Parts c r → Cutting w e c r
+    go : Dec (w .mark ≤ e) → Dec (e ≤ w .hi) → cond (leb (w .mark) e && leb e (w .hi)) (Parts (childOf w e) (restOf w e)) BadCut ≡ Parts c r → Cutting w e c r
     go (yes x) (yes y) p =
         let q : Parts (childOf w e) (restOf w e) ≡ Parts c r = rw (le-leb _ _ x, le-leb _ _ y) at p in
         record { low = x; high = y; is-child = cc; is-rest = cc }

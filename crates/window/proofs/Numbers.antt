@@ -1,7 +1,7 @@
 -- A window's answers, each number exactly under its condition. Assumes nothing.
 use mathlib.Core.Bool.{Bool, true, false}
-use mathlib.Core.Logic.{_↔_, _⊎_, inl, inr, ⊎-elim}
-use mathlib.Core.Path.{_≡_, refl, sym, ap, subst}
+use mathlib.Core.Logic.{_↔_, _⊎_, inl, inr}
+use mathlib.Core.Path.{_≡_, refl, ap}
 use Prim.Native.Nat.{ℕ, _≤_, _<_}
 use native.Mathlib.Decide.{decLe, decLt}
 use native.Mathlib.Omega.{arith}
@@ -9,7 +9,7 @@ use lib.Dec.{leb}
 use borrow.Author.Tests.{le-leb, lt-leb}
 use Rattle.window.specs.declared.Window.{Window}
 use Rattle.window.specs.declared.Cut.{Cut}
-use Rattle.window.specs.declared.Cut.the-variants.{Parts, OutOfRange}
+use Rattle.window.specs.declared.Cut.the-variants.{Parts, BadCut}
 use Rattle.window.specs.Rights.{mayLoad, mayStore, cutAt, childOf, restOf}
 use Rattle.window.specs.Numbers.{numberOfAccess, numberOfCut, LoadAnswer, StoreAnswer, CutAnswer}
 use Rattle.window.proofs.Laws.{Seen, allowed, parameter, below, above, seen, load-parameter, load-memory}
@@ -55,8 +55,8 @@ module _ (w : Window) (a : ℕ) where
 -- a cut, seen with the reason
 data Cuts (w : Window) (e : ℕ) : Cut → Type 0 where
   made : w .mark ≤ e → e ≤ w .hi → Cuts w e (Parts (childOf w e) (restOf w e))
-  low : e < w .mark → Cuts w e OutOfRange
-  high : w .hi < e → Cuts w e OutOfRange
+  low : e < w .mark → Cuts w e BadCut
+  high : w .hi < e → Cuts w e BadCut
 
 module _ (w : Window) (e : ℕ) where
   cuts : Cuts w e (cutAt w e)

@@ -5,7 +5,7 @@ use mathlib.Core.Path.{_≡_}
 use Prim.Native.Nat.{ℕ, _≤_, _<_}
 use Rattle.window.specs.declared.Window.{Window}
 use Rattle.window.specs.declared.Cut.{Cut}
-use Rattle.window.specs.declared.Cut.the-variants.{Parts, OutOfRange}
+use Rattle.window.specs.declared.Cut.the-variants.{Parts, BadCut}
 use Rattle.window.specs.Rights.{mayLoad, mayStore, cutAt, childOf, restOf}
 
 -- "10: address not allowed": of a load or a store
@@ -16,7 +16,7 @@ numberOfAccess false = 10
 -- "11: cut out of range"
 abbrev pub numberOfCut : Cut → ℕ
 numberOfCut (Parts child rest) = 0
-numberOfCut OutOfRange = 11
+numberOfCut BadCut = 11
 
 -- what `may_load` gives
 pub record LoadAnswer (w : Window) (address : ℕ) (r : Bool) : Type 0 where

@@ -4,7 +4,7 @@ use Prim.Native.Nat.{ℕ, _≤_}
 use lib.Dec.{ltb, leb}
 use Rattle.window.specs.declared.Window.{Window}
 use Rattle.window.specs.declared.Cut.{Cut}
-use Rattle.window.specs.declared.Cut.the-variants.{Parts, OutOfRange}
+use Rattle.window.specs.declared.Cut.the-variants.{Parts, BadCut}
 
 -- "The root's window is 32 to 1,024", its mark at first lo
 abbrev pub rootWindow : Window
@@ -28,7 +28,7 @@ restOf w e = record { lo = w .lo; mark = e; hi = w .hi }
 
 -- "A fork whose cut is e needs mark ≤ e ≤ hi"
 unfoldable pub cutAt : Window → ℕ → Cut
-cutAt w e = cond (leb (w .mark) e && leb e (w .hi)) (Parts (childOf w e) (restOf w e)) OutOfRange
+cutAt w e = cond (leb (w .mark) e && leb e (w .hi)) (Parts (childOf w e) (restOf w e)) BadCut
 
 -- "A join puts the mark back to lo"
 abbrev pub rejoined : Window → Window

@@ -14,7 +14,7 @@ pub struct Window {
 // What a cut gives: the child's window and what is left of the parent's, or nothing.
 pub enum Cut {
     Parts { child: Window, rest: Window },
-    OutOfRange,
+    BadCut,
 }
 
 impl Window {
@@ -57,10 +57,10 @@ impl Window {
         ensures { λ r. ⌜ CutAnswer self e r ⌝ }
     {
         if e < (self.mark as u32) {
-            return Cut::OutOfRange;
+            return Cut::BadCut;
         }
         if (self.hi as u32) < e {
-            return Cut::OutOfRange;
+            return Cut::BadCut;
         }
         let mark = self.mark;
         let end = e as u16;

@@ -3,7 +3,7 @@ use borrow.Author.Needs.{needs}
 use mathlib.Core.List.{[], _∷_}
 use mathlib.Core.Path.{refl}
 use native.Mathlib.Omega.{arith}
-use Rattle.command.specs.Command.{bytesOf}
+use Rattle.command.specs.Command.{bytesOfCommand}
 use Rattle.command.proofs.Encoding.{encodes}
 use Rattle.command.proofs.encode.Statement.{statement}
 use Rattle.command.proofs.encode.Tie as tie
@@ -105,55 +105,55 @@ first-bytes-requires-13 : tie.Need-first-bytes-requires-13
 first-bytes-requires-13 c κs = search needs
 
 returns : tie.Need-returns
-unfolding bytesOf
+unfolding bytesOfCommand
 returns c = encodes (0 ∷ []) (c .before .before .before .before .command .given .1) (c .first-bytes .ensures .0) (rw (c .before .before .low-of .ensures, c .before .high-of .ensures) at (c .first-bytes .ensures .1)) refl (omega arith)
 
 returns-2 : tie.Need-returns-2
-unfolding bytesOf
+unfolding bytesOfCommand
 returns-2 c = encodes (0 ∷ []) (c .before .before .command2 .given .1) (c .first-bytes2 .ensures .0) (c .first-bytes2 .ensures .1) refl tt
 
 returns-3 : tie.Need-returns-3
-unfolding bytesOf
+unfolding bytesOfCommand
 returns-3 c = encodes (0 ∷ []) (c .before .before .command3 .given .1) (c .first-bytes3 .ensures .0) (c .first-bytes3 .ensures .1) refl tt
 
 returns-4 : tie.Need-returns-4
-unfolding bytesOf
+unfolding bytesOfCommand
 returns-4 c = encodes (0 ∷ 0 ∷ []) (c .before .before .command4 .given .1) (c .first-bytes4 .ensures .0) (c .first-bytes4 .ensures .1) refl tt
 
 returns-5 : tie.Need-returns-5
-unfolding bytesOf
+unfolding bytesOfCommand
 returns-5 c = encodes (0 ∷ 0 ∷ []) (c .before .before .command5 .given .1) (c .first-bytes5 .ensures .0) (c .first-bytes5 .ensures .1) refl tt
 
 returns-6 : tie.Need-returns-6
-unfolding bytesOf
+unfolding bytesOfCommand
 returns-6 c = encodes (0 ∷ []) (c .before .before .before .before .command6 .given .1) (c .first-bytes6 .ensures .0) (rw (c .before .before .low-of2 .ensures, c .before .high-of2 .ensures) at (c .first-bytes6 .ensures .1)) refl (omega arith)
 
 returns-7 : tie.Need-returns-7
-unfolding bytesOf
+unfolding bytesOfCommand
 returns-7 c = encodes (0 ∷ 0 ∷ []) (c .before .before .before .before .command7 .given .1) (c .first-bytes7 .ensures .0) (rw (c .before .before .low-of3 .ensures, c .before .high-of3 .ensures) at (c .first-bytes7 .ensures .1)) refl (omega arith)
 
 returns-8 : tie.Need-returns-8
-unfolding bytesOf
+unfolding bytesOfCommand
 returns-8 c = encodes ([]) (c .before .before .command8 .given .1) (c .first-bytes8 .ensures .0) (c .first-bytes8 .ensures .1) refl tt
 
 returns-9 : tie.Need-returns-9
-unfolding bytesOf
+unfolding bytesOfCommand
 returns-9 c = encodes ([]) (c .before .before .command9 .given .1) (c .first-bytes9 .ensures .0) (c .first-bytes9 .ensures .1) refl tt
 
 returns-10 : tie.Need-returns-10
-unfolding bytesOf
+unfolding bytesOfCommand
 returns-10 c = encodes (0 ∷ 0 ∷ 0 ∷ 0 ∷ []) (c .before .enum-told .given .1) (c .first-bytes10 .ensures .0) (c .first-bytes10 .ensures .1) refl tt
 
 returns-11 : tie.Need-returns-11
-unfolding bytesOf
+unfolding bytesOfCommand
 returns-11 c = encodes (0 ∷ 0 ∷ 0 ∷ 0 ∷ []) (c .before .enum-told2 .given .1) (c .first-bytes11 .ensures .0) (c .first-bytes11 .ensures .1) refl tt
 
 returns-12 : tie.Need-returns-12
-unfolding bytesOf
+unfolding bytesOfCommand
 returns-12 c = encodes (0 ∷ 0 ∷ 0 ∷ 0 ∷ []) (c .before .enum-told3 .given .1) (c .first-bytes12 .ensures .0) (c .first-bytes12 .ensures .1) refl tt
 
 returns-13 : tie.Need-returns-13
-unfolding bytesOf
+unfolding bytesOfCommand
 returns-13 c = encodes (0 ∷ 0 ∷ 0 ∷ []) (c .before .before .command10 .given .1) (c .first-bytes13 .ensures .0) (c .first-bytes13 .ensures .1) refl tt
 
 pub encode-spec : {M : Type 1} → statement M

@@ -1,6 +1,6 @@
 -- `start::put_numbers` meets its contract. Assumes nothing.
 use Rattle.tables.proofs.Changes.{then, likewise}
-use Rattle.queue.specs.Contents.{restOf}
+use Rattle.queue.specs.Contents.{tailOf}
 use mathlib.Core.Path.{ap, _∙_}
 use borrow.Author.Needs.{needs}
 use Rattle.start.proofs.put_numbers.Statement.{statement}
@@ -35,8 +35,8 @@ same-length c = search needs
 
 returns : tie.Need-returns
 returns c =
-    let numbers = c .before .before .before .before .before .before .before .before .before .before .before .before .before .before .before .before .before .dequeue .ensures .rest ∙ ap restOf (c .before .before .before .before .before .before .before .before .before .before .before .before .before .before .before .before .before .before .ascending .ensures) in
-    let places = c .before .before .before .before .before .before .before .before .before .before .dequeue2 .ensures .rest ∙ ap restOf (c .before .before .before .before .before .before .before .before .before .before .before .ascending2 .ensures) in
+    let numbers = c .before .before .before .before .before .before .before .before .before .before .before .before .before .before .before .before .before .dequeue .ensures .rest ∙ ap tailOf (c .before .before .before .before .before .before .before .before .before .before .before .before .before .before .before .before .before .before .ascending .ensures) in
+    let places = c .before .before .before .before .before .before .before .before .before .before .dequeue2 .ensures .rest ∙ ap tailOf (c .before .before .before .before .before .before .before .before .before .before .before .ascending2 .ensures) in
     likewise (λ s. rw (numbers, places, c .before .before .before .new .ensures)) (then (then (c .before .before .before .before .before .before .before .before .before .before .before .before .before .before .put-free-threads .ensures) (c .before .before .before .before .before .before .before .put-free-stacklets .ensures)) (c .before .before .put-ready .ensures))
 
 pub put-numbers-spec : {M : Type 1} → statement M

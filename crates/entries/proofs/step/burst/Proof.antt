@@ -2,7 +2,7 @@
 use borrow.Author.Tests.{ltb-true, ltb-false}
 use Rattle.entries.proofs.Bursting.{Made, Stands, Does, begins, stands, does, byte-low, place-fits, guarded, goes-own, ends-full, leaving, ends-short, resting, ends-rest}
 use Rattle.entries.proofs.Meeting.{stored}
-use Rattle.entries.specs.Burst.{Busy, standsAt, shortOf, restOf}
+use Rattle.entries.specs.Burst.{Busy, standsAt, shortOf, restGiven}
 use Rattle.entries.specs.Own.{OwnAs}
 use Rattle.tables.specs.Change.{Becomes}
 use Rattle.dispatch.specs.Orderly.{after}
@@ -484,9 +484,9 @@ returns-3 c =
     subst (λ (ms : List ℕ). Repeats job (meaning (a .tables .now) (a .words .now) (a .memory .now)) (Step (a .c)) (a .more) (c .told3 .result) (meaning zs vs ms)) (sym (told .1))
     (ends-rest busy made at back e is enough (a .more) (c .told3 .result) zs vs (omega arith) (c .told3 .ensures .0)
     (ap (λ (n : ℕ). after n zs vs (loop' .memory)) (c .told3 .ensures .1) ∙ carry-rest' .ensures (a .starts .now) (a .parameters .now) (loop' .memory) (a .allowance)
-    ∙ ap (λ (ws : List ℕ). restOf job (meaning ys ws (loop' .memory)) (turnIn ys (a .c) (a .t) (getD (weights' .result) byte 0) next place) e (must-wait' .result)) (told .0)
-    ∙ ap (λ (w : ℕ). restOf job (meaning ys (loop' .words) (loop' .memory)) (turnIn ys (a .c) (a .t) w next place) e (must-wait' .result)) paid
-    ∙ ap (λ (b : Bool). restOf job (meaning ys (loop' .words) (loop' .memory)) (turnIn ys (a .c) (a .t) (weightOf standardWeights byte) next place) e b) waits))
+    ∙ ap (λ (ws : List ℕ). restGiven job (meaning ys ws (loop' .memory)) (turnIn ys (a .c) (a .t) (getD (weights' .result) byte 0) next place) e (must-wait' .result)) (told .0)
+    ∙ ap (λ (w : ℕ). restGiven job (meaning ys (loop' .words) (loop' .memory)) (turnIn ys (a .c) (a .t) w next place) e (must-wait' .result)) paid
+    ∙ ap (λ (b : Bool). restGiven job (meaning ys (loop' .words) (loop' .memory)) (turnIn ys (a .c) (a .t) (weightOf standardWeights byte) next place) e b) waits))
 
 pub burst-spec : {M : Type 1} → statement M
 burst-spec =
