@@ -34,6 +34,7 @@ extern "C" {
         log: *mut u8,
         log_length: usize,
         answer: *mut [u32; 4],
+        counts: *mut [usize; 6],
         statuses: *mut [u8; 32],
     );
     fn hofnulda_scheduled(
@@ -50,6 +51,7 @@ extern "C" {
         buffer: *mut u8,
         buffer_length: usize,
         answer: *mut [u32; 4],
+        counts: *mut [usize; 6],
         statuses: *mut [u8; 32],
     ) -> usize;
 }
@@ -80,7 +82,7 @@ pub fn serial(fed: Fed, memory: &mut [u32]) -> PlainAnswer {
     }
 }
 
-fn told(answer: [u32; 4], statuses: [u8; 32]) -> Ran {
+fn told(answer: [u32; 4], counts: [usize; 6], statuses: [u8; 32]) -> Ran {
     let answer = match answer {
         [0, number, _, _] => return Ran::refused(number as u8),
         [1, result, units, _] => Answer::Finished { result, units },
@@ -89,11 +91,12 @@ fn told(answer: [u32; 4], statuses: [u8; 32]) -> Ran {
         }
         [_, units, _, _] => Answer::Open { units },
     };
-    Ran { answer, statuses }
+    Ran { answer, counts, statuses }
 }
 
 pub fn run(fed: Fed, memory: &mut [u32], schedule: &[u8], log: &mut [u8]) -> Ran {
     let mut answer = [0; 4];
+    let mut counts = [0; 6];
     let mut statuses = [0; 32];
     unsafe {
         hofnulda_run(
@@ -112,15 +115,17 @@ pub fn run(fed: Fed, memory: &mut [u32], schedule: &[u8], log: &mut [u8]) -> Ran
             log.as_mut_ptr(),
             log.len(),
             &mut answer,
+            &mut counts,
             &mut statuses,
         );
     }
-    told(answer, statuses)
+    told(answer, counts, statuses)
 }
 
 /// The built-in scheduler, with the bytes of its buffer that it used.
 pub fn scheduled(fed: Fed, memory: &mut [u32], buffer: &mut [u8]) -> Housed {
     let mut answer = [0; 4];
+    let mut counts = [0; 6];
     let mut statuses = [0; 32];
     let used = unsafe {
         hofnulda_scheduled(
@@ -137,8 +142,9 @@ pub fn scheduled(fed: Fed, memory: &mut [u32], buffer: &mut [u8]) -> Housed {
             buffer.as_mut_ptr(),
             buffer.len(),
             &mut answer,
+            &mut counts,
             &mut statuses,
         )
     };
-    Housed { ran: told(answer, statuses), used }
+    Housed { ran: told(answer, counts, statuses), used }
 }

@@ -115,7 +115,7 @@ fn compare_runs(tally: &mut Tally, case: &Case, schedule: &[u8], log: &[u8], ser
             // demand 3, as far as a test can show it
             let mut memory = case.memory.clone();
             plain(case.fed(), &mut memory);
-            if serial != (PlainAnswer::Finished { result, units }) || memory != a || peer.counts()[0] != 32 {
+            if serial != (PlainAnswer::Finished { result, units }) || memory != a || peer.counts[0] != 32 {
                 differs("demand 3", case, schedule, format!("{serial:?}"), format!("{peer:?}"));
             }
         }

@@ -41,7 +41,7 @@ pub fn house(fed: Fed, memory: &mut [u32], buffer: &mut [u8]) -> Housed {
     } else {
         rounds(&mut m, &job, memory, &mut written);
     }
-    Housed { ran: Ran { answer: m.answer(), statuses: m.statuses() }, used: written.used }
+    Housed { ran: m.ran(), used: written.used }
 }
 
 struct Written<'a> {

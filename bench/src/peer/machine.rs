@@ -2,6 +2,7 @@
 
 use super::command::*;
 use super::image::{Program, Row};
+use super::run::Ran;
 use super::Answer;
 
 pub const IDLE: u8 = 32;
@@ -452,8 +453,27 @@ impl Machine {
         0
     }
 
+    /// What a run tells of it.
+    pub fn ran(&self) -> Ran {
+        Ran { answer: self.answer(), counts: self.counts(), statuses: self.statuses() }
+    }
+
+    /// The records in each state; those that are free, mostly the most, apart.
+    fn counts(&self) -> [usize; 6] {
+        let mut counts = [0; 6];
+        let mut free = 0;
+        for thread in &self.threads {
+            match thread.status {
+                Status::Free => free += 1,
+                status => counts[status as usize] += 1,
+            }
+        }
+        counts[0] = free;
+        counts
+    }
+
     /// The state of each record.
-    pub fn statuses(&self) -> [u8; 32] {
+    fn statuses(&self) -> [u8; 32] {
         let mut all = [0; 32];
         for (number, thread) in all.iter_mut().zip(&self.threads) {
             *number = thread.status as u8;

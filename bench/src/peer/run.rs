@@ -6,25 +6,18 @@ use super::Answer;
 
 pub const LONGEST: usize = 32_768;
 
-/// The answer, and the state of each record: its place among document 01's states, free being 0. Those of a refused run say nothing.
+/// The answer, the number of records in each of document 01's states, and the state of each record: its place among these, free being 0.
+/// Those of a refused run say nothing.
 #[derive(Clone, Copy, Debug, PartialEq, Eq)]
 pub struct Ran {
     pub answer: Answer,
+    pub counts: [usize; 6],
     pub statuses: [u8; 32],
 }
 
 impl Ran {
-    /// Records in each state.
-    pub fn counts(&self) -> [u32; 6] {
-        let mut counts = [0; 6];
-        for status in self.statuses {
-            counts[status as usize % 6] += 1;
-        }
-        counts
-    }
-
     pub fn refused(number: u8) -> Ran {
-        Ran { answer: Answer::Refused(number), statuses: [0; 32] }
+        Ran { answer: Answer::Refused(number), counts: [0; 6], statuses: [0; 32] }
     }
 }
 
@@ -89,7 +82,7 @@ pub fn run(fed: Fed, memory: &mut [u32], schedule: &[u8], log: &mut [u8]) -> Ran
     let mut m = Machine::blank(fed.cores, fed.allowance);
     m.start(&program, fed.arguments);
     play(&mut m, &job, memory, schedule, &mut log[..count]);
-    Ran { answer: m.answer(), statuses: m.statuses() }
+    m.ran()
 }
 
 fn play(m: &mut Machine, job: &Job, memory: &mut [u32; 992], schedule: &[u8], log: &mut [u8]) {

@@ -2,15 +2,15 @@
 use mathlib.Core.List.{List}
 use mathlib.Core.Path.{_≡_}
 use Prim.Native.Nat.{ℕ}
-use Rattle.tables.specs.Meaning.{meaning}
 use Rattle.demands.specs.Input.{Input}
 use Rattle.run.specs.declared.Ran.{Ran}
-use Rattle.run.specs.Promise.{Promise}
-use Rattle.abi.specs.Words.{answerWords, statusesUpTo}
+use Rattle.run.specs.Promise.{RunPromise}
+use Rattle.abi.specs.Words.{answerWords, countWords}
 
--- there is what `run` gives, which keeps its promise, and the words tell its answer and its threads' statuses
-pub record RunTold (i : Input) (schedule log memoryAfter logAfter answer statuses : List ℕ) : Type 0 where
+-- there is what `run` gives, which keeps its promise, and the words tell its answer, its counts and its threads' statuses
+pub record RunTold (i : Input) (schedule log memoryAfter logAfter answer counts statuses : List ℕ) : Type 0 where
   pub ran : Ran
-  pub promise : Promise i schedule log ran memoryAfter logAfter
+  pub promise : RunPromise i schedule log ran memoryAfter logAfter
   pub answered : answer ≡ answerWords (ran .answer)
-  pub counted : statuses ≡ statusesUpTo (meaning (ran .tables) (ran .words) memoryAfter .threads) 32
+  pub counted : counts ≡ countWords (ran .counts)
+  pub states : statuses ≡ ran .statuses

@@ -4,10 +4,11 @@
 pub mod words;
 
 use crate::words::answer_words;
-use crate::words::statuses_of;
+use crate::words::count_words;
 use image::number::image_number;
 ghost use mathlib.Core.Path.{_≡_};
 ghost use Rattle.image.specs.Image.{imageVerdict, numberIn};
+ghost use Rattle.demands.specs.Input.{inputOf};
 ghost use Rattle.abi.specs.Told.{RunTold};
 
 // Document 01's number of an image; 0 where it is accepted.
@@ -21,7 +22,8 @@ pub extern "C" fn hofnulda_check(image: &[u8]) -> u8
 }
 
 // A run by a schedule. The answer's words: 0 and the number of a refused run; 1, result and units; 2, number, thread and offset;
-// or 3 and the units. The status of each thread record is told by its number.
+// or 3 and the units. The thread records are counted by their states: free, running, ready, suspended, waiting, lent. The status of each is
+// told by its number, its place among these.
 #[no_mangle]
 pub extern "C" fn hofnulda_run(
     image: &[u8],
@@ -33,9 +35,10 @@ pub extern "C" fn hofnulda_run(
     schedule: &[u8],
     log: &mut [u8],
     answer: &mut [u32; 4],
+    counts: &mut [usize; 6],
     statuses: &mut [u8; 32],
 )
-    ensures { λ _. ⌜ RunTold (record { image = now (image .entry); cores = cores; arguments = now (arguments .entry); parameters = now (parameters .entry); memory = now (memory .entry); allowance = allowance }) (now (schedule .entry)) (now (log .entry)) (now (memory .exit)) (now (log .exit)) (now (answer .exit)) (now (statuses .exit)) ⌝ }
+    ensures { λ _. ⌜ RunTold (inputOf (now (image .entry)) cores (now (arguments .entry)) (now (parameters .entry)) (now (memory .entry)) allowance) (now (schedule .entry)) (now (log .entry)) (now (memory .exit)) (now (log .exit)) (now (answer .exit)) (now (counts .exit)) (now (statuses .exit)) ⌝ }
 {
     let ran = run::run(
         image,
@@ -49,5 +52,8 @@ pub extern "C" fn hofnulda_run(
     );
     let told = ran.answer;
     *answer = answer_words(told);
-    *statuses = statuses_of(&ran.tables);
+    let counted = ran.counts;
+    *counts = count_words(counted);
+    let states = ran.statuses;
+    *statuses = states;
 }

@@ -1,12 +1,9 @@
-// Answers as words of an array, and the statuses of the thread records.
+// Answers and counts as words of an array.
 
+use run::Census;
 use run::RunAnswer;
-use tables::records::thread_at;
-use thread::record::status_number;
 ghost use mathlib.Core.Path.{_≡_};
-ghost use lib.ListN.{replicate};
-ghost use Rattle.tables.specs.Change.{Reads};
-ghost use Rattle.abi.specs.Words.{answerWords, statusesUpTo};
+ghost use Rattle.abi.specs.Words.{answerWords, countWords};
 
 pub fn answer_words(answer: RunAnswer) -> [u32; 4]
     ensures { λ r. ⌜ r ≡ answerWords answer ⌝ }
@@ -23,17 +20,16 @@ pub fn answer_words(answer: RunAnswer) -> [u32; 4]
     }
 }
 
-// The status number of each thread record in the tables; zeros for tables of another size.
-pub fn statuses_of(tables: &[u8]) -> [u8; 32]
-    ensures { λ r. ⌜ Reads (now (tables .entry)) r (λ s. statusesUpTo (s .threads) 32) (replicate 32 0) ⌝ }
+// The records in each state, in document 01's order.
+pub fn count_words(counts: Census) -> [usize; 6]
+    ensures { λ r. ⌜ r ≡ countWords counts ⌝ }
 {
-    let mut all = [0u8; 32];
-    let mut i: usize = 0;
-    while i < 32 {
-        let thread = thread_at(tables, i as u8);
-        let status = thread.status;
-        all[i] = status_number(status);
-        i = i + 1;
-    }
-    all
+    [
+        counts.free,
+        counts.running,
+        counts.ready,
+        counts.suspended,
+        counts.waiting,
+        counts.lent,
+    ]
 }

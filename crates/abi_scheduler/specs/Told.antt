@@ -2,16 +2,16 @@
 use mathlib.Core.List.{List}
 use mathlib.Core.Path.{_≡_}
 use Prim.Native.Nat.{ℕ}
-use Rattle.tables.specs.Meaning.{meaning}
 use Rattle.demands.specs.Input.{Input}
 use Rattle.scheduler.specs.declared.Scheduled.{Scheduled}
-use Rattle.scheduler.specs.Promise.{Promise}
-use Rattle.abi.specs.Words.{answerWords, statusesUpTo}
+use Rattle.scheduler.specs.Promise.{SchedulerPromise}
+use Rattle.abi.specs.Words.{answerWords, countWords}
 
 -- there is what the built-in scheduler gives, which keeps its promise, and the words tell it
-pub record ScheduledTold (i : Input) (before memoryAfter after answer statuses : List ℕ) (used : ℕ) : Type 0 where
+pub record ScheduledTold (i : Input) (before memoryAfter after answer counts statuses : List ℕ) (used : ℕ) : Type 0 where
   pub ran : Scheduled
-  pub promise : Promise i before ran memoryAfter after
+  pub promise : SchedulerPromise i before ran memoryAfter after
   pub answered : answer ≡ answerWords (ran .answer)
-  pub counted : statuses ≡ statusesUpTo (meaning (ran .tables) (ran .words) memoryAfter .threads) 32
+  pub counted : counts ≡ countWords (ran .counts)
+  pub states : statuses ≡ ran .statuses
   pub taken : used ≡ ran .used

@@ -1,7 +1,8 @@
 // The built-in scheduler for C and Rust programs, in a library of its own, so that the loop of a run by schedule is compiled for itself. A
 // slice is passed as a pointer and a length, an array as a pointer.
 use abi::words::answer_words;
-use abi::words::statuses_of;
+use abi::words::count_words;
+ghost use Rattle.demands.specs.Input.{inputOf};
 ghost use Rattle.abi_scheduler.specs.Told.{ScheduledTold};
 
 // A run by the built-in scheduler, told as a run by a schedule is. It gives the bytes of the entries at the buffer's front.
@@ -15,9 +16,10 @@ pub extern "C" fn hofnulda_scheduled(
     allowance: u32,
     buffer: &mut [u8],
     answer: &mut [u32; 4],
+    counts: &mut [usize; 6],
     statuses: &mut [u8; 32],
 ) -> usize
-    ensures { λ used. ⌜ ScheduledTold (record { image = now (image .entry); cores = cores; arguments = now (arguments .entry); parameters = now (parameters .entry); memory = now (memory .entry); allowance = allowance }) (now (buffer .entry)) (now (memory .exit)) (now (buffer .exit)) (now (answer .exit)) (now (statuses .exit)) used ⌝ }
+    ensures { λ used. ⌜ ScheduledTold (inputOf (now (image .entry)) cores (now (arguments .entry)) (now (parameters .entry)) (now (memory .entry)) allowance) (now (buffer .entry)) (now (memory .exit)) (now (buffer .exit)) (now (answer .exit)) (now (counts .exit)) (now (statuses .exit)) used ⌝ }
 {
     let ran = scheduler::run(
         image,
@@ -30,6 +32,9 @@ pub extern "C" fn hofnulda_scheduled(
     );
     let told = ran.answer;
     *answer = answer_words(told);
-    *statuses = statuses_of(&ran.tables);
+    let counted = ran.counts;
+    *counts = count_words(counted);
+    let states = ran.statuses;
+    *statuses = states;
     ran.used
 }

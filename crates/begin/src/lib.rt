@@ -7,6 +7,7 @@ use image::number::image_number;
 use start::start;
 ghost use Prim.Native.Nat.{ℕ};
 ghost use Rattle.start.specs.Start.{Starts};
+ghost use Rattle.demands.specs.Input.{inputOf};
 ghost use Rattle.begin.specs.Begins.{Begins};
 
 // A run at its beginning.
@@ -30,7 +31,7 @@ pub fn begin(
     tables: &mut [u8],
     words: &mut [u32],
 ) -> Begun
-    ensures tests { λ r. ⌜ ((allowance : ℕ) → Begins (record { image = now (image .entry); cores = cores; arguments = now (arguments .entry); parameters = now (parameters .entry); memory = now (memory .entry); allowance = allowance }) (now (schedule .entry)) (now (log .entry)) r) ⌝ }
+    ensures tests { λ r. ⌜ ((allowance : ℕ) → Begins (inputOf (now (image .entry)) cores (now (arguments .entry)) (now (parameters .entry)) (now (memory .entry)) allowance) (now (schedule .entry)) (now (log .entry)) r) ⌝ }
     ensures start { λ r. ⌜ Starts (now (image .entry)) (now (arguments .entry)) cores (now (tables .entry)) (now (tables .exit)) (now (words .entry)) (now (words .exit)) ⌝ }
 {
     start(image, cores, arguments, tables, words);

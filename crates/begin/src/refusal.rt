@@ -5,7 +5,7 @@ use schedule::count;
 ghost use mathlib.Core.Path.{_≡_};
 ghost use Prim.Native.Nat.{ℕ};
 ghost use Rattle.image.specs.Image.{imageVerdict, numberIn};
-ghost use Rattle.demands.specs.Input.{refusalOf};
+ghost use Rattle.demands.specs.Input.{refusalOf, inputOf};
 
 // The number of the first test that is met, or 0. The image's own number is given.
 pub fn refusal(
@@ -19,7 +19,7 @@ pub fn refusal(
     log: &[u8],
 ) -> u8
     requires { ⌜ verdict ≡ numberIn (imageVerdict (now image)) ⌝ }
-    ensures { λ r. ⌜ ((allowance : ℕ) → r ≡ refusalOf (record { image = now (image .entry); cores = cores; arguments = now (arguments .entry); parameters = now (parameters .entry); memory = now (memory .entry); allowance = allowance }) (now (schedule .entry)) (now (log .entry))) ⌝ }
+    ensures { λ r. ⌜ ((allowance : ℕ) → r ≡ refusalOf (inputOf (now (image .entry)) cores (now (arguments .entry)) (now (parameters .entry)) (now (memory .entry)) allowance) (now (schedule .entry)) (now (log .entry))) ⌝ }
 {
     if cores == 0 {
         return 23;

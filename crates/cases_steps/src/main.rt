@@ -5,6 +5,7 @@
 //
 // - `image BYTES` is the image of the runs after it, and `schedule BYTES` their schedule.
 // - `run CORES ALLOWANCE ARGUMENTS` is a run on zero parameter and memory words. It prints the log, the words at 32 to 35, and the answer.
+// - `count CORES ALLOWANCE ARGUMENTS` prints of such a run also how many thread records are free, running, ready, suspended, waiting and lent.
 mod runs;
 
 fn all(input: &[u8]) {
@@ -13,15 +14,17 @@ fn all(input: &[u8]) {
     let mut at: usize = 0;
     while at < input.len() {
         let line = cases::line(input, at);
-        match cases::key(line, b"i*s*r*") {
+        let key = cases::key(line, b"i*s*r*c*");
+        match key {
             b'i' => image = at,
             b's' => schedule = at,
-            b'r' => runs::run(
+            0 => {}
+            _ => runs::run(
+                key == b'c',
                 line,
                 cases::line(input, image),
                 cases::line(input, schedule),
             ),
-            _ => {}
         }
         at = cases::after(input, at, b'\n');
     }

@@ -1,4 +1,5 @@
 // Runs, and what is printed of them.
+use run::Census;
 use run::RunAnswer;
 use schedule::Counted;
 
@@ -14,15 +15,23 @@ const FAULTED: usize = 4;
 
 const OPEN: usize = 5;
 
-fn print(format: usize, a: u32, b: u32, c: u32, d: u32) {
+const RECORDS: usize = 6;
+
+const MORE: usize = 7;
+
+fn print_wide(format: usize, a: usize, b: usize, c: usize, d: usize) {
     cases::print_format(
-        b"log/\nmemory # # # #\n/refused #\n/finished # #\n/faulted # # #\n/open #\n",
+        b"log/\nmemory # # # #\n/refused #\n/finished # #\n/faulted # # #\n/open #\n/records # # # #/ # #\n",
         format,
         a as u64,
         b as u64,
         c as u64,
         d as u64,
     );
+}
+
+fn print(format: usize, a: u32, b: u32, c: u32, d: u32) {
+    print_wide(format, a as usize, b as usize, c as usize, d as usize);
 }
 
 fn print_answer(answer: RunAnswer) {
@@ -36,6 +45,18 @@ fn print_answer(answer: RunAnswer) {
         } => print(FAULTED, number as u32, thread as u32, offset as u32, 0),
         RunAnswer::Open { units } => print(OPEN, units, 0, 0, 0),
     }
+}
+
+// The records in each state: free, running, ready, suspended, waiting, lent.
+fn print_counts(counts: Census) {
+    print_wide(
+        RECORDS,
+        counts.free,
+        counts.running,
+        counts.ready,
+        counts.suspended,
+    );
+    print_wide(MORE, counts.waiting, counts.lent, 0, 0);
 }
 
 fn print_entries(log: &[u8], schedule: &[u8]) {
@@ -56,7 +77,14 @@ fn print_log(answer: RunAnswer, log: &[u8], schedule: &[u8]) {
     print_entries(log, schedule);
 }
 
-fn run_job(image: &[u8], cores: u8, arguments: &[u32], allowance: u32, schedule: &[u8]) {
+fn run_job(
+    image: &[u8],
+    cores: u8,
+    arguments: &[u32],
+    allowance: u32,
+    schedule: &[u8],
+    counted: bool,
+) {
     let parameters = [0u32; 32];
     let mut memory = [0u32; 992];
     let mut log = [0u8; 128];
@@ -74,24 +102,28 @@ fn run_job(image: &[u8], cores: u8, arguments: &[u32], allowance: u32, schedule:
     print_log(answer, &log, schedule);
     print(MEMORY, memory[0], memory[1], memory[2], memory[3]);
     print_answer(answer);
+    if counted {
+        let counts = ran.counts;
+        print_counts(counts);
+    }
 }
 
-fn run_by(line: &[u8], image: &[u8], schedule: &[u8]) {
+fn run_by(counted: bool, line: &[u8], image: &[u8], schedule: &[u8]) {
     let cores = cases::number(line, 1, 255) as u8;
     let allowance = cases::number(line, 2, 4294967295) as u32;
     let mut arguments = [0u32; 4];
     let n = cases::numbers(line, 3, &mut arguments);
-    run_job(image, cores, &arguments[..n], allowance, schedule);
+    run_job(image, cores, &arguments[..n], allowance, schedule, counted);
 }
 
-fn run_image(line: &[u8], image: &[u8], schedule: &[u8]) {
+fn run_image(counted: bool, line: &[u8], image: &[u8], schedule: &[u8]) {
     let mut buffer = io::buffer();
     let n = cases::bytes(schedule, 1, &mut buffer);
-    run_by(line, image, &buffer[..n]);
+    run_by(counted, line, image, &buffer[..n]);
 }
 
-pub fn run(line: &[u8], image: &[u8], schedule: &[u8]) {
+pub fn run(counted: bool, line: &[u8], image: &[u8], schedule: &[u8]) {
     let mut buffer = io::buffer();
     let n = cases::bytes(image, 1, &mut buffer);
-    run_image(line, &buffer[..n], schedule);
+    run_image(counted, line, &buffer[..n], schedule);
 }

@@ -1,2 +1,3 @@
--- What the counts of a table come to.
+-- In reading order: what the counts of a table come to; and one record more.
 pub mod Totals
+pub mod Counting

@@ -10,7 +10,7 @@ use Rattle.thread.specs.declared.Status.{Status}
 use Rattle.thread.specs.declared.Status.the-variants.{Free, Running, Ready, Suspended, Waiting, Lent}
 use Rattle.thread.specs.declared.Thread.{Thread}
 use Rattle.thread.specs.Thread.{statusNumber, blankThread}
-use Rattle.census.specs.Counted.{oneIf, isIn, countOf}
+use Rattle.census.specs.Counted.{oneIf, isIn, recordsIn}
 
 -- the records in any of the six states
 abbrev pub allOf : (Status → ℕ) → ℕ
@@ -25,16 +25,16 @@ one thread Suspended e = rw e
 one thread Waiting e = rw e
 one thread Lent e = rw e
 
-pub total : (threads : List Thread) → allOf (λ s. countOf s threads) ≡ length threads
-unfolding countOf
+pub total : (threads : List Thread) → allOf (λ s. recordsIn s threads) ≡ length threads
+unfolding recordsIn
 total [] = refl
 total (thread ∷ threads) = omega (arith, one thread (thread .status) refl, total threads)
 
 -- all records are in one state
 pub all-in : (status : Status) (threads : List Thread)
     → ((t : ℕ) → t < length threads → statusNumber (getD threads t blankThread .status) ≡ statusNumber status)
-    → countOf status threads ≡ length threads
-unfolding countOf
+    → recordsIn status threads ≡ length threads
+unfolding recordsIn
 all-in status [] h = refl
 all-in status (thread ∷ threads) h =
     let first : isIn status thread ≡ 1 = ap oneIf (eq-eqb _ _ (h 0 (omega arith))) in

@@ -1,10 +1,15 @@
--- "After a run the records in each state are counted over the thread table": how many records of a list, of any length, are in a state.
+-- "After a run the records in each state are counted over the thread table": how many records of a list, of any length, are in a state, and
+-- which records some bytes hold.
 use mathlib.Core.Bool.{Bool, true, false}
-use mathlib.Core.List.{List, [], _∷_}
-use Prim.Native.Nat.{ℕ, _+_}
+use mathlib.Core.List.{List, [], _∷_, _++_}
+use Prim.Native.Nat.{ℕ, zero, suc, _+_, _*_, _/_}
+use lib.ListN.{length}
 use Rattle.thread.specs.declared.Status.{Status}
+use Rattle.thread.specs.declared.Status.the-variants.{Free, Running, Ready, Suspended, Waiting, Lent}
 use Rattle.thread.specs.declared.Thread.{Thread}
 use Rattle.thread.specs.Thread.{_is_}
+use Rattle.cells.specs.Record.{recordAt}
+use Rattle.census.specs.declared.Census.{Census}
 
 abbrev pub oneIf : Bool → ℕ
 oneIf true = 1
@@ -14,6 +19,26 @@ oneIf false = 0
 abbrev pub isIn : Status → Thread → ℕ
 isIn status thread = oneIf (thread .status is status)
 
-unfoldable pub countOf : Status → List Thread → ℕ
-countOf status [] = 0
-countOf status (thread ∷ threads) = isIn status thread + countOf status threads
+unfoldable pub recordsIn : Status → List Thread → ℕ
+recordsIn status [] = 0
+recordsIn status (thread ∷ threads) = isIn status thread + recordsIn status threads
+
+-- "free, running, ready, suspended, waiting or lent": the records in each of these
+abbrev pub censusOf : List Thread → Census
+censusOf threads = record {
+  free = recordsIn Free threads;
+  running = recordsIn Running threads;
+  ready = recordsIn Ready threads;
+  suspended = recordsIn Suspended threads;
+  waiting = recordsIn Waiting threads;
+  lent = recordsIn Lent threads;
+}
+
+-- the first n records of some bytes, 18 bytes each
+unfoldable pub recordsUpTo : List ℕ → ℕ → List Thread
+recordsUpTo bytes zero = []
+recordsUpTo bytes (suc n) = recordsUpTo bytes n ++ (recordAt bytes (18 * n) ∷ [])
+
+-- all of them; fewer than 18 bytes behind the last one are no record
+abbrev pub recordsOf : List ℕ → List Thread
+recordsOf bytes = recordsUpTo bytes (length bytes / 18)

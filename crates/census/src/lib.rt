@@ -1,40 +1,58 @@
 // How many records of the thread table are in each state.
-use thread::Status;
+use cells::WIDE;
+use cells::read_record;
 use thread::Thread;
-use thread::record::same_status;
+use thread::record::status_number;
 ghost use mathlib.Core.Path.{_≡_};
-ghost use Prim.Native.Nat.{_+_, _<_, _^_};
-ghost use Rattle.census.specs.Counted.{isIn, countOf};
+ghost use Prim.Native.Nat.{_≤_};
+ghost use Rattle.thread.specs.Thread.{statusNumber};
+ghost use Rattle.census.specs.Counted.{recordsOf, censusOf};
 
-// One record more, by value.
-fn counted(thread: Thread, status: Status, before: usize) -> usize
-    requires { ⌜ before + 1 < 2 ^ 64 ⌝ }
-    ensures { λ r. ⌜ r ≡ before + isIn status thread ⌝ }
-{
-    let own = thread.status;
-    if same_status(own, status) {
-        before + 1
-    } else {
-        before
-    }
+// The records in each state.
+pub struct Census {
+    pub free: usize,
+    pub running: usize,
+    pub ready: usize,
+    pub suspended: usize,
+    pub waiting: usize,
+    pub lent: usize,
 }
 
-// The records of a lent table in a state. It takes a table of any length; a count of another state, or one that leaves a record out, is none.
-pub fn count(threads: &[Thread], status: Status) -> usize
-    ensures { λ r. ⌜ r ≡ countOf status (now (threads .entry)) ⌝ }
+// The number of a record's state, by value.
+fn state_of(thread: Thread) -> usize
+    ensures { λ r. ⌜ (r ≡ statusNumber (thread .status)) × (r ≤ 5) ⌝ }
 {
-    let mut c: usize = 0;
-    let mut i: usize = 0;
-    while i < threads.len() {
-        c = counted(threads[i], status, c);
-        i = i + 1;
-    }
-    c
+    let status = thread.status;
+    status_number(status) as usize
 }
 
-// The records of a machine's table in a state: the table is lent to `count`.
-pub fn count_table(threads: [Thread; 32], status: Status) -> usize
-    ensures { λ r. ⌜ r ≡ countOf status threads ⌝ }
+// The records of a lent table in each state, in one pass. It takes bytes of any number: record after record, 18 bytes each, and fewer behind
+// the last one are none. Most records of a table are free: these are counted apart from the others, in a register.
+pub fn count(records: &[u8]) -> Census
+    ensures { λ r. ⌜ r ≡ censusOf (recordsOf (now (records .entry))) ⌝ }
 {
-    count(&threads, status)
+    let many = records.len() / WIDE;
+    let mut free: usize = 0;
+    let mut others = [0usize; 6];
+    let mut t: usize = 0;
+    while t < many {
+        let a = WIDE * t;
+        let e = a + WIDE;
+        let thread = read_record(&records[a..e]);
+        let state = state_of(thread);
+        if state == 0 {
+            free = free + 1;
+        } else {
+            others[state] = others[state] + 1;
+        }
+        t = t + 1;
+    }
+    Census {
+        free,
+        running: others[1],
+        ready: others[2],
+        suspended: others[3],
+        waiting: others[4],
+        lent: others[5],
+    }
 }

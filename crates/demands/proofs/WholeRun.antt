@@ -1,4 +1,5 @@
--- Each whole-run number is given exactly under its condition, by a run by a schedule and by the built-in scheduler. Assumes nothing.
+-- Each whole-run number is given exactly under its condition, by a run by a schedule and by the built-in scheduler; and an answer has its
+-- outcome's number. Assumes nothing.
 use borrow.Author.Tests.{eqb-true, eqb-false, ltb-true, ltb-false, eq-eqb, ne-eqb, lt-ltb, le-ltb}
 use mathlib.Core.Bool.{Bool, true, false, cond, _||_, not}
 use mathlib.Core.List.{List, []}
@@ -18,7 +19,8 @@ use Rattle.schedule.specs.declared.Entry.{Entry}
 use Rattle.schedule.specs.Format.{bytesOfEntries}
 use Rattle.schedule.specs.Meaning.{Schedule, entries, malformed, scheduleOf, numberOfSchedule, IsSchedule, WellFormed}
 use Rattle.schedule.proofs.Forming.{means as schedule-means, malforms as schedule-malforms}
-use Rattle.demands.specs.Input.{Input, badCores, entryCount, refusalOf}
+use Rattle.rules.specs.State.{Outcome, going, finished, faulted}
+use Rattle.demands.specs.Input.{Input, badCores, entryCount, refusalOf, answerOf, numberOfAnswer, numberOfOutcome}
 use Rattle.demands.specs.WholeRun.{GoodCores, GoodImage, GoodArguments, RightWords, WrongWords, RunNumbers, SchedulerNumbers}
 
 -- the image's author's numbers
@@ -310,3 +312,9 @@ module _ (i : Input) where
     others = few (refusalOf i [] []) never-13 (empty .others);
     taken = λ k. empty .taken k [] nothing (omega arith);
   }
+
+-- ANSWERS. What a machine answers has its outcome's number
+pub number-told : (o : Outcome) (u : ℕ) → numberOfAnswer (answerOf o u) ≡ numberOfOutcome o
+number-told going u = refl
+number-told (finished v) u = refl
+number-told (faulted n t o) u = refl

@@ -6,12 +6,11 @@ use Prim.Native.Nat.{ℕ}
 use lib.Dec.{eqb}
 use lib.ListN.{replicate}
 use Rattle.image.specs.Cases.{oneRoutine, whole}
-use Rattle.schedule.specs.declared.Entry.{Entry}
-use Rattle.schedule.specs.Meaning.{Schedule, entries, malformed, scheduleOf}
+use Rattle.schedule.specs.Meaning.{scheduleOf, entriesIn}
 use Rattle.rules.specs.Runs.{runFrom, logsFrom}
 use Rattle.demands.specs.declared.RunAnswer.{RunAnswer}
 use Rattle.demands.specs.declared.RunAnswer.the-variants.{Refused, Finished, Open}
-use Rattle.demands.specs.Input.{Input, jobIn, startIn, refusalOf, answerOf}
+use Rattle.demands.specs.Input.{Input, inputOf, jobIn, startIn, refusalOf, answerOf}
 
 -- a row of the table
 pub record Case : Type 0 where
@@ -22,14 +21,7 @@ pub record Case : Type 0 where
 
 -- no arguments, words that start zero
 abbrev pub given : List ℕ → ℕ → ℕ → Input
-given image cores allowance = record {
-  image = image;
-  cores = cores;
-  arguments = [];
-  parameters = replicate 32 0;
-  memory = replicate 992 0;
-  allowance = allowance;
-}
+given image cores allowance = inputOf image cores [] (replicate 32 0) (replicate 992 0) allowance
 
 -- the schedule of the case "Whole"
 abbrev pub wholeSchedule : List ℕ
@@ -62,11 +54,6 @@ starred =
       answer = Finished 10 20;
     }
     ∷ []
-
--- the entries of a schedule; none of one that is malformed
-abbrev pub entriesIn : Schedule → List Entry
-entriesIn (entries es) = es
-entriesIn malformed = []
 
 -- a run's answer and log, by its definitions, with a log of 64 bytes lent
 abbrev pub answered : Input → List ℕ → RunAnswer

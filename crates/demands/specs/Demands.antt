@@ -15,7 +15,7 @@ use Rattle.image.specs.Image.{imageVerdict}
 use Rattle.schedule.specs.declared.Entry.{Entry}
 use Rattle.stacklets.specs.Tops.{topAt}
 use Rattle.thread.specs.declared.Status.the-variants.{Free}
-use Rattle.census.specs.Counted.{countOf}
+use Rattle.census.specs.Counted.{recordsIn}
 use Rattle.rules.specs.Lists.{Every, Member, Distinct}
 use Rattle.rules.specs.State.{State, finished, faulted, isOver}
 use Rattle.rules.specs.Statuses.{IsFree, IsSuspended}
@@ -85,7 +85,7 @@ pub record EachOnce (n : ℕ) (queue : List ℕ) : Type 0 where
 -- "all 32 threads and 16 stacklets are free": each record is free, so 32 are counted, and each number stands in its queue
 pub record AllFree (s : State) : Type 0 where
   pub records : (t : ℕ) → t < 32 → IsFree s t
-  pub counted : countOf Free (s .threads) ≡ 32
+  pub counted : recordsIn Free (s .threads) ≡ 32
   pub threads : (t : ℕ) → t < 32 → Member t (s .queues .freeThreads)
   pub stacklets : (x : ℕ) → x < 16 → Member x (s .queues .freeStacklets)
   -- once, and nothing else does

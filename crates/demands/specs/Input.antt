@@ -22,6 +22,16 @@ pub record Input : Type 0 where
   pub memory : List ℕ
   pub allowance : ℕ
 
+abbrev pub inputOf : List ℕ → ℕ → List ℕ → List ℕ → List ℕ → ℕ → Input
+inputOf image cores arguments parameters memory allowance = record {
+  image = image;
+  cores = cores;
+  arguments = arguments;
+  parameters = parameters;
+  memory = memory;
+  allowance = allowance;
+}
+
 abbrev pub jobIn : Input → Job
 jobIn i = jobOf (i .image) (startsIn (programOf (i .image))) (i .parameters) (i .allowance)
 
@@ -65,3 +75,9 @@ numberOfAnswer (Refused n) = n
 numberOfAnswer (Finished v units) = 0
 numberOfAnswer (Faulted n t o) = n
 numberOfAnswer (Open units) = 0
+
+-- and for each outcome: the fault's, 0 where there is none
+abbrev pub numberOfOutcome : Outcome → ℕ
+numberOfOutcome going = 0
+numberOfOutcome (finished v) = 0
+numberOfOutcome (faulted n t o) = n

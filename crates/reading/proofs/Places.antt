@@ -3,10 +3,10 @@ use mathlib.Core.List.{List}
 use mathlib.Core.Path.{_≡_, ap, _∙_}
 use Prim.Native.Nat.{ℕ, _+_}
 use native.Mathlib.Omega.{arith}
-use Rattle.reading.specs.Reading.{pairAt, wordAt, allowanceAt, lengthAt, imageAt, scheduleAt}
+use Rattle.reading.specs.Reading.{pairAt, fourBytesAt, allowanceAt, lengthAt, imageAt, scheduleAt}
 
-pub word-there : (s : List ℕ) (at place word : ℕ) → at ≡ place → word ≡ wordAt s at → word ≡ wordAt s place
-word-there s at place word h p = p ∙ ap (wordAt s) h
+pub word-there : (s : List ℕ) (at place word : ℕ) → at ≡ place → word ≡ fourBytesAt s at → word ≡ fourBytesAt s place
+word-there s at place word h p = p ∙ ap (fourBytesAt s) h
 
 pub schedule-there : (s : List ℕ) (image at pair : ℕ) → image ≡ imageAt s → at ≡ allowanceAt s → pair ≡ pairAt s (at + 4) → image + pair ≡ scheduleAt s
 schedule-there s image at pair h k p =

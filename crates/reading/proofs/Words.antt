@@ -7,9 +7,9 @@ use native.Mathlib.Numerals.{add-one}
 use native.Mathlib.Omega.{arith}
 use lib.ListN.{length, getD, set, take, drop}
 use lib.Seq.{take-at, drop-cons, set-at, append-snoc}
-use Rattle.reading.specs.Reading.{wordAt, wordsFrom, readOver}
+use Rattle.reading.specs.Reading.{fourBytesAt, wordsFrom, readOver}
 
-words-snoc : (s : List ℕ) (at n : ℕ) → wordsFrom s at (suc n) ≡ wordsFrom s at n ++ (wordAt s (at + 4 * n) ∷ [])
+words-snoc : (s : List ℕ) (at n : ℕ) → wordsFrom s at (suc n) ≡ wordsFrom s at n ++ (fourBytesAt s (at + 4 * n) ∷ [])
 unfolding wordsFrom
 words-snoc s at zero = rw (add-zero at)
 words-snoc s at (suc n) =
@@ -28,7 +28,7 @@ no-words s at before = refl
 
 -- one more word, stored after those read
 pub one-more-word : (s : List ℕ) (at i : ℕ) (before words : List ℕ) (w : ℕ) → i < length before → words ≡ readOver s at i before
-    → w ≡ wordAt s (at + 4 * i) → set words i w ≡ readOver s at (i + 1) before
+    → w ≡ fourBytesAt s (at + 4 * i) → set words i w ≡ readOver s at (i + 1) before
 one-more-word s at i before words w h p q =
     rw (
       p,
@@ -36,7 +36,7 @@ one-more-word s at i before words w h p q =
       add-one i,
       words-snoc s at i,
       drop-cons before i 0 h,
-      set-at (wordsFrom s at i) (getD before i 0) (drop (suc i) before) (wordAt s (at + 4 * i)) i (words-many s at i),
+      set-at (wordsFrom s at i) (getD before i 0) (drop (suc i) before) (fourBytesAt s (at + 4 * i)) i (words-many s at i),
       append-snoc,
     )
 

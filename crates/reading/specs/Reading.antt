@@ -17,13 +17,13 @@ wordOf a b c d = a + b * 256 + c * 65536 + d * 16777216
 abbrev pub pairAt : List ℕ → ℕ → ℕ
 pairAt s at = pairOf (getD s at 0) (getD s (at + 1) 0)
 
-abbrev pub wordAt : List ℕ → ℕ → ℕ
-wordAt s at = wordOf (getD s at 0) (getD s (at + 1) 0) (getD s (at + 2) 0) (getD s (at + 3) 0)
+abbrev pub fourBytesAt : List ℕ → ℕ → ℕ
+fourBytesAt s at = wordOf (getD s at 0) (getD s (at + 1) 0) (getD s (at + 2) 0) (getD s (at + 3) 0)
 
 -- as many words from a position on
 unfoldable pub wordsFrom : List ℕ → ℕ → ℕ → List ℕ
 wordsFrom s at zero = []
-wordsFrom s at (suc n) = wordAt s at ∷ wordsFrom s (at + 4) n
+wordsFrom s at (suc n) = fourBytesAt s at ∷ wordsFrom s (at + 4) n
 
 -- other words with these at their front: those past them stay
 abbrev pub readOver : List ℕ → ℕ → ℕ → List ℕ → List ℕ

@@ -4,7 +4,7 @@ use command::byte_at;
 ghost use mathlib.Core.Path.{_≡_};
 ghost use Prim.Native.Nat.{_<_, _≤_};
 ghost use lib.ListN.{length};
-ghost use Rattle.reading.specs.Reading.{pairOf, wordOf, pairAt, wordAt, readOver, ArgumentsRead, coreCount, argumentCount, allowanceAt, imageAt, scheduleAt};
+ghost use Rattle.reading.specs.Reading.{pairOf, wordOf, pairAt, fourBytesAt, readOver, ArgumentsRead, coreCount, argumentCount, allowanceAt, imageAt, scheduleAt};
 
 fn wide(byte: u8) -> usize
     ensures { λ r. ⌜ r ≡ byte ⌝ }
@@ -33,7 +33,7 @@ fn pair_at(bytes: &[u8], at: usize) -> usize
 
 fn word_at(bytes: &[u8], at: usize) -> u32
     requires { ⌜ at < 1000000 ⌝ }
-    ensures { λ r. ⌜ r ≡ wordAt (now (bytes .entry)) at ⌝ }
+    ensures { λ r. ⌜ r ≡ fourBytesAt (now (bytes .entry)) at ⌝ }
 {
     word_of(
         byte_at(bytes, at),
@@ -81,7 +81,7 @@ fn allowance_at(input: &[u8]) -> usize
 }
 
 pub fn allowance(input: &[u8]) -> u32
-    ensures { λ r. ⌜ r ≡ wordAt (now (input .entry)) (allowanceAt (now (input .entry))) ⌝ }
+    ensures { λ r. ⌜ r ≡ fourBytesAt (now (input .entry)) (allowanceAt (now (input .entry))) ⌝ }
 {
     word_at(input, allowance_at(input))
 }

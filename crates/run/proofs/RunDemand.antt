@@ -11,18 +11,17 @@ use Rattle.rules.proofs.Laws.{run-next, logs-many}
 use Rattle.rules.specs.Runs.{logsFrom, runFrom, logged}
 use Rattle.rules.specs.State.{State, Outcome, going, finished, faulted}
 use Rattle.serial.specs.Serial.{done}
-use Rattle.tables.specs.Meaning.{meaning}
 use Rattle.soundness.proofs.Unchanged.{unchanged}
 use Rattle.demands.proofs.Demands.{demand-2-logged, demand-3, sound-after}
 use Rattle.demands.proofs.Passing.{takes, has-room}
 use Rattle.demands.proofs.SerialNumbers.{serial-numbers}
 use Rattle.demands.proofs.WholeRun.{run-numbers}
 use Rattle.demands.specs.Input.{Input, jobIn, startIn, refusalOf, answerOf, entryCount}
-use Rattle.demands.specs.Demands.{Demand2, Demand3, Demand1, serialIn}
+use Rattle.demands.specs.Demands.{Demand1, Demand2, serialIn}
 use Rattle.demands.specs.declared.RunAnswer.the-variants.{Refused, Finished}
 use Rattle.run.specs.declared.Ran.{Ran}
 use Rattle.run.specs.Run.{RunsAs}
-use Rattle.run.specs.Promise.{Promise}
+use Rattle.run.specs.Promise.{RunPromise}
 
 -- log bytes over the front of a log
 whole : (bytes log : List ℕ) → length bytes ≤ length log → length (logged log bytes) ≡ length log
@@ -35,7 +34,7 @@ no-refusal (finished v) u n e = let z : _≡_ {A = ℕ} 0 1 = cc in omega arith
 no-refusal (faulted m t o) u n e = let z : _≡_ {A = ℕ} 0 1 = cc in omega arith
 
 -- an answer that tells a result is a finished machine's
-finished-by : (o : Outcome) (w v u : ℕ) → answerOf o w ≡ Finished v u → (o ≡ finished v) × (w ≡ u)
+pub finished-by : (o : Outcome) (w v u : ℕ) → answerOf o w ≡ Finished v u → (o ≡ finished v) × (w ≡ u)
 finished-by going w v u e = let z : _≡_ {A = ℕ} 0 1 = cc in absurd (omega arith)
 finished-by (finished x) w v u e = (cc, cc)
 finished-by (faulted m t o) w v u e = let z : _≡_ {A = ℕ} 0 1 = cc in absurd (omega arith)
@@ -64,11 +63,6 @@ module _ (i : Input) (schedule log : List ℕ) (bytes : (k : ℕ) → getD (i .i
         run-next (jobIn i) (startIn i) before e ∙ unchanged (jobIn i) (runFrom (jobIn i) (startIn i) before) e low high;
   }
 
-  at-end : refusalOf i schedule log ≡ 0 → Demand3 i (meaning (r .tables) (r .words) memoryAfter)
-  at-end passes =
-      let p = runs .played passes in
-      subst (Demand3 i) (sym (p .2 .machine)) (demand-3 i (takes i schedule log passes bytes) (p .0))
-
   -- an accepted schedule has one list of entries
   entries-same : (xs ys : List Entry) → entries xs ≡ entries ys → xs ≡ ys
   entries-same xs ys e = cc
@@ -95,14 +89,13 @@ module _ (i : Input) (schedule log : List ℕ) (bytes : (k : ℕ) → getD (i .i
       go (yes passes) = plain-played passes v u e
       go (no some) = let q = runs .refused some .answer in let z : _≡_ {A = ℕ} 0 1 = cc in absurd (omega arith)
 
-  pub promised : Promise i schedule log r memoryAfter logAfter
+  pub promised : RunPromise i schedule log r memoryAfter logAfter
   promised = record {
     runs = runs;
     demand1 = demand-1;
     numbers = run-numbers i schedule log;
     demand2 = at-each;
-    demand3 = at-end;
-    anywhere = λ passes es. demand-3 i (takes i schedule log passes bytes) es;
+    demand3 = λ passes es. demand-3 i (takes i schedule log passes bytes) es;
     plain = plain-run;
     plainNumbers = serial-numbers i;
   }

@@ -1,9 +1,10 @@
 -- The parts of a run put together: Start, the tests, the entries and the answer make what the contract of `run` says. Assumes nothing.
 use mathlib.Core.List.{List}
-use mathlib.Core.Path.{_≡_, refl, sym, _∙_, ap, ap₂}
+use mathlib.Core.Path.{_≡_, refl, sym, _∙_, ap, ap₂, subst}
 use Prim.Native.Nat.{ℕ, _≤_, _<_}
 use lib.ListN.{length, getD, take}
 use lib.Seq.{take-all}
+use Rattle.census.specs.declared.Census.{Census}
 use Rattle.image.specs.Layout.{programOf, startsIn}
 use Rattle.thread.specs.Job.{jobOf}
 use Rattle.rules.specs.State.{State, going}
@@ -21,11 +22,13 @@ use Rattle.play.proofs.Leading.{leads-all}
 use Rattle.soundness.proofs.StartSound.{start-sound}
 use Rattle.demands.proofs.Passing.{takes, good, has-room}
 use Rattle.demands.specs.declared.RunAnswer.the-variants.{Refused, Open}
-use Rattle.demands.specs.Input.{Input, jobIn, startIn, refusalOf, answerOf}
+use Rattle.demands.specs.Input.{Input, jobIn, startIn, refusalOf, answerOf, numberOfAnswer}
+use Rattle.demands.proofs.WholeRun.{number-told}
 use Rattle.play.specs.Entries.{playable, Played}
 use Rattle.run.specs.declared.Ran.{Ran}
 use Rattle.begin.specs.declared.Begun.{Begun}
 use Rattle.begin.specs.Begins.{Begins}
+use Rattle.run.specs.Machine.{MachineIs}
 use Rattle.run.specs.Run.{RunsAs}
 
 -- how the machine stands as an answer
@@ -47,14 +50,15 @@ module _ (i : Input) (schedule log : List ℕ) where
     pub first : meaning ys vs (i .memory) ≡ startIn i
     first = start .means sized wide (startsIn (programOf (i .image))) (i .parameters) (i .memory) (i .allowance)
 
-    pub refuses : (b .number ≡ 0 → ⊥) → RunsAs i schedule log (record { answer = Refused (b .number); tables = ys; words = vs }) (i .memory) log
-    refuses some = record {
+    pub refuses : (b .number ≡ 0 → ⊥) → (census : Census) (numbers : List ℕ) → MachineIs (meaning ys vs (i .memory)) census numbers vs
+        → RunsAs i schedule log (record { answer = Refused (b .number); counts = census; statuses = numbers; words = vs }) (i .memory) log
+    refuses some census numbers shows = record {
       refused = λ _. record {
         answer = ap Refused (begun .number);
         number = begun .number;
         memory = refl;
         log = refl;
-        machine = first;
+        machine = subst (λ (s : State). MachineIs s census numbers vs) first shows;
       };
       played = λ z. absurd (some (begun .number ∙ z));
     }
@@ -71,27 +75,31 @@ module _ (i : Input) (schedule log : List ℕ) where
       all-met : (es : List Entry) → scheduleOf schedule ≡ entries es → length es ≤ length log → playable schedule log ≡ es
       all-met es means room = ap (take (length log)) (leads-all schedule es 0 (accepted schedule es means .means)) ∙ take-all (length log) es room
 
-      pub plays : (r : Ran) (memoryAfter logAfter : List ℕ)
-          → Played (jobOf (i .image) (b .starts) (i .parameters) (i .allowance)) (meaning ys vs (i .memory)) schedule log (meaning (r .tables) (r .words) memoryAfter) logAfter
-          → r .answer ≡ answerOf (meaning (r .tables) (r .words) memoryAfter .outcome) (meaning (r .tables) (r .words) memoryAfter .units)
+      pub plays : (zs : List ℕ) (r : Ran) (memoryAfter logAfter : List ℕ)
+          → Played (jobOf (i .image) (b .starts) (i .parameters) (i .allowance)) (meaning ys vs (i .memory)) schedule log (meaning zs (r .words) memoryAfter) logAfter
+          → r .answer ≡ answerOf (meaning zs (r .words) memoryAfter .outcome) (meaning zs (r .words) memoryAfter .units)
+          → MachineIs (meaning zs (r .words) memoryAfter) (r .counts) (r .statuses) (r .words)
           → RunsAs i schedule log r memoryAfter logAfter
       unfolding meaning
-      plays r memoryAfter logAfter p a =
-          let q : Played (jobIn i) (startIn i) schedule log (meaning (r .tables) (r .words) memoryAfter) logAfter = rw (begun .starts passes, first) at p in
+      plays zs r memoryAfter logAfter p a shows =
+          let q : Played (jobIn i) (startIn i) schedule log (meaning zs (r .words) memoryAfter) logAfter = rw (begun .starts passes, first) at p in
           let room = has-room i schedule log passes in
           let es = room .all in
+          let end : State = runFrom (jobIn i) (startIn i) es in
           let met : playable schedule log ≡ es = all-met es (room .means) (room .room) in
-          let state : meaning (r .tables) (r .words) memoryAfter ≡ runFrom (jobIn i) (startIn i) es = q .state ∙ ap (runFrom (jobIn i) (startIn i)) met in
+          let state : meaning zs (r .words) memoryAfter ≡ end = q .state ∙ ap (runFrom (jobIn i) (startIn i)) met in
+          let answer : r .answer ≡ answerOf (end .outcome) (end .units) = a ∙ ap (λ (s : State). answerOf (s .outcome) (s .units)) state in
           record {
             refused = λ some. absurd (some passes);
             played = λ _. (
               es,
               room .means,
               record {
-                answer = a ∙ ap (λ (x : State). answerOf (x .outcome) (x .units)) state;
-                memory = ap (λ (x : State). x .store .memory) state;
+                answer = answer;
+                number = ap numberOfAnswer answer ∙ number-told (end .outcome) (end .units);
+                memory = ap (λ (s : State). s .store .memory) state;
                 log = q .log ∙ ap (λ (l : List Entry). logged log (logsFrom (jobIn i) (startIn i) l)) met;
-                machine = state;
+                machine = subst (λ (s : State). MachineIs s (r .counts) (r .statuses) (r .words)) state shows;
               },
             );
           }

@@ -4,28 +4,30 @@ use mathlib.Core.Path.{_≡_}
 use Prim.Native.Nat.{ℕ}
 use Rattle.schedule.specs.declared.Entry.{Entry}
 use Rattle.schedule.specs.Meaning.{entries, scheduleOf}
-use Rattle.rules.specs.Runs.{runFrom, logsFrom, logged}
-use Rattle.tables.specs.Meaning.{meaning}
+use Rattle.rules.specs.Runs.{logsFrom, logged}
 use Rattle.demands.specs.declared.RunAnswer.the-variants.{Refused}
-use Rattle.demands.specs.Input.{Input, jobIn, startIn, refusalOf, answerOf, numberOfAnswer}
+use Rattle.demands.specs.Input.{Input, jobIn, startIn, refusalOf, answerOf, numberOfAnswer, numberOfOutcome}
+use Rattle.demands.specs.Demands.{stateAfter}
 use Rattle.run.specs.declared.Ran.{Ran}
+use Rattle.run.specs.Machine.{MachineIs}
 
--- a run that is refused: its number alone, and "nothing written"; the tables beside it are as at Start
-pub record IsRefused (i : Input) (n : ℕ) (logBefore : List ℕ) (r : Ran) (memoryAfter logAfter : List ℕ) : Type 0 where
+-- a run that is refused: its number alone, and "nothing written"; what is given of the machine beside it is Start's
+pub record IsRefusedRun (i : Input) (n : ℕ) (logBefore : List ℕ) (r : Ran) (memoryAfter logAfter : List ℕ) : Type 0 where
   pub answer : r .answer ≡ Refused n
   pub number : numberOfAnswer (r .answer) ≡ n
   pub memory : memoryAfter ≡ i .memory
   pub log : logAfter ≡ logBefore
-  pub machine : meaning (r .tables) (r .words) memoryAfter ≡ startIn i
+  pub machine : MachineIs (startIn i) (r .counts) (r .statuses) (r .words)
 
--- a run by entries: the fold's outcome and units, its memory, a log byte for each entry, and its state in the machine
+-- a run by entries: the fold's outcome and units, its memory, a log byte for each entry, and the machine at its end
 pub record IsPlayed (i : Input) (es : List Entry) (logBefore : List ℕ) (r : Ran) (memoryAfter logAfter : List ℕ) : Type 0 where
-  pub answer : r .answer ≡ answerOf (runFrom (jobIn i) (startIn i) es .outcome) (runFrom (jobIn i) (startIn i) es .units)
-  pub memory : memoryAfter ≡ runFrom (jobIn i) (startIn i) es .store .memory
+  pub answer : r .answer ≡ answerOf (stateAfter i es .outcome) (stateAfter i es .units)
+  pub number : numberOfAnswer (r .answer) ≡ numberOfOutcome (stateAfter i es .outcome)
+  pub memory : memoryAfter ≡ stateAfter i es .store .memory
   pub log : logAfter ≡ logged logBefore (logsFrom (jobIn i) (startIn i) es)
-  pub machine : meaning (r .tables) (r .words) memoryAfter ≡ runFrom (jobIn i) (startIn i) es
+  pub machine : MachineIs (stateAfter i es) (r .counts) (r .statuses) (r .words)
 
 -- what a run gives: a refusal by the first whole-run test that is met, else the run by the schedule's entries
 pub record RunsAs (i : Input) (schedule log : List ℕ) (r : Ran) (memoryAfter logAfter : List ℕ) : Type 0 where
-  pub refused : (refusalOf i schedule log ≡ 0 → ⊥) → IsRefused i (refusalOf i schedule log) log r memoryAfter logAfter
+  pub refused : (refusalOf i schedule log ≡ 0 → ⊥) → IsRefusedRun i (refusalOf i schedule log) log r memoryAfter logAfter
   pub played : refusalOf i schedule log ≡ 0 → (es : List Entry) × (scheduleOf schedule ≡ entries es) × IsPlayed i es log r memoryAfter logAfter

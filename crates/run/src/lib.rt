@@ -3,15 +3,21 @@
 pub mod tell;
 
 use crate::tell::answer;
+use crate::tell::counts;
+use crate::tell::statuses;
 use begin::begin;
+pub use census::Census;
 pub use demands::RunAnswer;
 use play::play;
-ghost use Rattle.run.specs.Promise.{Promise};
+ghost use Rattle.demands.specs.Input.{inputOf};
+ghost use Rattle.run.specs.Promise.{RunPromise};
 
-// The answer, with the machine's tables as the run left them and the words of its stacklets.
+// The answer, with the thread records in each state, as the run left them, and the words of its stacklets.
 pub struct Ran {
     pub answer: RunAnswer,
-    pub tables: [u8; 712],
+    pub counts: Census,
+    // the number of each record's status
+    pub statuses: [u8; 32],
     pub words: [u32; 1024],
 }
 
@@ -26,7 +32,7 @@ pub fn run(
     schedule: &[u8],
     log: &mut [u8],
 ) -> Ran
-    ensures { λ r. ⌜ Promise (record { image = now (image .entry); cores = cores; arguments = now (arguments .entry); parameters = now (parameters .entry); memory = now (memory .entry); allowance = allowance }) (now (schedule .entry)) (now (log .entry)) r (now (memory .exit)) (now (log .exit)) ⌝ }
+    ensures { λ r. ⌜ RunPromise (inputOf (now (image .entry)) cores (now (arguments .entry)) (now (parameters .entry)) (now (memory .entry)) allowance) (now (schedule .entry)) (now (log .entry)) r (now (memory .exit)) (now (log .exit)) ⌝ }
 {
     let mut tables = [0u8; 712];
     let mut words = [0u32; 1024];
@@ -41,11 +47,11 @@ pub fn run(
         &mut tables,
         &mut words,
     );
-    let number = begun.number;
-    if number != 0 {
+    if begun.number != 0 {
         return Ran {
-            answer: RunAnswer::Refused(number),
-            tables,
+            answer: RunAnswer::Refused(begun.number),
+            counts: counts(&tables),
+            statuses: statuses(&tables),
             words,
         };
     }
@@ -61,10 +67,10 @@ pub fn run(
         &mut words,
         memory,
     );
-    let answer = answer(&tables);
     Ran {
-        answer,
-        tables,
+        answer: answer(&tables),
+        counts: counts(&tables),
+        statuses: statuses(&tables),
         words,
     }
 }

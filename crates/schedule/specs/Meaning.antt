@@ -35,6 +35,11 @@ entriesOf (k ∷ x ∷ y ∷ rest) =
 unfoldable pub scheduleOf : List ℕ → Schedule
 scheduleOf s = cond (ltb 32768 (length s)) malformed (entriesOf s)
 
+-- its entries; none of one that is malformed
+abbrev pub entriesIn : Schedule → List Entry
+entriesIn (entries es) = es
+entriesIn malformed = []
+
 -- document 01's number for a schedule: 13, or 0 where it is accepted
 abbrev pub numberOfSchedule : Schedule → ℕ
 numberOfSchedule (entries es) = 0

@@ -8,11 +8,12 @@ use Rattle.schedule.specs.Meaning.{entries, scheduleOf}
 use Rattle.schedule.specs.Format.{bytesOfEntries}
 use Rattle.rules.specs.Lists.{Every}
 use Rattle.rules.specs.Runs.{runFrom, logsFrom}
-use Rattle.tables.specs.Meaning.{meaning}
-use Rattle.demands.specs.declared.RunAnswer.the-variants.{Refused}
-use Rattle.demands.specs.Input.{Input, jobIn, startIn, refusalOf, answerOf, numberOfAnswer}
-use Rattle.demands.specs.Demands.{Demand3}
+use Rattle.serial.specs.Serial.{done}
+use Rattle.demands.specs.declared.RunAnswer.the-variants.{Refused, Finished}
+use Rattle.demands.specs.Input.{Input, jobIn, startIn, refusalOf, answerOf, numberOfAnswer, numberOfOutcome}
+use Rattle.demands.specs.Demands.{Demand3, serialIn}
 use Rattle.demands.specs.WholeRun.{SchedulerNumbers}
+use Rattle.run.specs.Machine.{MachineIs}
 use Rattle.rounds.specs.Rounds.{Progress, isWritten, scheduledFrom, filled}
 use Rattle.scheduler.specs.declared.Scheduled.{Scheduled}
 
@@ -24,20 +25,21 @@ refusalIn i = refusalOf i [] []
 abbrev pub scheduledOf : Input → ℕ → Progress
 scheduledOf i size = scheduledFrom (jobIn i) (startIn i) size
 
--- a run that is refused: its number alone, and nothing written; the tables beside it are as at Start
-pub record IsRefused (i : Input) (n : ℕ) (before : List ℕ) (r : Scheduled) (memoryAfter after : List ℕ) : Type 0 where
+-- a run that is refused: its number alone, and nothing written; what is given of the machine beside it is Start's
+pub record IsRefusedSchedule (i : Input) (n : ℕ) (before : List ℕ) (r : Scheduled) (memoryAfter after : List ℕ) : Type 0 where
   pub answer : r .answer ≡ Refused n
   pub number : numberOfAnswer (r .answer) ≡ n
   pub memory : memoryAfter ≡ i .memory
   pub buffer : after ≡ before
   pub used : r .used ≡ 0
-  pub machine : meaning (r .tables) (r .words) memoryAfter ≡ startIn i
+  pub machine : MachineIs (startIn i) (r .counts) (r .statuses) (r .words)
 
 -- the run of the scheduler: its state and its entries, which are written to the buffer's front
 pub record IsScheduled (p : Progress) (before : List ℕ) (r : Scheduled) (memoryAfter after : List ℕ) : Type 0 where
   pub answer : r .answer ≡ answerOf (p .state .outcome) (p .state .units)
+  pub number : numberOfAnswer (r .answer) ≡ numberOfOutcome (p .state .outcome)
   pub memory : memoryAfter ≡ p .state .store .memory
-  pub machine : meaning (r .tables) (r .words) memoryAfter ≡ p .state
+  pub machine : MachineIs (p .state) (r .counts) (r .statuses) (r .words)
   pub buffer : after ≡ filled before (p .written)
   pub used : r .used ≡ length (bytesOfEntries (p .written))
 
@@ -48,9 +50,11 @@ pub record EqualsRun (i : Input) (p : Progress) : Type 0 where
   pub logs : Every (λ n. isWritten n ≡ true) (logsFrom (jobIn i) (startIn i) (p .written))
   pub demand : Demand3 i (p .state)
 
-pub record Promise (i : Input) (before : List ℕ) (r : Scheduled) (memoryAfter after : List ℕ) : Type 0 where
-  pub refused : (refusalIn i ≡ 0 → ⊥) → IsRefused i (refusalIn i) before r memoryAfter after
+pub record SchedulerPromise (i : Input) (before : List ℕ) (r : Scheduled) (memoryAfter after : List ℕ) : Type 0 where
+  pub refused : (refusalIn i ≡ 0 → ⊥) → IsRefusedSchedule i (refusalIn i) before r memoryAfter after
   pub scheduled : refusalIn i ≡ 0 → IsScheduled (scheduledOf i (length before)) before r memoryAfter after
   pub equals : refusalIn i ≡ 0 → EqualsRun i (scheduledOf i (length before))
   -- each number of `refusalIn` exactly under its condition, so that good input is run
   pub numbers : SchedulerNumbers i
+  -- "result, units and every memory word equal the plain run's": of the answer, and of the memory as it now is
+  pub plain : (v u : ℕ) → r .answer ≡ Finished v u → serialIn i ≡ done v memoryAfter u

@@ -1,18 +1,15 @@
 -- Reads and stores of tables of the right size and of another, and one store after another. Assumes nothing.
 use mathlib.Core.List.{List}
-use mathlib.Core.Path.{_≡_, refl, ap, sym, _∙_}
+use mathlib.Core.Path.{_≡_, refl, ap, _∙_}
 use Prim.Native.Nat.{ℕ, _%_, _<_}
 use native.Mathlib.Nat.{mod-eq-of-lt}
-use native.Mathlib.Omega.{arith}
-use lib.ListN.{length, getD, replicate, length-replicate, getD-replicate}
-use lib.Seq.{ext-getD}
+use lib.ListN.{length}
 use Rattle.thread.specs.declared.Thread.{Thread}
 use Rattle.thread.specs.Thread.{blankThread}
 use Rattle.rules.specs.State.{State, threadAt, onCore}
 use Rattle.rules.specs.Update.{setThread, setCore}
 use Rattle.tables.specs.Meaning.{size, meaning}
 use Rattle.tables.specs.Change.{Reads, Becomes}
-use Rattle.tables.proofs.Meaning.{threads-long}
 
 module _ {A : Type 0} (xs : List ℕ) (part : State → A) (none : A) where
   pub unread : (length xs ≡ size → ⊥) → Reads xs none part none
@@ -59,11 +56,3 @@ module _ {xs : List ℕ} (l : length xs ≡ size) (words memory : List ℕ) wher
 
   pub core-stored : {ys : List ℕ} (c t : ℕ) → c < 4 → Becomes xs ys (setCore (c % 4) t) → meaning ys words memory ≡ setCore c t (meaning xs words memory)
   core-stored c t h e = e .means l words memory ∙ ap (λ (k : ℕ). setCore k t (meaning xs words memory)) (mod-eq-of-lt h)
-
--- all records, copied out one by one
-pub copied : (xs : List ℕ) (all : List Thread) → length all ≡ 32 → ((t : ℕ) → t < 32 → Reads xs (getD all t blankThread) (λ s. threadAt s (t % 32)) blankThread)
-    → Reads xs all (λ s. s .threads) (replicate 32 blankThread)
-copied xs all long f = record {
-  means = λ l words memory. ext-getD blankThread all _ (long ∙ sym (threads-long xs words memory)) (λ t h. thread-seen l words memory t _ (omega arith) (f t (omega arith)));
-  other = λ n. ext-getD blankThread all _ (long ∙ sym (length-replicate 32 blankThread)) (λ t h. f t (omega arith) .other n ∙ sym (getD-replicate 32 t blankThread blankThread (omega arith)));
-}

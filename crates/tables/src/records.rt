@@ -8,11 +8,13 @@ use thread::Thread;
 use thread::record::blank_thread;
 ghost use mathlib.Core.Path.{_≡_};
 ghost use Prim.Native.Nat.{_*_, _%_, _≤_};
-ghost use lib.ListN.{replicate};
 ghost use Rattle.thread.specs.Thread.{blankThread};
 ghost use Rattle.rules.specs.State.{threadAt};
 ghost use Rattle.rules.specs.Update.{setThread};
 ghost use Rattle.tables.specs.Change.{Reads, Becomes, movesOn};
+
+// The bytes of the thread table: it stands first in the tables, record after record.
+pub const THREADS: usize = 576;
 
 // Where thread t's record starts.
 fn place_of(t: u8) -> usize
@@ -31,21 +33,6 @@ pub fn thread_at(tables: &[u8], t: u8) -> Thread
     let a = place_of(t);
     let e = a + WIDE;
     read_record(&tables[a..e])
-}
-
-// All records, copied out once.
-pub fn threads(tables: &[u8]) -> [Thread; 32]
-    ensures { λ r. ⌜ Reads (now (tables .entry)) r (λ s. s .threads) (replicate 32 blankThread) ⌝ }
-{
-    let blank = blank_thread();
-    let mut all = [blank; 32];
-    let mut t: u8 = 0;
-    while t < 32 {
-        let h = thread_at(tables, t);
-        all[t as usize] = h;
-        t = t + 1;
-    }
-    all
 }
 
 // Thread t's record becomes th.

@@ -14,7 +14,7 @@ use Rattle.image.specs.Image.{imageVerdict, numberIn}
 use Rattle.schedule.specs.Meaning.{scheduleOf, numberOfSchedule}
 use Rattle.demands.specs.Input.{Input, badCores, badArguments, badWords, entryCount, refusalOf}
 use Rattle.reading.specs.Reading.{scheduleIn}
-use Rattle.transcript.specs.Job.{inputOf}
+use Rattle.transcript.specs.Job.{inputIn}
 use Rattle.transcript.specs.Transcript.{numberOfRun}
 
 first-eight : (v : Verdict) → numberIn v ≤ 8
@@ -45,5 +45,5 @@ roomy i s w e =
     (rw (w, le-ltb (length room) (entryCount (scheduleOf s)) l) at e)
 
 -- "Input that ends before the schedule gives `refused 25`", and nothing else does
-pub only-early : (input : List ℕ) → numberOfRun (inputOf input) (scheduleIn input) ≡ 25 → ⊥
-only-early input e = roomy (inputOf input) (scheduleIn input) refl e
+pub only-early : (input : List ℕ) → numberOfRun (inputIn input) (scheduleIn input) ≡ 25 → ⊥
+only-early input e = roomy (inputIn input) (scheduleIn input) refl e

@@ -10,8 +10,8 @@ use lib.ListN.{length, getD, take, drop, replicate, length-drop}
 use lib.Seq.{getD-take, take-all, take-nil, take-take, length-take-le}
 use Rattle.schedule.specs.Meaning.{malformed, scheduleOf}
 use Rattle.demands.specs.Input.{Input, entryCount, refusalOf}
-use Rattle.reading.specs.Reading.{pairAt, wordAt, wordsFrom, argumentCount, allowanceAt, lengthAt, imageAt, scheduleAt, scheduleIn}
-use Rattle.transcript.specs.Job.{inputOf}
+use Rattle.reading.specs.Reading.{pairAt, fourBytesAt, wordsFrom, argumentCount, allowanceAt, lengthAt, imageAt, scheduleAt, scheduleIn}
+use Rattle.transcript.specs.Job.{inputIn}
 use Rattle.transcript.specs.Transcript.{numberOfRun, runText, textOf}
 
 -- a schedule of more than 32,768 bytes is malformed, and all such have one text
@@ -41,7 +41,7 @@ drop-take (suc a) (suc m) (x ∷ s) = let e : suc m - suc a ≡ m - a = omega ar
 same-part : (a n m : ℕ) (s : List ℕ) → a + n ≤ m → take n (drop a (take m s)) ≡ take n (drop a s)
 same-part a n m s h = rw (drop-take a m s) (take-take n (m - a) (drop a s) (omega arith))
 
-same-word : (m : ℕ) (s : List ℕ) (at : ℕ) → at + 4 ≤ m → wordAt (take m s) at ≡ wordAt s at
+same-word : (m : ℕ) (s : List ℕ) (at : ℕ) → at + 4 ≤ m → fourBytesAt (take m s) at ≡ fourBytesAt s at
 same-word m s at h =
     rw (getD-take m s at 0 (omega arith), getD-take m s (at + 1) 0 (omega arith), getD-take m s (at + 2) 0 (omega arith), getD-take m s (at + 3) 0 (omega arith))
 
@@ -72,24 +72,24 @@ module _ (s : List ℕ) (bytes : (k : ℕ) → getD s k 0 < 256) (long : 99332 <
   same-arguments : wordsFrom (take 99332 s) 2 (argumentCount (take 99332 s)) ≡ wordsFrom s 2 (argumentCount s)
   same-arguments = rw same-count (same-words 99332 s 2 (argumentCount s) (omega (arith, bytes 1)))
 
-  same-allowance : wordAt (take 99332 s) (allowanceAt (take 99332 s)) ≡ wordAt s (allowanceAt s)
+  same-allowance : fourBytesAt (take 99332 s) (allowanceAt (take 99332 s)) ≡ fourBytesAt s (allowanceAt s)
   same-allowance =
-      ap (λ (n : ℕ). wordAt (take 99332 s) (2 + 4 * n)) same-count
+      ap (λ (n : ℕ). fourBytesAt (take 99332 s) (2 + 4 * n)) same-count
       ∙ same-word 99332 s (allowanceAt s) (omega (arith, bytes 1))
 
-  same-input : inputOf (take 99332 s) ≡ inputOf s
+  same-input : inputIn (take 99332 s) ≡ inputIn s
   same-input = rw (same-image, same-arguments, same-allowance, getD-take 99332 s 0 0 (omega arith))
 
   all-there : length (take 99332 s) ≡ 99332
   all-there = length-take-le 99332 s (omega arith)
 
-  runs-first : textOf (take 99332 s) ≡ runText (inputOf (take 99332 s)) (scheduleIn (take 99332 s))
+  runs-first : textOf (take 99332 s) ≡ runText (inputIn (take 99332 s)) (scheduleIn (take 99332 s))
   unfolding textOf
   runs-first =
       let l : scheduleAt (take 99332 s) ≤ length (take 99332 s) = omega (arith, all-there, early, same-place) in
       rw (le-ltb (length (take 99332 s)) (scheduleAt (take 99332 s)) l)
 
-  runs-all : textOf s ≡ runText (inputOf s) (scheduleIn s)
+  runs-all : textOf s ≡ runText (inputIn s) (scheduleIn s)
   unfolding textOf
   runs-all =
       let l : scheduleAt s ≤ length s = omega (arith, early) in
@@ -105,7 +105,7 @@ module _ (s : List ℕ) (bytes : (k : ℕ) → getD s k 0 < 256) (long : 99332 <
   cut =
       runs-first
       ∙ ap (λ (i : Input). runText i (scheduleIn (take 99332 s))) same-input
-      ∙ same-run (inputOf s) (scheduleIn (take 99332 s)) (scheduleIn s) (long-first ∙ sym long-all)
+      ∙ same-run (inputIn s) (scheduleIn (take 99332 s)) (scheduleIn s) (long-first ∙ sym long-all)
       ∙ sym runs-all
 
 by-length : (s : List ℕ) → ((k : ℕ) → getD s k 0 < 256) → Dec (length s ≤ 99332) → textOf (take 99332 s) ≡ textOf s

@@ -8,10 +8,10 @@ use borrow.Author.Tests.{lt-ltb, le-ltb}
 use lib.ListN.{length, set, take, drop, length-drop}
 use lib.Seq.{sets, take-nil, take-length}
 use Rattle.demands.specs.declared.RunAnswer.the-variants.{Refused}
-use Rattle.reading.specs.Reading.{pairAt, wordAt, wordsFrom, coreCount, argumentCount, allowanceAt, lengthAt, imageAt, scheduleAt, scheduleIn}
+use Rattle.reading.specs.Reading.{pairAt, fourBytesAt, wordsFrom, coreCount, argumentCount, allowanceAt, lengthAt, imageAt, scheduleAt, scheduleIn}
 use Rattle.text.specs.Buffer.{Put, Fills}
 use Rattle.transcript.specs.LastLine.{lastLine}
-use Rattle.transcript.specs.Job.{startingWith, inputOf}
+use Rattle.transcript.specs.Job.{startingWith, inputIn}
 use Rattle.transcript.specs.Transcript.{runText, textOf}
 use Rattle.transcript.specs.Writing.{overlaid, Prints}
 
@@ -46,9 +46,9 @@ prints-early input end w h {before} {after} {r} q =
 
 -- what the code lends to the run is what the input says
 module _ (input : List ℕ) (start end : ℕ) (v : start ≡ imageAt input) (w : end ≡ scheduleAt input)
-    (cores allowance count : ℕ) (words : List ℕ) (d : cores ≡ coreCount input) (a : allowance ≡ wordAt input (allowanceAt input)) (c : count ≡ argumentCount input)
+    (cores allowance count : ℕ) (words : List ℕ) (d : cores ≡ coreCount input) (a : allowance ≡ fourBytesAt input (allowanceAt input)) (c : count ≡ argumentCount input)
     (l : take (argumentCount input) words ≡ wordsFrom input 2 (argumentCount input)) where
-  given : startingWith (take (end - start) (drop start input)) cores (take count words) allowance ≡ inputOf input
+  given : startingWith (take (end - start) (drop start input)) cores (take count words) allowance ≡ inputIn input
   given =
       let s : end - start ≡ pairAt input (lengthAt input) = omega arith in
       rw (s, v, d, c, l, a)
@@ -58,5 +58,5 @@ module _ (input : List ℕ) (start end : ℕ) (v : start ≡ imageAt input) (w :
       → Prints input before after r
   unfolding textOf
   prints-run h {before} {after} {r} q =
-      let t : textOf input ≡ runText (inputOf input) (scheduleIn input) = rw (le-ltb (length input) (scheduleAt input) (rw w at h)) in
-      prints input (runText (inputOf input) (scheduleIn input)) before after r t (rw (sub-zero count, given, rest-of input end, w) at (q .put)) (q .few)
+      let t : textOf input ≡ runText (inputIn input) (scheduleIn input) = rw (le-ltb (length input) (scheduleAt input) (rw w at h)) in
+      prints input (runText (inputIn input) (scheduleIn input)) before after r t (rw (sub-zero count, given, rest-of input end, w) at (q .put)) (q .few)
