@@ -20,7 +20,7 @@ use Rattle.schedule.specs.Format.{bytesOfEntries}
 use Rattle.schedule.specs.Meaning.{Schedule, entries, malformed, scheduleOf, numberOfSchedule, IsSchedule, WellFormed}
 use Rattle.schedule.proofs.Forming.{means as schedule-means, malforms as schedule-malforms}
 use Rattle.rules.specs.State.{Outcome, going, finished, faulted}
-use Rattle.demands.specs.Input.{Input, badCores, entryCount, refusalOf, answerOf, numberOfAnswer, numberOfOutcome}
+use Rattle.demands.specs.Input.{Input, badCores, entryCount, refusalOf, answerOf, Numbered}
 use Rattle.demands.specs.WholeRun.{GoodCores, GoodImage, GoodArguments, RightWords, WrongWords, RunNumbers, SchedulerNumbers}
 
 -- the image's author's numbers
@@ -314,7 +314,7 @@ module _ (i : Input) where
   }
 
 -- ANSWERS. What a machine answers has its outcome's number
-pub number-told : (o : Outcome) (u : ℕ) → numberOfAnswer (answerOf o u) ≡ numberOfOutcome o
-number-told going u = refl
-number-told (finished v) u = refl
-number-told (faulted n t o) u = refl
+pub number-told : (o : Outcome) (u : ℕ) → Numbered o (answerOf o u)
+number-told going u = record { fault = λ n t o e. (let y : _≡_ {A = ℕ} 0 1 = cc in absurd (omega arith)); none = λ no. refl }
+number-told (finished v) u = record { fault = λ n t o e. (let y : _≡_ {A = ℕ} 0 1 = cc in absurd (omega arith)); none = λ no. refl }
+number-told (faulted n t o) u = record { fault = λ m t' o' e. cc; none = λ no. absurd (no n t o refl) }

@@ -1,6 +1,7 @@
 -- What a run is given, the whole-run tests, and what a run answers. Document 01, "Who can cause which number" and "Bench cases".
 use mathlib.Core.Bool.{Bool, cond, _||_, not}
 use mathlib.Core.List.{List}
+use mathlib.Core.Path.{_≡_}
 use Prim.Native.Nat.{ℕ}
 use lib.Dec.{ltb, eqb}
 use lib.ListN.{length}
@@ -76,8 +77,7 @@ numberOfAnswer (Finished v units) = 0
 numberOfAnswer (Faulted n t o) = n
 numberOfAnswer (Open units) = 0
 
--- and for each outcome: the fault's, 0 where there is none
-abbrev pub numberOfOutcome : Outcome → ℕ
-numberOfOutcome going = 0
-numberOfOutcome (finished v) = 0
-numberOfOutcome (faulted n t o) = n
+-- an answer's number where the machine ends so: the fault's where it has faulted, else 0
+pub record Numbered (end : Outcome) (answer : RunAnswer) : Type 0 where
+  pub fault : (n t o : ℕ) → end ≡ faulted n t o → numberOfAnswer answer ≡ n
+  pub none : ((n t o : ℕ) → ¬ (end ≡ faulted n t o)) → numberOfAnswer answer ≡ 0

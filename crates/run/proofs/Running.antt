@@ -22,7 +22,7 @@ use Rattle.play.proofs.Leading.{leads-all}
 use Rattle.soundness.proofs.StartSound.{start-sound}
 use Rattle.demands.proofs.Passing.{takes, good, has-room}
 use Rattle.demands.specs.declared.RunAnswer.the-variants.{Refused, Open}
-use Rattle.demands.specs.Input.{Input, jobIn, startIn, refusalOf, answerOf, numberOfAnswer}
+use Rattle.demands.specs.Input.{Input, jobIn, startIn, refusalOf, answerOf, Numbered}
 use Rattle.demands.proofs.WholeRun.{number-told}
 use Rattle.play.specs.Entries.{playable, Played}
 use Rattle.run.specs.declared.Ran.{Ran}
@@ -96,7 +96,7 @@ module _ (i : Input) (schedule log : List ℕ) where
               room .means,
               record {
                 answer = answer;
-                number = ap numberOfAnswer answer ∙ number-told (end .outcome) (end .units);
+                number = subst (Numbered (end .outcome)) (sym answer) (number-told (end .outcome) (end .units));
                 memory = ap (λ (s : State). s .store .memory) state;
                 log = q .log ∙ ap (λ (l : List Entry). logged log (logsFrom (jobIn i) (startIn i) l)) met;
                 machine = subst (λ (s : State). MachineIs s (r .counts) (r .statuses) (r .words)) state shows;

@@ -6,7 +6,7 @@ use Rattle.schedule.specs.declared.Entry.{Entry}
 use Rattle.schedule.specs.Meaning.{entries, scheduleOf}
 use Rattle.rules.specs.Runs.{logsFrom, logged}
 use Rattle.demands.specs.declared.RunAnswer.the-variants.{Refused}
-use Rattle.demands.specs.Input.{Input, jobIn, startIn, refusalOf, answerOf, numberOfAnswer, numberOfOutcome}
+use Rattle.demands.specs.Input.{Input, jobIn, startIn, refusalOf, answerOf, numberOfAnswer, Numbered}
 use Rattle.demands.specs.Demands.{stateAfter}
 use Rattle.run.specs.declared.Ran.{Ran}
 use Rattle.run.specs.Machine.{MachineIs}
@@ -22,7 +22,7 @@ pub record IsRefusedRun (i : Input) (n : ℕ) (logBefore : List ℕ) (r : Ran) (
 -- a run by entries: the fold's outcome and units, its memory, a log byte for each entry, and the machine at its end
 pub record IsPlayed (i : Input) (es : List Entry) (logBefore : List ℕ) (r : Ran) (memoryAfter logAfter : List ℕ) : Type 0 where
   pub answer : r .answer ≡ answerOf (stateAfter i es .outcome) (stateAfter i es .units)
-  pub number : numberOfAnswer (r .answer) ≡ numberOfOutcome (stateAfter i es .outcome)
+  pub number : Numbered (stateAfter i es .outcome) (r .answer)
   pub memory : memoryAfter ≡ stateAfter i es .store .memory
   pub log : logAfter ≡ logged logBefore (logsFrom (jobIn i) (startIn i) es)
   pub machine : MachineIs (stateAfter i es) (r .counts) (r .statuses) (r .words)

@@ -11,7 +11,7 @@ use Rattle.tables.specs.Meaning.{size, meaning}
 use Rattle.entries.specs.Given.{Sounding}
 use Rattle.start.specs.Start.{Starts}
 use Rattle.demands.specs.declared.RunAnswer.the-variants.{Refused}
-use Rattle.demands.specs.Input.{Input, jobIn, startIn, answerOf, numberOfAnswer}
+use Rattle.demands.specs.Input.{Input, jobIn, startIn, answerOf, Numbered}
 use Rattle.demands.proofs.WholeRun.{scheduler-numbers, number-told}
 use Rattle.begin.specs.declared.Begun.{Begun}
 use Rattle.begin.specs.Begins.{Begins}
@@ -69,7 +69,7 @@ module _ (i : Input) (b : Begun) (xs ys ws vs : List ℕ) (begun : Begins i [] [
           refused = λ n. absurd (n passes);
           scheduled = λ z. record {
             answer = answer;
-            number = ap numberOfAnswer answer ∙ number-told (end .outcome) (end .units);
+            number = subst (Numbered (end .outcome)) (sym answer) (number-told (end .outcome) (end .units));
             memory = memory;
             machine = subst (λ (s : State). MachineIs s (x .counts) (x .statuses) (x .words)) (p .state) shows;
             buffer = p .buffer;

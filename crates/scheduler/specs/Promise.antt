@@ -10,7 +10,7 @@ use Rattle.rules.specs.Lists.{Every}
 use Rattle.rules.specs.Runs.{runFrom, logsFrom}
 use Rattle.serial.specs.Serial.{done}
 use Rattle.demands.specs.declared.RunAnswer.the-variants.{Refused, Finished}
-use Rattle.demands.specs.Input.{Input, jobIn, startIn, refusalOf, answerOf, numberOfAnswer, numberOfOutcome}
+use Rattle.demands.specs.Input.{Input, jobIn, startIn, refusalOf, answerOf, numberOfAnswer, Numbered}
 use Rattle.demands.specs.Demands.{Demand3, serialIn}
 use Rattle.demands.specs.WholeRun.{SchedulerNumbers}
 use Rattle.run.specs.Machine.{MachineIs}
@@ -37,7 +37,7 @@ pub record IsRefusedSchedule (i : Input) (n : ℕ) (before : List ℕ) (r : Sche
 -- the run of the scheduler: its state and its entries, which are written to the buffer's front
 pub record IsScheduled (p : Progress) (before : List ℕ) (r : Scheduled) (memoryAfter after : List ℕ) : Type 0 where
   pub answer : r .answer ≡ answerOf (p .state .outcome) (p .state .units)
-  pub number : numberOfAnswer (r .answer) ≡ numberOfOutcome (p .state .outcome)
+  pub number : Numbered (p .state .outcome) (r .answer)
   pub memory : memoryAfter ≡ p .state .store .memory
   pub machine : MachineIs (p .state) (r .counts) (r .statuses) (r .words)
   pub buffer : after ≡ filled before (p .written)
