@@ -48,5 +48,6 @@ windowCells w = (w .lo % 256) ∷ (w .lo / 256) ∷ (w .mark % 256) ∷ (w .mark
 -- the cells of a record
 abbrev pub cellsOf : Thread → List ℕ
 cellsOf h =
-    (h .position % 256) ∷ (h .position / 256) ∷ statusNumber (h .status) ∷ bitOf (h .connected) ∷ h .origin .routine ∷ h .origin .parent ∷ h .origin .result ∷ h .family .children
+    (h .position % 256) ∷ (h .position / 256) ∷ statusNumber (h .status) ∷ bitOf (h .connected) ∷ h .origin .routine ∷ h .origin .parent
+    ∷ h .origin .result ∷ h .family .children
     ∷ (h .origin .base % 256) ∷ (h .origin .base / 256) ∷ windowCells (h .family .window) ++ ((h .family .pending % 256) ∷ (h .family .pending / 256) ∷ [])

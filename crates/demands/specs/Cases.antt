@@ -7,10 +7,11 @@ use lib.Dec.{eqb}
 use lib.ListN.{replicate}
 use Rattle.image.specs.Cases.{oneRoutine, whole}
 use Rattle.schedule.specs.Meaning.{scheduleOf, entriesIn}
-use Rattle.rules.specs.Runs.{runFrom, logsFrom}
+use Rattle.rules.specs.Runs.{logsFrom}
 use Rattle.demands.specs.declared.RunAnswer.{RunAnswer}
 use Rattle.demands.specs.declared.RunAnswer.the-variants.{Refused, Finished, Open}
 use Rattle.demands.specs.Input.{Input, inputOf, jobIn, startIn, refusalOf, answerOf}
+use Rattle.demands.specs.Demands.{stateAfter}
 
 -- a row of the table
 pub record Case : Type 0 where
@@ -59,7 +60,7 @@ starred =
 abbrev pub answered : Input → List ℕ → RunAnswer
 answered i schedule =
     cond (eqb (refusalOf i schedule (replicate 64 0)) 0)
-    (answerOf (runFrom (jobIn i) (startIn i) (entriesIn (scheduleOf schedule)) .outcome) (runFrom (jobIn i) (startIn i) (entriesIn (scheduleOf schedule)) .units))
+    (answerOf (stateAfter i (entriesIn (scheduleOf schedule)) .outcome) (stateAfter i (entriesIn (scheduleOf schedule)) .units))
     (Refused (refusalOf i schedule (replicate 64 0)))
 
 abbrev pub loggedBy : Input → List ℕ → List ℕ

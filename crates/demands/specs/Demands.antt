@@ -67,7 +67,8 @@ pub record Demand2 (i : Input) (es : List Entry) (logs : List ℕ) : Type 0 wher
   -- "and meets a refusal only under that number's condition"
   pub numbers : (before after : List Entry) → es ≡ before ++ after → Numbers (jobIn i) (stateAfter i before)
   -- "A written command reads back as itself", whatever follows it
-  pub back : (command : Command) (rest : List ℕ) → OperandsFit command → commandAt (bytesOfCommand command ++ rest) 0 ≡ Found command (length (bytesOfCommand command))
+  pub back : (command : Command) (rest : List ℕ) → OperandsFit command
+      → commandAt (bytesOfCommand command ++ rest) 0 ≡ Found command (length (bytesOfCommand command))
   -- "and an accepted command's bytes are written again unchanged"
   pub again : (bytes : List ℕ) → ((k : ℕ) → getD bytes k 0 < 256) → (at : ℕ) (command : Command) (n : ℕ) → commandAt bytes at ≡ Found command n
       → bytesOfCommand command ≡ take n (drop at bytes)

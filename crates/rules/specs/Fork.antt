@@ -43,7 +43,8 @@ childGoes Stolen c n s = setCore c n s
 -- "goes above its parent's frame when an lfork makes it, the parent's frame is topmost there and it fits": not for a steal
 unfoldable pub goesAbove : Job → State → ForkKind → Thread → ℕ → Bool
 goesAbove j s kind h r =
-    isConnected kind && (isTopmost (s .store .tops) (h .origin .base) (slotsOf (j .image) (h .origin .routine)) && fitsOn (s .store .tops) (h .origin .base / 64) (slotsOf (j .image) r))
+    isConnected kind && (isTopmost (s .store .tops) (h .origin .base) (slotsOf (j .image) (h .origin .routine))
+    && fitsOn (s .store .tops) (h .origin .base / 64) (slotsOf (j .image) r))
 
 -- the stacklet of a new frame, with the free stacklets that are left: "otherwise on a free stacklet"
 pub data Placement : Type 0 where

@@ -8,6 +8,7 @@ use lib.Dec.{eqb}
 use lib.ListN.{length}
 use Rattle.image.specs.Layout.{routineCount, slotsOf, codeOf}
 use Rattle.image.specs.Code.{commandsOf, isStart}
+use Rattle.window.specs.declared.Window.{Window}
 use Rattle.window.specs.Rights.{Fits}
 use Rattle.stacklets.specs.Layout.{Apart, Under}
 use Rattle.stacklets.specs.Tops.{topAt}
@@ -23,6 +24,16 @@ use Rattle.rules.specs.Lists.{Every, Member, Distinct}
 -- thread t is in use: any status but free, whose number is 0
 abbrev pub Used : State → ℕ → Type 0
 Used s t = 0 < statusAt s t
+
+-- thread t's parent, its frame's first word and its window
+abbrev pub parentAt : State → ℕ → ℕ
+parentAt s t = threadAt s t .origin .parent
+
+abbrev pub baseAt : State → ℕ → ℕ
+baseAt s t = threadAt s t .origin .base
+
+abbrev pub windowHeld : State → ℕ → Window
+windowHeld s t = threadAt s t .family .window
 
 -- the number of words in thread t's frame
 abbrev pub sizeAt : Job → State → ℕ → ℕ
@@ -55,10 +66,10 @@ pub record Seats (s : State) : Type 0 where
 
 -- "lent threads and connected children, these running or lent, match"
 pub record Links (s : State) : Type 0 where
-  pub lent : (p : ℕ) → IsLent s p → (u : ℕ) × (threadAt s u .connected ≡ true) × (threadAt s u .origin .parent ≡ p)
+  pub lent : (p : ℕ) → IsLent s p → (u : ℕ) × (threadAt s u .connected ≡ true) × (parentAt s u ≡ p)
   pub linked : (u : ℕ) → threadAt s u .connected ≡ true
-      → (IsRunning s u ⊎ IsLent s u) × IsLent s (threadAt s u .origin .parent)
-  pub only : (u v : ℕ) → threadAt s u .connected ≡ true → threadAt s v .connected ≡ true → threadAt s u .origin .parent ≡ threadAt s v .origin .parent → u ≡ v
+      → (IsRunning s u ⊎ IsLent s u) × IsLent s (parentAt s u)
+  pub only : (u v : ℕ) → threadAt s u .connected ≡ true → threadAt s v .connected ≡ true → parentAt s u ≡ parentAt s v → u ≡ v
 
 -- "a ready thread stands once in the line .. and nothing else does"
 pub record Turns (s : State) : Type 0 where
@@ -68,7 +79,7 @@ pub record Turns (s : State) : Type 0 where
 
 -- the used children of thread t among the first n threads
 abbrev pub isChild : State → ℕ → ℕ → ℕ
-isChild s t u = cond (threadAt s u .status is Free) 0 (cond (eqb (threadAt s u .origin .parent) t) 1 0)
+isChild s t u = cond (threadAt s u .status is Free) 0 (cond (eqb (parentAt s u) t) 1 0)
 
 unfoldable pub childrenAmong : State → ℕ → ℕ → ℕ
 childrenAmong s t zero = 0
@@ -83,23 +94,23 @@ pub record Tree (s : State) : Type 0 where
   pub deep : ℕ
   pub low : (t : ℕ) → rank t < deep
   pub tree : (t : ℕ) → Used s t
-      → ((t ≡ 0) × (threadAt s t .origin .parent ≡ none)) ⊎ ((t ≡ 0 → ⊥) × Used s (threadAt s t .origin .parent) × (rank (threadAt s t .origin .parent) < rank t))
+      → ((t ≡ 0) × (parentAt s t ≡ none)) ⊎ ((t ≡ 0 → ⊥) × Used s (parentAt s t) × (rank (parentAt s t) < rank t))
   pub root : ((v : ℕ) → s .outcome ≡ finished v → ⊥) → Used s 0
   pub over : (v : ℕ) → s .outcome ≡ finished v → (t : ℕ) → IsFree s t
 
 -- "unended children's result slots are pending and distinct"
 pub record Results (s : State) : Type 0 where
-  pub pending : (u : ℕ) → Used s u → (u ≡ 0 → ⊥) → isPending (threadAt s (threadAt s u .origin .parent) .family .pending) (threadAt s u .origin .result) ≡ true
-  pub distinct : (u v : ℕ) → Used s u → Used s v → threadAt s u .origin .parent ≡ threadAt s v .origin .parent → threadAt s u .origin .result ≡ threadAt s v .origin .result → u ≡ v
+  pub pending : (u : ℕ) → Used s u → (u ≡ 0 → ⊥) → isPending (threadAt s (parentAt s u) .family .pending) (threadAt s u .origin .result) ≡ true
+  pub distinct : (u v : ℕ) → Used s u → Used s v → parentAt s u ≡ parentAt s v → threadAt s u .origin .result ≡ threadAt s v .origin .result → u ≡ v
 
 -- windows are good; the root's is 32 to 1,024; children's "lie apart in what the parent cut off"
 pub record Windows (s : State) : Type 0 where
-  pub fits : (t : ℕ) → Used s t → Fits (threadAt s t .family .window)
-  pub root : Used s 0 → (threadAt s 0 .family .window .lo ≡ 32) × (threadAt s 0 .family .window .hi ≡ 1024)
+  pub fits : (t : ℕ) → Used s t → Fits (windowHeld s t)
+  pub root : Used s 0 → (windowHeld s 0 .lo ≡ 32) × (windowHeld s 0 .hi ≡ 1024)
   pub inside : (u : ℕ) → Used s u → (u ≡ 0 → ⊥)
-      → (threadAt s (threadAt s u .origin .parent) .family .window .lo ≤ threadAt s u .family .window .lo) × (threadAt s u .family .window .hi ≤ threadAt s (threadAt s u .origin .parent) .family .window .mark)
-  pub apart : (u v : ℕ) → Used s u → Used s v → (u ≡ v → ⊥) → threadAt s u .origin .parent ≡ threadAt s v .origin .parent
-      → (threadAt s u .family .window .hi ≤ threadAt s v .family .window .lo) ⊎ (threadAt s v .family .window .hi ≤ threadAt s u .family .window .lo)
+      → (windowHeld s (parentAt s u) .lo ≤ windowHeld s u .lo) × (windowHeld s u .hi ≤ windowHeld s (parentAt s u) .mark)
+  pub apart : (u v : ℕ) → Used s u → Used s v → (u ≡ v → ⊥) → parentAt s u ≡ parentAt s v
+      → (windowHeld s u .hi ≤ windowHeld s v .lo) ⊎ (windowHeld s v .hi ≤ windowHeld s u .lo)
 
 -- "each thread number .. is either in use or once in its free line"
 pub record FreeThreads (s : State) : Type 0 where
@@ -109,16 +120,16 @@ pub record FreeThreads (s : State) : Type 0 where
 
 -- "frames on a stacklet do not overlap and each above the lowest belongs to a child of the thread below it"
 pub record Frames (j : Job) (s : State) : Type 0 where
-  pub bounded : (t : ℕ) → Used s t → threadAt s t .origin .base < 1024
+  pub bounded : (t : ℕ) → Used s t → baseAt s t < 1024
   pub most : (x : ℕ) → topAt (s .store .tops) x ≤ 64
-  pub under : (t : ℕ) → Used s t → Under (s .store .tops) (threadAt s t .origin .base) (sizeAt j s t)
-  pub apart : (t u : ℕ) → Used s t → Used s u → (t ≡ u → ⊥) → Apart (threadAt s t .origin .base) (sizeAt j s t) (threadAt s u .origin .base) (sizeAt j s u)
-  pub stacked : (t : ℕ) → Used s t → (threadAt s t .origin .base % 64 ≡ 0)
-      ⊎ (Used s (threadAt s t .origin .parent) × (threadAt s (threadAt s t .origin .parent) .origin .base + sizeAt j s (threadAt s t .origin .parent) ≡ threadAt s t .origin .base))
+  pub under : (t : ℕ) → Used s t → Under (s .store .tops) (baseAt s t) (sizeAt j s t)
+  pub apart : (t u : ℕ) → Used s t → Used s u → (t ≡ u → ⊥) → Apart (baseAt s t) (sizeAt j s t) (baseAt s u) (sizeAt j s u)
+  pub stacked : (t : ℕ) → Used s t → (baseAt s t % 64 ≡ 0)
+      ⊎ (Used s (parentAt s t) × (baseAt s (parentAt s t) + sizeAt j s (parentAt s t) ≡ baseAt s t))
 
 -- no thread's frame is on stacklet x
 abbrev pub Unused : State → ℕ → Type 0
-Unused s x = (t : ℕ) → Used s t → threadAt s t .origin .base / 64 ≡ x → ⊥
+Unused s x = (t : ℕ) → Used s t → baseAt s t / 64 ≡ x → ⊥
 
 -- "each stacklet is either in use or once in its free line"
 pub record FreeStacklets (s : State) : Type 0 where

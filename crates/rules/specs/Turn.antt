@@ -9,7 +9,7 @@ use Rattle.stacklets.specs.Frames.{slotOf}
 use Rattle.thread.specs.declared.Thread.{Thread}
 use Rattle.thread.specs.declared.Effect.{Effect}
 use Rattle.thread.specs.Job.{offsetAt, byteAt}
-use Rattle.thread.specs.Effect.{effectOf}
+use Rattle.thread.specs.Effect.{Context, effectOf}
 use Rattle.thread.specs.View.{contextOf}
 use Rattle.thread.specs.Thread.{isPending, movedTo}
 use Rattle.rules.specs.State.{Job, State, After, faulted, threadAt}
@@ -43,10 +43,13 @@ turnAt j s c t = record {
   offset = offsetOf j (threadAt s t);
 }
 
+-- what a thread's command may look at
+abbrev pub contextIn : State → Thread → Context
+contextIn s h = contextOf (slotOf (s .store .words) (h .origin .base)) (isPending (h .family .pending)) (h .family .window)
+
 -- what the next command of a thread does to it
 unfoldable pub effectAt : Job → State → Thread → Effect
-effectAt j s h =
-    effectOf (argumentsOf (j .image)) (contextOf (slotOf (s .store .words) (h .origin .base)) (isPending (h .family .pending)) (h .family .window)) (decodedAt (j .image) (offsetOf j h))
+effectAt j s h = effectOf (argumentsOf (j .image)) (contextIn s h) (decodedAt (j .image) (offsetOf j h))
 
 -- "22: units plus the command's weight pass the allowance"
 abbrev pub tooDear : Job → State → Turn → Bool

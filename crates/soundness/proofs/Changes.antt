@@ -18,9 +18,6 @@ use Rattle.rules.specs.Sound.{Used}
 abbrev pub connectedAt : State → ℕ → Bool
 connectedAt s t = threadAt s t .connected
 
-abbrev pub parentAt : State → ℕ → ℕ
-parentAt s t = threadAt s t .origin .parent
-
 abbrev pub childrenAt : State → ℕ → ℕ
 childrenAt s t = threadAt s t .family .children
 

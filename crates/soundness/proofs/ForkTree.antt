@@ -12,8 +12,8 @@ use borrow.Author.Tests.{eqb-true, eqb-false, eq-eqb, ne-eqb}
 use Rattle.thread.specs.declared.Thread.{Thread}
 use Rattle.thread.specs.Thread.{none}
 use Rattle.rules.specs.State.{State, finished, threadAt}
-use Rattle.rules.specs.Sound.{statusAt, Used, isChild, childrenAmong, Tree}
-use Rattle.soundness.proofs.Changes.{standing, parentAt, childrenAt, used-low}
+use Rattle.rules.specs.Sound.{statusAt, Used, isChild, childrenAmong, Tree, parentAt}
+use Rattle.soundness.proofs.Changes.{standing, childrenAt, used-low}
 
 -- the machine has not finished
 abbrev pub Unfinished : State → Type 0

@@ -10,9 +10,9 @@ use native.Mathlib.Omega.{arith}
 use Rattle.thread.specs.Thread.{none}
 use Rattle.rules.specs.State.{Job, State, going, isOver, threadAt, onCore}
 use Rattle.rules.specs.Rules.{stepOf, takeOf}
-use Rattle.rules.specs.Sound.{statusAt, Used, Sound}
+use Rattle.rules.specs.Sound.{statusAt, Used, Sound, parentAt}
 use Rattle.soundness.proofs.Entries.{not-over}
-use Rattle.soundness.proofs.Changes.{status-most, connectedAt, parentAt, used-low}
+use Rattle.soundness.proofs.Changes.{status-most, connectedAt, used-low}
 use Rattle.soundness.proofs.LentThreads.{not-both}
 use Rattle.soundness.proofs.ForkTree.{Unfinished, child-some, among-some}
 use Rattle.soundness.proofs.Tested.{fault-tested}

@@ -16,8 +16,8 @@ use Rattle.thread.specs.Thread.{blankThread, withStatus, disconnected, statusNu
 use Rattle.rules.specs.State.{State, threadAt, onCore}
 use Rattle.rules.specs.Update.{setThread, setCore, enqueueReady}
 use Rattle.rules.specs.Leave.{runs, leaves}
-use Rattle.rules.specs.Sound.{statusAt}
-use Rattle.soundness.proofs.Changes.{standing, connectedAt, parentAt, childrenAt, one-changed, two-changed, used-below}
+use Rattle.rules.specs.Sound.{statusAt, parentAt}
+use Rattle.soundness.proofs.Changes.{standing, connectedAt, childrenAt, one-changed, two-changed, used-below}
 use Rattle.soundness.proofs.CoreSeats.{Same, same-refl, neither, Seat, came, went, sits, seats-move}
 use Rattle.soundness.proofs.LentThreads.{Bound, bound-refl, not-both, links-same, Cut, off, again, stays, links-cut}
 use Rattle.soundness.proofs.LineNumbers.{Lined, lined-same, lined-gave, turns-lined}

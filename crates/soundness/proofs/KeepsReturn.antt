@@ -19,8 +19,8 @@ use Rattle.rules.specs.State.{Job, State, finished, threadAt, onCore}
 use Rattle.rules.specs.Update.{setThread, setCore, setReady, setSlot}
 use Rattle.rules.specs.Turn.{turnAt}
 use Rattle.rules.specs.Return.{freed, wakes, statusAfter, readyAfter, returnToParent, returnOf}
-use Rattle.rules.specs.Sound.{statusAt, Used, Seats, Links}
-use Rattle.soundness.proofs.Changes.{standing, connectedAt, parentAt, childrenAt, one-changed, two-changed, used-low, used-below}
+use Rattle.rules.specs.Sound.{statusAt, Used, Seats, Links, parentAt}
+use Rattle.soundness.proofs.Changes.{standing, connectedAt, childrenAt, one-changed, two-changed, used-low, used-below}
 use Rattle.soundness.proofs.CoreSeats.{Same, same-refl, neither, Seat, came, went, sits, seats-move}
 use Rattle.soundness.proofs.LentThreads.{Bound, bound-refl, not-both, links-same, Cut, off, again, stays, links-cut}
 use Rattle.soundness.proofs.LineNumbers.{Lined, lined-same, lined-gave, lined-turns, turns-lined, lined-free, free-lined}

@@ -7,8 +7,8 @@ use Prim.Native.Nat.{ℕ}
 use native.Mathlib.Omega.{arith}
 use Rattle.thread.specs.declared.Thread.{Thread}
 use Rattle.rules.specs.State.{State, threadAt}
-use Rattle.rules.specs.Sound.{statusAt, Links}
-use Rattle.soundness.proofs.Changes.{standing, connectedAt, parentAt}
+use Rattle.rules.specs.Sound.{statusAt, Links, parentAt}
+use Rattle.soundness.proofs.Changes.{standing, connectedAt}
 use Rattle.soundness.proofs.CoreSeats.{Same, same-refl}
 
 pub not-both : (b : Bool) → b ≡ true → b ≡ false → ⊥

@@ -10,8 +10,8 @@ use lib.ListN.{length}
 use Rattle.thread.specs.declared.Thread.{Thread}
 use Rattle.thread.specs.Thread.{isPending}
 use Rattle.rules.specs.State.{State, threadAt}
-use Rattle.rules.specs.Sound.{statusAt, Used, Tree, Results}
-use Rattle.soundness.proofs.Changes.{parentAt, pendingAt, resultAt, used-low}
+use Rattle.rules.specs.Sound.{statusAt, Used, Tree, Results, parentAt}
+use Rattle.soundness.proofs.Changes.{pendingAt, resultAt, used-low}
 use Rattle.soundness.proofs.LentThreads.{not-both}
 use Rattle.soundness.proofs.ForkTree.{Stays, Childless}
 

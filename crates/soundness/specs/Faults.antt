@@ -7,12 +7,9 @@ use Rattle.command.specs.Command.{decodedAt}
 use Rattle.command.specs.declared.Command.{Command}
 use Rattle.command.specs.declared.Command.the-variants.{Set, Add, Subtract, Load, Store, JumpIfZero, Jump, Lfork, Fork, Join, Suspend, Yield, Return}
 use Rattle.image.specs.Layout.{argumentsOf}
-use Rattle.stacklets.specs.Frames.{slotOf}
 use Rattle.thread.specs.Effect.{Context, run, anyPending}
-use Rattle.thread.specs.Thread.{isPending}
-use Rattle.thread.specs.View.{contextOf}
 use Rattle.rules.specs.State.{Job, State, threadAt}
-use Rattle.rules.specs.Turn.{offsetOf}
+use Rattle.rules.specs.Turn.{offsetOf, contextIn}
 
 module _ (arguments : ℕ → ℕ) (own : Context) where
   -- the slots that a command reads or writes ("a fork writes its d"); a return has a test of its own
@@ -105,7 +102,7 @@ module _ (j : Job) (s : State) (t : ℕ) where
   commandOf = decodedAt (j .image) (offsetOf j (threadAt s t))
 
   abbrev pub contextAt : Context
-  contextAt = contextOf (slotOf (s .store .words) (threadAt s t .origin .base)) (isPending (threadAt s t .family .pending)) (threadAt s t .family .window)
+  contextAt = contextIn s (threadAt s t)
 
   -- a condition of it
   abbrev pub Next : ((ℕ → ℕ) → Context → Command → Type 0) → Type 0

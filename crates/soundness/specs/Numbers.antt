@@ -47,7 +47,8 @@ FewThreads j s c = Stepped j s c (onCore s c) × (kind : ForkKind) × (r : ℕ) 
 
 -- thread t's frame "is topmost there": it ends, within its stacklet of 64 words, where that stacklet's frames end
 abbrev pub IsTopmost : Job → State → ℕ → Type 0
-IsTopmost j s t = threadAt s t .origin .base % 64 + slotsOf (j .image) (threadAt s t .origin .routine) ≡ topAt (s .store .tops) (threadAt s t .origin .base / 64)
+IsTopmost j s t =
+    threadAt s t .origin .base % 64 + slotsOf (j .image) (threadAt s t .origin .routine) ≡ topAt (s .store .tops) (threadAt s t .origin .base / 64)
 
 -- "and it fits": a frame of routine r, "as many words as the routine has slots", above those on thread t's stacklet; "16 stacklets of 64 words"
 abbrev pub FitsAbove : Job → State → ℕ → ℕ → Type 0
