@@ -102,32 +102,26 @@ fn burst(
     requires { ⌜ Busy (now image) (now starts) (now parameters) allowance (now tables) (now words) (now memory) c t ⌝ }
     ensures { λ r. ⌜ Repeats (jobOf (now (image .entry)) (now (starts .entry)) (now (parameters .entry)) allowance) (meaning (now (tables .entry)) (now (words .entry)) (now (memory .entry))) (Step c) more r (meaning (now (tables .exit)) (now (words .exit)) (now (memory .exit))) ⌝ }
 {
-    let th = thread_at(tables, t);
-    let start = place_in_image(starts, th.origin.routine, 0);
-    let window = th.family.window;
+    let h = thread_at(tables, t);
+    let start = place_in_image(starts, h.origin.routine, 0);
+    let held = h.family.window;
     // held by the loop: a constant table is laid out anew where it is named
     let weights = weights();
-    let mut position = th.position;
+    let mut position = h.position;
     let mut left = allowance - units(tables);
     let mut rest = more;
     loop {
         let place = start + (position as usize);
         let five = five_at(image, place);
         let cost = weights[five[0] as usize];
-        let waits = must_wait(five[0], th.family.children);
+        let waits = must_wait(five[0], h.family.children);
         if falls_short(left, cost) {
             put_back(tables, t, position, allowance - left);
             return told(more - rest, fall_short(tables, c, t, waits));
         }
-        let done = effect(
-            command_of(five),
-            image,
-            words,
-            th.origin.base,
-            th.family.pending,
-            window,
-        );
-        let own = carry_own(done, position, th.origin.base, parameters, words, memory);
+        let command = command_of(five);
+        let done = effect(command, image, words, h.origin.base, h.family.pending, held);
+        let own = carry_own(done, position, h.origin.base, parameters, words, memory);
         match own {
             Own::Moved(next) => {
                 position = next;
