@@ -4,7 +4,8 @@
 #   bench/run.sh test [CASES] [SEED]   the same, so many cases from a seed
 #   bench/run.sh print [CASES] [SEED]  the print program on random inputs against the second implementation's lines
 #   bench/run.sh measure               benchmarks; writes docs/BENCHMARKS.md and docs/benchmarks.svg
-# It needs rt and cargo, and no network; measure counts instructions where valgrind is there. It is no part of the gate.
+#   bench/run.sh wrong [PATTERN]       wrong versions of the code and of the rules (bench/wrong), each of which a check must refuse
+# It needs rt and cargo (wrong: rt alone), and no network; measure counts instructions where valgrind is there. It is no part of the gate.
 set -eu
 cd "$(dirname "$0")/.."
 what=${1:-test}
@@ -37,8 +38,11 @@ measure)
     build
     exec bench/target/release/measure docs
     ;;
+wrong)
+    exec bench/wrong.sh "$@"
+    ;;
 *)
-    echo "usage: bench/run.sh [test [CASES] [SEED] | print [CASES] [SEED] | measure]" >&2
+    echo "usage: bench/run.sh [test [CASES] [SEED] | print [CASES] [SEED] | measure | wrong [PATTERN]]" >&2
     exit 2
     ;;
 esac
