@@ -4,7 +4,7 @@
 #   bench/run.sh test [CASES] [SEED]   the same, so many cases from a seed
 #   bench/run.sh print [CASES] [SEED]  the print program on random inputs against the second implementation's lines
 #   bench/run.sh measure               benchmarks; writes docs/BENCHMARKS.md and docs/benchmarks.svg
-#   bench/run.sh wrong [PATTERN]       wrong versions of the code and of the rules (bench/wrong), each of which a check must refuse
+#   bench/run.sh wrong [PATTERN..]     wrong versions of the code and of the rules (bench/wrong), each of which a check must refuse
 # It needs rt and cargo (wrong: rt alone), and no network; measure counts instructions where valgrind is there. It is no part of the gate.
 set -eu
 cd "$(dirname "$0")/.."
@@ -42,7 +42,7 @@ wrong)
     exec bench/wrong.sh "$@"
     ;;
 *)
-    echo "usage: bench/run.sh [test [CASES] [SEED] | print [CASES] [SEED] | measure | wrong [PATTERN]]" >&2
+    echo "usage: bench/run.sh [test [CASES] [SEED] | print [CASES] [SEED] | measure | wrong [PATTERN..]]" >&2
     exit 2
     ;;
 esac

@@ -1,6 +1,6 @@
 #!/usr/bin/env bash
 # Wrong versions of the code and of the rules, each of which a check must refuse. No part of the gate.
-#   bench/wrong.sh [PATTERN]    the edits bench/wrong/CRATE/NAME.edit; only those whose CRATE/NAME fits a shell pattern
+#   bench/wrong.sh [PATTERN..]    the edits bench/wrong/CRATE/NAME.edit; only those whose CRATE/NAME fits one of some shell patterns
 # An edit has the form of crates/*/must-fail/*.edit, and may say `refused by: OTHER`: its own crate still holds with it, and the crate OTHER
 # above must refuse it, by a proof or, where it is a program of cases, by what it prints. Each is applied to a copy of the repository in
 # target/wrong, where the crates count as proved as far as they do here: so run `rt check` first. A crate is checked over its incremental
@@ -11,7 +11,7 @@ cd "$(dirname "$0")/.."
 root=$(pwd -P)
 place=$root/target/wrong
 jobs=${WRONG_JOBS:-2}
-pattern=${1:-*}
+[ $# -gt 0 ] || set -- '*'
 
 field() { sed -n "s/^$1: //p" "$2" | head -n 1; } # NAME EDIT
 
@@ -125,8 +125,10 @@ start=$(date +%s) last=''
 for edit in bench/wrong/*/*.edit; do
     name=${edit#bench/wrong/}
     name=${name%.edit}
+    fits=''
     # shellcheck disable=SC2254
-    case $name in $pattern) ;; *) continue ;; esac
+    for pattern; do case $name in $pattern) fits=1 ;; esac; done
+    [ -n "$fits" ] || continue
     if [ "${name%/*}" != "$last" ]; then
         last=${name%/*}
         rt dev "$last" >/dev/null 2>&1 || { echo "bench/wrong.sh: $last is not proved" >&2; exit 2; }
