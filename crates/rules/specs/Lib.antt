@@ -24,3 +24,4 @@ pub mod RowsSteals
 pub mod RowsEntries
 pub mod RowsCommands
 pub mod Rows
+pub mod RowsFree

@@ -1,9 +1,11 @@
 -- The scheduler's run equals the run by the entries that it wrote. Assumes nothing.
-use borrow.Author.Tests.{leb-true}
+use borrow.Author.Tests.{eqb-false, leb-true}
 use mathlib.Core.Bool.{Bool, true, false, cond, not}
 use mathlib.Core.List.{List, [], _∷_, _++_, append-nil}
+use mathlib.Core.Logic.{_⊎_, inl, inr}
 use mathlib.Core.Path.{_≡_, refl, _∙_, ap, subst}
 use Prim.Native.Nat.{ℕ, zero, suc, _+_, _≤_, _<_}
+use native.Mathlib.Decide.{decLt}
 use native.Mathlib.Nat.{zero-add}
 use native.Mathlib.Omega.{arith}
 use lib.Dec.{leb}
@@ -14,7 +16,9 @@ use Rattle.schedule.specs.declared.Entry.the-variants.{Enable}
 use Rattle.schedule.specs.Format.{bytesOfEntry, bytesOfEntries}
 use Rattle.schedule.proofs.Following.{accepts-short}
 use Rattle.rules.specs.Lists.{Every}
+use Rattle.thread.specs.Thread.{none}
 use Rattle.rules.specs.State.{Job, State, isOver}
+use Rattle.rules.specs.Statuses.{IsSuspended}
 use Rattle.rules.specs.Rules.{entryOf}
 use Rattle.rules.proofs.Laws.{run-next}
 use Rattle.rules.specs.Runs.{runFrom, logsFrom}
@@ -25,7 +29,8 @@ use Rattle.demands.proofs.Passing.{takes}
 use Rattle.search.specs.Search.{choiceOf, lowestSuspended}
 use Rattle.rounds.specs.Rounds.{Progress, isWritten, mayTry, recorded, tried, turns, fresh, round, playsOn, wakened, rounds, usable, beginning}
 use Rattle.turns.proofs.Keeping.{short, many-append}
-use Rattle.scheduler.specs.Promise.{scheduledOf, refusalIn, EqualsRun}
+use Rattle.scheduler.proofs.Ending.{none-found, stops, ended}
+use Rattle.scheduler.specs.Promise.{scheduledOf, refusalIn, EqualsRun, Ends}
 
 one-many : (e : Entry) → length (bytesOfEntries (e ∷ [])) ≡ length (bytesOfEntry e)
 unfolding bytesOfEntries
@@ -94,6 +99,31 @@ module _ (i : Input) (size : ℕ) where
   unfolding runFrom logsFrom bytesOfEntries
   whole = ran-rounds (jobIn i) (startIn i) (usable size) (suc (usable size)) (beginning (startIn i) size)
       (record { runs = refl; logs = tt; fits = zero-add (usable size) })
+
+  -- what is used is within the buffer, and within 32,768 bytes
+  pub ends : Ends (scheduledOf i size) (length (bytesOfEntries (scheduledOf i size .written))) size
+  ends =
+      let p = scheduledOf i size in
+      record {
+        when = by p (whole .fits) (ended p (stops (jobIn i) (suc (usable size)) (beginning (startIn i) size) (omega arith)));
+        within = omega (arith, whole .fits);
+        most = omega (arith, whole .fits);
+      }
+    where
+      by : (p : Progress) → length (bytesOfEntries (p .written)) + p .left ≡ usable size
+          → (isOver (p .state .outcome) ≡ true) ⊎ ((p .left < 3) ⊎ ((p .moved ≡ false) × (none ≤ lowestSuspended (p .state))))
+          → (isOver (p .state .outcome) ≡ true)
+          ⊎ (((p .moved ≡ false) × ((t : ℕ) → t < 32 → ¬ (IsSuspended (p .state) t)))
+          ⊎ ((size < length (bytesOfEntries (p .written)) + 3) ⊎ (32768 < length (bytesOfEntries (p .written)) + 3)))
+      by p f (inl over) = inl over
+      by p f (inr (inl few)) = inr (inr (shorter (decLt size (length (bytesOfEntries (p .written)) + 3))))
+        where
+          shorter : Dec (size < length (bytesOfEntries (p .written)) + 3)
+              → (size < length (bytesOfEntries (p .written)) + 3) ⊎ (32768 < length (bytesOfEntries (p .written)) + 3)
+          shorter (yes l) = inl l
+          shorter (no l) = inr (omega (arith, f, few, l))
+      by p f (inr (inr idle)) =
+          inr (inl (idle .0, λ t l. eqb-false _ _ (none-found 32 (p .state .threads) 0 t (idle .1) (omega arith) (omega arith) (omega arith))))
 
   pub equals : refusalIn i ≡ 0 → ((k : ℕ) → getD (i .image) k 0 < 256) → EqualsRun i (scheduledOf i size)
   equals passes bytes =

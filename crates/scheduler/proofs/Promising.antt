@@ -19,7 +19,7 @@ use Rattle.serial.specs.Serial.{done}
 use Rattle.run.specs.Machine.{MachineIs}
 use Rattle.run.proofs.Running.{first, ready}
 use Rattle.run.proofs.RunDemand.{finished-by}
-use Rattle.scheduler.proofs.Equalling.{equals}
+use Rattle.scheduler.proofs.Equalling.{equals, ends}
 use Rattle.scheduler.specs.declared.Scheduled.{Scheduled}
 use Rattle.turns.specs.Steps.{Rounded}
 use Rattle.scheduler.specs.Promise.{refusalIn, scheduledOf, SchedulerPromise}
@@ -43,6 +43,7 @@ module _ (i : Input) (b : Begun) (xs ys ws vs : List ℕ) (begun : Begins i [] [
     };
     scheduled = λ z. absurd (some (begun .number ∙ z));
     equals = λ z. absurd (some (begun .number ∙ z));
+    ends = λ z. absurd (some (begun .number ∙ z));
     numbers = scheduler-numbers i;
     plain = λ v u e. let z : _≡_ {A = ℕ} 0 1 = cc in absurd (omega arith);
   }
@@ -76,6 +77,7 @@ module _ (i : Input) (b : Begun) (xs ys ws vs : List ℕ) (begun : Begins i [] [
             used = p .used;
           };
           equals = λ z. equals i (length before) z bytes;
+          ends = λ _. ends i (length before);
           numbers = scheduler-numbers i;
           plain = λ v u e.
               let (over, units) = finished-by (end .outcome) (end .units) v u (sym answer ∙ e) in

@@ -1,11 +1,14 @@
 -- What `run` promises.
-use mathlib.Core.Bool.{true}
+use mathlib.Core.Bool.{true, false}
 use mathlib.Core.List.{List, []}
+use mathlib.Core.Logic.{_⊎_}
 use mathlib.Core.Path.{_≡_}
-use Prim.Native.Nat.{ℕ}
+use Prim.Native.Nat.{ℕ, _+_, _≤_, _<_}
 use lib.ListN.{length}
 use Rattle.schedule.specs.Meaning.{entries, scheduleOf}
 use Rattle.schedule.specs.Format.{bytesOfEntries}
+use Rattle.rules.specs.State.{isOver}
+use Rattle.rules.specs.Statuses.{IsSuspended}
 use Rattle.rules.specs.Lists.{Every}
 use Rattle.rules.specs.Runs.{runFrom, logsFrom}
 use Rattle.serial.specs.Serial.{done}
@@ -50,10 +53,19 @@ pub record EqualsRun (i : Input) (p : Progress) : Type 0 where
   pub logs : Every (λ n. isWritten n ≡ true) (logsFrom (jobIn i) (startIn i) (p .written))
   pub demand : Demand3 i (p .state)
 
+-- "It ends when over, when nothing can be enabled, or when before a try fewer than 3 bytes are left of its buffer, of which it uses at most 32,768":
+-- with so many bytes used of a buffer of such a size
+pub record Ends (p : Progress) (used size : ℕ) : Type 0 where
+  pub when : (isOver (p .state .outcome) ≡ true)
+      ⊎ (((p .moved ≡ false) × ((t : ℕ) → t < 32 → ¬ (IsSuspended (p .state) t))) ⊎ ((size < used + 3) ⊎ (32768 < used + 3)))
+  pub within : used ≤ size
+  pub most : used ≤ 32768
+
 pub record SchedulerPromise (i : Input) (before : List ℕ) (r : Scheduled) (memoryAfter after : List ℕ) : Type 0 where
   pub refused : (refusalIn i ≡ 0 → ⊥) → IsRefusedSchedule i (refusalIn i) before r memoryAfter after
   pub scheduled : refusalIn i ≡ 0 → IsScheduled (scheduledOf i (length before)) before r memoryAfter after
   pub equals : refusalIn i ≡ 0 → EqualsRun i (scheduledOf i (length before))
+  pub ends : refusalIn i ≡ 0 → Ends (scheduledOf i (length before)) (length (bytesOfEntries (scheduledOf i (length before) .written))) (length before)
   -- each number of `refusalIn` exactly under its condition, so that good input is run
   pub numbers : SchedulerNumbers i
   -- "result, units and every memory word equal the plain run's": of the answer, and of the memory as it now is
