@@ -14,7 +14,8 @@ use Rattle.thread.specs.declared.Thread.{Thread}
 use Rattle.thread.specs.Thread.{statusNumber, blankThread, _is_}
 use Rattle.cells.specs.Record.{recordAt}
 use Rattle.cells.proofs.Laws.{record-same}
-use Rattle.census.specs.Counted.{oneIf, isIn, recordsIn, recordsUpTo, recordsOf, censusOf}
+use Rattle.census.specs.Counted.{oneIf, isIn, recordsIn, censusOf}
+use Rattle.census.specs.Table.{recordsUpTo, recordsOf}
 use Rattle.census.proofs.Totals.{total}
 
 pub at-most-5 : (status : Status) → statusNumber status ≤ 5

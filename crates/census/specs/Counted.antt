@@ -1,14 +1,11 @@
--- "After a run the records in each state are counted over the thread table": how many records of a list, of any length, are in a state, and
--- which records some bytes hold.
+-- "After a run the records in each state are counted over the thread table": how many records of a list, of any length, are in a state.
 use mathlib.Core.Bool.{Bool, true, false}
-use mathlib.Core.List.{List, [], _∷_, _++_}
-use Prim.Native.Nat.{ℕ, zero, suc, _+_, _*_, _/_}
-use lib.ListN.{length}
+use mathlib.Core.List.{List, [], _∷_}
+use Prim.Native.Nat.{ℕ, _+_}
 use Rattle.thread.specs.declared.Status.{Status}
 use Rattle.thread.specs.declared.Status.the-variants.{Free, Running, Ready, Suspended, Waiting, Lent}
 use Rattle.thread.specs.declared.Thread.{Thread}
 use Rattle.thread.specs.Thread.{_is_}
-use Rattle.cells.specs.Record.{recordAt}
 use Rattle.census.specs.declared.Census.{Census}
 
 abbrev pub oneIf : Bool → ℕ
@@ -33,12 +30,3 @@ censusOf threads = record {
   waiting = recordsIn Waiting threads;
   lent = recordsIn Lent threads;
 }
-
--- the first n records of some bytes, 18 bytes each
-unfoldable pub recordsUpTo : List ℕ → ℕ → List Thread
-recordsUpTo bytes zero = []
-recordsUpTo bytes (suc n) = recordsUpTo bytes n ++ (recordAt bytes (18 * n) ∷ [])
-
--- all of them; fewer than 18 bytes behind the last one are no record
-abbrev pub recordsOf : List ℕ → List Thread
-recordsOf bytes = recordsUpTo bytes (length bytes / 18)

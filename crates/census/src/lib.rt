@@ -6,7 +6,8 @@ use thread::record::status_number;
 ghost use mathlib.Core.Path.{_≡_};
 ghost use Prim.Native.Nat.{_≤_};
 ghost use Rattle.thread.specs.Thread.{statusNumber};
-ghost use Rattle.census.specs.Counted.{recordsOf, censusOf};
+ghost use Rattle.census.specs.Counted.{censusOf};
+ghost use Rattle.census.specs.Table.{recordsOf};
 
 // The records in each state.
 pub struct Census {

@@ -17,7 +17,8 @@ use Rattle.schedule.specs.declared.Entry.the-variants.{Step}
 use Rattle.thread.specs.declared.Thread.{Thread}
 use Rattle.thread.specs.declared.Effect.{Effect}
 use Rattle.thread.specs.Thread.{blankThread, movedTo, isPending}
-use Rattle.thread.specs.Effect.{effectOf, bytesBy}
+use Rattle.thread.specs.Effect.{effectOf}
+use Rattle.thread.specs.Bytes.{bytesBy}
 use Rattle.thread.specs.View.{contextOf}
 use Rattle.thread.proofs.EffectFacts.{Guarded}
 use Rattle.thread.proofs.Widths.{Widened}

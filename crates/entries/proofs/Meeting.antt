@@ -13,7 +13,8 @@ use Rattle.window.proofs.Laws.{store-means}
 use Rattle.thread.specs.declared.Thread.{Thread}
 use Rattle.thread.specs.declared.Effect.{Effect}
 use Rattle.thread.specs.declared.Effect.the-variants.{Faults, Sets, Loads, Stores, Goes, Continues, Lforks, Forks, Joins, Suspends, Yields, Returns}
-use Rattle.thread.specs.Effect.{Context, bytesBy, effectOf}
+use Rattle.thread.specs.Effect.{Context, effectOf}
+use Rattle.thread.specs.Bytes.{bytesBy}
 use Rattle.thread.specs.View.{contextOf}
 use Rattle.thread.proofs.EffectFacts.{Guarded}
 use Rattle.thread.proofs.Routines.{InRange}

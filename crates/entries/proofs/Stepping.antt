@@ -12,7 +12,8 @@ use Rattle.stacklets.specs.Frames.{slotOf}
 use Rattle.thread.specs.declared.Thread.{Thread}
 use Rattle.thread.specs.declared.Effect.{Effect}
 use Rattle.thread.specs.Thread.{isPending}
-use Rattle.thread.specs.Effect.{effectOf, bytesBy}
+use Rattle.thread.specs.Effect.{effectOf}
+use Rattle.thread.specs.Bytes.{bytesBy}
 use Rattle.thread.specs.View.{contextOf}
 use Rattle.thread.proofs.Widths.{Widened}
 use Rattle.rules.specs.State.{Job, State, After, isOver, threadAt, onCore}

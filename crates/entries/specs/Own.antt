@@ -5,7 +5,7 @@ use Prim.Native.Nat.{ℕ, _+_, _%_, _≤_, _^_}
 use Rattle.thread.specs.declared.Effect.{Effect}
 use Rattle.thread.specs.declared.Effect.the-variants.{Faults, Sets, Loads, Stores, Goes, Continues, Lforks, Forks, Joins, Suspends, Yields, Returns}
 use Rattle.thread.specs.Thread.{movedTo}
-use Rattle.thread.specs.Effect.{bytesBy}
+use Rattle.thread.specs.Bytes.{bytesBy}
 use Rattle.rules.specs.State.{Job, State}
 use Rattle.rules.specs.Update.{accepted, withStore}
 use Rattle.rules.specs.Turn.{Turn, completed}

@@ -18,7 +18,7 @@ ghost use mathlib.Core.List.{List};
 ghost use mathlib.Core.Path.{_≡_};
 ghost use Prim.Native.Nat.{ℕ, _+_, _%_, _^_};
 ghost use Rattle.thread.specs.declared.Status.the-variants.{Suspended, Ready};
-ghost use Rattle.thread.specs.Effect.{bytesBy};
+ghost use Rattle.thread.specs.Bytes.{bytesBy};
 ghost use Rattle.rules.specs.State.{jobOf};
 ghost use Rattle.rules.specs.Turn.{goesOn};
 ghost use Rattle.rules.specs.Rules.{carriedOf};

@@ -26,7 +26,7 @@ ghost use mathlib.Core.List.{List};
 ghost use mathlib.Core.Path.{_≡_};
 ghost use Prim.Native.Nat.{ℕ, _+_, _%_, _^_};
 ghost use Rattle.schedule.specs.declared.Entry.the-variants.{Step};
-ghost use Rattle.thread.specs.Effect.{bytesBy};
+ghost use Rattle.thread.specs.Bytes.{bytesBy};
 ghost use Rattle.rules.specs.State.{jobOf};
 ghost use Rattle.tables.specs.Meaning.{meaning};
 ghost use Rattle.tables.specs.Change.{Becomes};

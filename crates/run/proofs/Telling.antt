@@ -11,7 +11,8 @@ use Rattle.thread.specs.Thread.{statusNumber, blankThread}
 use Rattle.cells.specs.Record.{recordAt}
 use Rattle.cells.proofs.Laws.{record-same}
 use Rattle.census.specs.declared.Census.{Census}
-use Rattle.census.specs.Counted.{recordsOf, recordsUpTo, censusOf}
+use Rattle.census.specs.Counted.{censusOf}
+use Rattle.census.specs.Table.{recordsOf, recordsUpTo}
 use Rattle.census.proofs.Counting.{long, record-of}
 use Rattle.rules.specs.State.{threadAt}
 use Rattle.tables.specs.Meaning.{size, meaning}

@@ -13,7 +13,8 @@ use Rattle.window.specs.Rights.{rejoined}
 use Rattle.stacklets.specs.Frames.{slotOf}
 use Rattle.thread.specs.declared.Effect.{Effect}
 use Rattle.thread.specs.declared.Effect.the-variants.{Faults, Sets, Loads, Stores, Goes, Continues, Lforks, Forks, Joins, Suspends, Yields, Returns}
-use Rattle.thread.specs.Effect.{effectOf, bytesBy}
+use Rattle.thread.specs.Effect.{effectOf}
+use Rattle.thread.specs.Bytes.{bytesBy}
 use Rattle.thread.specs.View.{contextOf}
 use Rattle.thread.specs.Thread.{isPending}
 use Rattle.thread.specs.Job.{Job, GoodJob}

@@ -7,7 +7,7 @@ ghost use mathlib.Core.Path.{_≡_};
 ghost use Prim.Native.Nat.{_+_, _<_};
 ghost use lib.ListN.{length, getD};
 ghost use Rattle.command.specs.Weight.{weightOf};
-ghost use Rattle.thread.specs.Effect.{bytesBy};
+ghost use Rattle.thread.specs.Bytes.{bytesBy};
 ghost use Rattle.thread.specs.Job.{wordIn};
 ghost use Rattle.serial.specs.Steps.{slotsAfter, memoryAfter, askedOf, InReach};
 

@@ -11,7 +11,8 @@ use Rattle.command.specs.declared.Command.the-variants.{Set, Add, Subtract, Loa
 use Rattle.command.specs.Command.{bytesOfCommand, decoded, decodedAt, widthOf}
 use Rattle.thread.specs.declared.Effect.{Effect}
 use Rattle.thread.specs.declared.Effect.the-variants.{Faults, Sets, Loads, Stores, Goes, Continues, Lforks, Forks, Joins, Suspends, Yields, Returns}
-use Rattle.thread.specs.Effect.{Context, anyPending, unlessPending, provided, forking, effectOf, bytesBy}
+use Rattle.thread.specs.Effect.{Context, anyPending, unlessPending, provided, forking, effectOf}
+use Rattle.thread.specs.Bytes.{bytesBy}
 
 -- a command of n bytes can have the effect
 abbrev pub Wide : ℕ → Effect → Type 0

@@ -77,18 +77,3 @@ pub record Asked : Type 0 where
 
 abbrev pub asked : ℕ → ℕ → ℕ → ℕ → Asked
 asked r d a e = record { routine = r; result = d; first = a; cut = e }
-
--- the number of bytes of a command with such an effect, where its thread goes on behind it
-abbrev pub bytesBy : Effect → ℕ
-bytesBy (Faults x) = 0
-bytesBy (Sets d v) = 4
-bytesBy (Loads d a) = 3
-bytesBy (Stores a v) = 3
-bytesBy (Goes t) = 0
-bytesBy Continues = 4
-bytesBy (Lforks r d a e) = 5
-bytesBy (Forks r d a e) = 5
-bytesBy Joins = 1
-bytesBy Suspends = 1
-bytesBy Yields = 1
-bytesBy (Returns v) = 0

@@ -3,3 +3,5 @@ pub mod Effect
 pub mod View
 pub mod Thread
 pub mod Job
+-- for contracts alone
+pub mod Bytes

@@ -8,7 +8,7 @@ use Rattle.tables.specs.Change.{Becomes}
 use Rattle.dispatch.specs.Orderly.{after}
 use Rattle.entries.specs.Given.{Carrying, turnIn}
 use Rattle.command.specs.Weight.{weightOf, standardWeights}
-use Rattle.thread.specs.Effect.{bytesBy}
+use Rattle.thread.specs.Bytes.{bytesBy}
 use Rattle.rules.specs.State.{jobOf}
 use Rattle.thread.specs.declared.Thread.{Thread}
 use Rattle.entries.specs.declared.own.Own.the-variants.{Moved}

@@ -1,6 +1,7 @@
 -- `run::tell::counts` meets its contract. Assumes nothing.
 use mathlib.Core.Path.{ap, _∙_}
-use Rattle.census.specs.Counted.{recordsUpTo, censusOf}
+use Rattle.census.specs.Counted.{censusOf}
+use Rattle.census.specs.Table.{recordsUpTo}
 use Rattle.tables.proofs.Changes.{read, unread}
 use Rattle.run.proofs.Telling.{table-read}
 use borrow.Author.Needs.{needs}
