@@ -1,4 +1,5 @@
--- The starredImages cases that concern images hold: one test, computed over the table, and read off at each of its rows. Assumes nothing.
+-- The starred cases that concern images, and the worked images, hold: one test, computed over a table, and read off at each of its rows. Assumes
+-- nothing.
 use mathlib.Core.Bool.{Bool, true, false, _&&_}
 use mathlib.Core.List.{List, [], _∷_, List·Mem, not-mem-nil, forall-mem-cons}
 use mathlib.Core.Path.{_≡_}
@@ -8,6 +9,7 @@ use Rattle.image.specs.Layout.{startOf}
 use Rattle.image.specs.Code.{commandsFrom, commandsOf, verdictFrom, lastEnds, isStart, targetsGood, routineVerdict}
 use Rattle.image.specs.Image.{rowsGood, inRange, routinesVerdict, imageVerdict, numberIn}
 use Rattle.image.specs.Cases.{ImageCase, starredImages}
+use Rattle.image.specs.Worked.{workedImages}
 
 -- is a row's number the image's?
 abbrev right : ImageCase → Bool
@@ -27,9 +29,14 @@ each [] t c m = absurd (not-mem-nil m)
 each (d ∷ ds) t c m =
     forall-mem-cons {p = λ (x : ImageCase). T (right x)} (λ x. T-prop (right x)) .1 (both (right d) (every ds) t .0, each ds (both (right d) (every ds) t .1)) c m
 
-all : T (every starredImages)
-unfolding imageVerdict routinesVerdict rowsGood inRange startOf routineVerdict verdictFrom lastEnds isStart targetsGood commandsOf commandsFrom commandAt decoded
-all = tt
+-- each row of a table whose test was computed
+rows-hold : (cs : List ImageCase) → T (every cs) → (c : ImageCase) → List·Mem c cs → numberIn (imageVerdict (c .image)) ≡ c .number
+rows-hold cs t c m = eqb→eq (numberIn (imageVerdict (c .image))) (c .number) (each cs t c m)
 
 pub starred-hold : (c : ImageCase) → List·Mem c starredImages → numberIn (imageVerdict (c .image)) ≡ c .number
-starred-hold c m = eqb→eq (numberIn (imageVerdict (c .image))) (c .number) (each starredImages all c m)
+unfolding imageVerdict routinesVerdict rowsGood inRange startOf routineVerdict verdictFrom lastEnds isStart targetsGood commandsOf commandsFrom commandAt decoded
+starred-hold = rows-hold starredImages tt
+
+pub worked-hold : (c : ImageCase) → List·Mem c workedImages → numberIn (imageVerdict (c .image)) ≡ c .number
+unfolding imageVerdict routinesVerdict rowsGood inRange startOf routineVerdict verdictFrom lastEnds isStart targetsGood commandsOf commandsFrom commandAt decoded
+worked-hold = rows-hold workedImages tt

@@ -1,4 +1,4 @@
--- Document 01's starredImages bench cases that concern images: each image's bytes, and the number that it is refused by, 0 where it is accepted.
+-- Document 01's starred bench cases that concern images: each image's bytes, and the number that it is refused by, 0 where it is accepted.
 use mathlib.Core.List.{List, [], _∷_, _++_}
 use Prim.Native.Nat.{ℕ}
 use lib.ListN.{length}
@@ -20,7 +20,7 @@ whole =
     ++ (0x01 ∷ 0x02 ∷ 0x20 ∷ 0x00 ∷ 0x08 ∷ 0x01 ∷ 0x00 ∷ 0x00 ∷ 0x02 ∷ 0x08 ∷ 0x01 ∷ 0x01 ∷ 0x01 ∷ 0x02 ∷ 0x0A ∷ 0x02 ∷ 0x00 ∷ 0x00 ∷ 0x01 ∷ 0x0D ∷ 0x00 ∷ [])
     ++ (0x01 ∷ 0x00 ∷ 0x05 ∷ 0x00 ∷ 0x0D ∷ 0x00 ∷ [])
 
--- "Bench cases (starredImages ones proved)", in document 01's order
+-- "Bench cases (starred ones proved)", in document 01's order
 abbrev pub starredImages : List ImageCase
 starredImages =
     record { image = []; number = 1 }

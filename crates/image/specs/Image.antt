@@ -31,7 +31,7 @@ abbrev pub numberIn : Verdict → ℕ
 numberIn Accepted = 0
 numberIn (Rejected n) = numberOfRefusal n
 
--- "slots (1 to 16), arguments (at most the slots), code length (at least 1)"
+-- "slots (1 to 16), arguments (at most the slots), code length (two bytes, at least 1)"
 abbrev pub rowGood : List ℕ → ℕ → Bool
 rowGood s r = (leb 1 (slotsOf s r) && leb (slotsOf s r) 16) && (leb (argumentsOf s r) (slotsOf s r) && leb 1 (lengthOf s r))
 

@@ -1,5 +1,5 @@
--- Where an image's parts stand: "One byte: count of routines. Then per routine a row of four bytes: slots, arguments, code length
--- (two bytes). Then the codes in row order, and nothing after."
+-- Where an image's parts stand: "One byte: count of routines, 1 to 32. Then per routine a row of four bytes: slots (1 to 16), arguments (at
+-- most the slots), code length (two bytes, at least 1). Then the codes in row order, and nothing after."
 use mathlib.Core.List.{List}
 use Prim.Native.Nat.{ℕ, zero, suc, _+_, _*_}
 use lib.ListN.{getD, length, take, drop, replicate, set}

@@ -4,3 +4,4 @@ pub mod Image
 pub mod Step
 pub mod Marks
 pub mod Cases
+pub mod Worked
