@@ -25,11 +25,18 @@ pub record WorkedRow : Type 0 where
   -- of threads 0 to 3
   pub statuses : List Status
 
+-- the job of such a run, of an image at an allowance, and its start on so many cores
+abbrev pub jobFor : List ℕ → ℕ → Job
+jobFor image allowance = jobOf image (startsIn (programOf image)) (ascendingFrom 100 32) allowance
+
+abbrev pub startFor : Job → ℕ → State
+startFor j cores = startState j cores (ascendingFrom 7 (argumentsOf (j .image) 0)) (replicate 992 0)
+
 abbrev pub rowJob : WorkedRow → Job
-rowJob r = jobOf (r .image) (startsIn (programOf (r .image))) (ascendingFrom 100 32) (r .allowance)
+rowJob r = jobFor (r .image) (r .allowance)
 
 abbrev pub rowStart : WorkedRow → State
-rowStart r = startState (rowJob r) (r .cores) (ascendingFrom 7 (argumentsOf (r .image) 0)) (replicate 992 0)
+rowStart r = startFor (rowJob r) (r .cores)
 
 -- what is told of a run
 pub record Told : Type 0 where
@@ -55,15 +62,16 @@ toldByRules r = toldOf (logsFrom (rowJob r) (rowStart r) (r .entries)) (runFrom 
 abbrev pub toldByHand : WorkedRow → Told
 toldByHand r = record { log = r .log; outcome = r .outcome; units = r .units; memory = r .memory; statuses = r .statuses }
 
--- memory words where nothing was stored, and threads when the machine has finished
-abbrev pub untouched : List ℕ
-untouched = 0 ∷ 0 ∷ 0 ∷ 0 ∷ []
-
 -- of each row
 abbrev pub each : (WorkedRow → Told) → List WorkedRow → List Told
 each told [] = []
 each told (r ∷ rs) = told r ∷ each told rs
 
+-- memory words where nothing was stored
+abbrev pub untouched : List ℕ
+untouched = 0 ∷ 0 ∷ 0 ∷ 0 ∷ []
+
+-- threads when the machine has finished
 abbrev pub noneLeft : List Status
 noneLeft = Free ∷ Free ∷ Free ∷ Free ∷ []
 

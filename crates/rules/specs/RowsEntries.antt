@@ -53,7 +53,7 @@ yieldsAndReturns = record {
   statuses = noneLeft;
 }
 
--- "suspend: the command is done, then the thread is suspended"; "enable: suspended t joins the ready line". It is not ready before (16), and
+-- "suspend ..: the command is done, then the thread is suspended"; "enable: suspended t joins the ready line". It is not ready before (16), and
 -- not suspended behind (17)
 abbrev pub suspendsAndReturns : WorkedRow
 suspendsAndReturns = record {

@@ -20,7 +20,7 @@ use Rattle.rules.specs.Fork.{asked, forkOf}
 use Rattle.rules.specs.Return.{returnOf}
 
 -- A command carried out by a step, by its effect.
--- "suspend, yield: the command is completed, then the thread is suspended, or stands at the tail of the ready line"
+-- "suspend, yield: the command is done, then the thread is suspended, or stands at the tail of the ready line"
 unfoldable pub carriedOf : Job → State → Turn → Effect → After
 carriedOf j s o (Faults n) = faults o n s
 carriedOf j s o (Sets d v) = accepted (goesOn o (setSlot (o .thread) d v s))
