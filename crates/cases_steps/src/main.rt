@@ -4,7 +4,8 @@
 // The cases are the lines of standard input, in the form that the crate `cases` tells:
 //
 // - `image BYTES` is the image of the runs after it, and `schedule BYTES` their schedule.
-// - `run CORES ALLOWANCE ARGUMENTS` is a run on zero parameter and memory words. It prints the log, the words at 32 to 35, and the answer.
+// - `run CORES ALLOWANCE ARGUMENTS` is a run on parameter words that are zero but for the last, 131, and on zero memory words. It prints the log,
+//   the words at 32 to 35, and the answer.
 // - `count CORES ALLOWANCE ARGUMENTS` prints of such a run also how many thread records are free, running, ready, suspended, waiting and lent.
 mod runs;
 

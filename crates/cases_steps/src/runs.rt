@@ -85,7 +85,8 @@ fn run_job(
     schedule: &[u8],
     counted: bool,
 ) {
-    let parameters = [0u32; 32];
+    let mut parameters = [0u32; 32];
+    parameters[31] = 131;
     let mut memory = [0u32; 992];
     let mut log = [0u8; 128];
     let ran = run::run(
