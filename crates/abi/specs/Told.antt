@@ -5,12 +5,12 @@ use Prim.Native.Nat.{ℕ}
 use Rattle.demands.specs.Input.{Input}
 use Rattle.run.specs.declared.Ran.{Ran}
 use Rattle.run.specs.Promise.{RunPromise}
-use Rattle.abi.specs.Words.{answerWords, countWords}
+use Rattle.abi.specs.Words.{answerWords, countWords, Written}
 
 -- there is what `run` gives, which keeps its promise, and the words tell its answer, its counts and its threads' statuses
-pub record RunTold (i : Input) (schedule log memoryAfter logAfter answer counts statuses : List ℕ) : Type 0 where
+pub record RunTold (i : Input) (schedule log memoryAfter logAfter : List ℕ) (w : Written) : Type 0 where
   pub ran : Ran
   pub promise : RunPromise i schedule log ran memoryAfter logAfter
-  pub answered : answer ≡ answerWords (ran .answer)
-  pub counted : counts ≡ countWords (ran .counts)
-  pub states : statuses ≡ ran .statuses
+  pub answered : w .answer ≡ answerWords (ran .answer)
+  pub counted : w .counts ≡ countWords (ran .counts)
+  pub states : w .statuses ≡ ran .statuses

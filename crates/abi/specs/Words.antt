@@ -15,3 +15,12 @@ answerWords (Open units) = 3 ∷ units ∷ 0 ∷ 0 ∷ []
 -- "free, running, ready, suspended, waiting or lent": the records in each, in this order
 abbrev pub countWords : Census → List ℕ
 countWords c = c .free ∷ c .running ∷ c .ready ∷ c .suspended ∷ c .waiting ∷ c .lent ∷ []
+
+-- the words that a call has written: the answer's, the counts' and the statuses'
+pub record Written : Type 0 where
+  pub answer : List ℕ
+  pub counts : List ℕ
+  pub statuses : List ℕ
+
+abbrev pub written : List ℕ → List ℕ → List ℕ → Written
+written answer counts statuses = record { answer = answer; counts = counts; statuses = statuses }

@@ -9,6 +9,7 @@ use image::number::image_number;
 ghost use mathlib.Core.Path.{_≡_};
 ghost use Rattle.image.specs.Image.{imageVerdict, numberIn};
 ghost use Rattle.demands.specs.Input.{inputOf};
+ghost use Rattle.abi.specs.Words.{written};
 ghost use Rattle.abi.specs.Told.{RunTold};
 
 // Document 01's number of an image; 0 where it is accepted.
@@ -38,7 +39,7 @@ pub extern "C" fn hofnulda_run(
     counts: &mut [usize; 6],
     statuses: &mut [u8; 32],
 )
-    ensures { λ _. ⌜ RunTold (inputOf (now (image .entry)) cores (now (arguments .entry)) (now (parameters .entry)) (now (memory .entry)) allowance) (now (schedule .entry)) (now (log .entry)) (now (memory .exit)) (now (log .exit)) (now (answer .exit)) (now (counts .exit)) (now (statuses .exit)) ⌝ }
+    ensures { λ _. ⌜ RunTold (inputOf (now (image .entry)) cores (now (arguments .entry)) (now (parameters .entry)) (now (memory .entry)) allowance) (now (schedule .entry)) (now (log .entry)) (now (memory .exit)) (now (log .exit)) (written (now (answer .exit)) (now (counts .exit)) (now (statuses .exit))) ⌝ }
 {
     let ran = run::run(
         image,

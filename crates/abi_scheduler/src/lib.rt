@@ -3,6 +3,7 @@
 use abi::words::answer_words;
 use abi::words::count_words;
 ghost use Rattle.demands.specs.Input.{inputOf};
+ghost use Rattle.abi.specs.Words.{written};
 ghost use Rattle.abi_scheduler.specs.Told.{ScheduledTold};
 
 // A run by the built-in scheduler, told as a run by a schedule is. It gives the bytes of the entries at the buffer's front.
@@ -19,7 +20,7 @@ pub extern "C" fn hofnulda_scheduled(
     counts: &mut [usize; 6],
     statuses: &mut [u8; 32],
 ) -> usize
-    ensures { λ used. ⌜ ScheduledTold (inputOf (now (image .entry)) cores (now (arguments .entry)) (now (parameters .entry)) (now (memory .entry)) allowance) (now (buffer .entry)) (now (memory .exit)) (now (buffer .exit)) (now (answer .exit)) (now (counts .exit)) (now (statuses .exit)) used ⌝ }
+    ensures { λ used. ⌜ ScheduledTold (inputOf (now (image .entry)) cores (now (arguments .entry)) (now (parameters .entry)) (now (memory .entry)) allowance) (now (buffer .entry)) (now (memory .exit)) (now (buffer .exit)) (written (now (answer .exit)) (now (counts .exit)) (now (statuses .exit))) used ⌝ }
 {
     let ran = scheduler::run(
         image,
