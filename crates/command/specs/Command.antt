@@ -19,7 +19,7 @@ widths = 0 ∷ 4 ∷ 4 ∷ 4 ∷ 3 ∷ 3 ∷ 4 ∷ 3 ∷ 5 ∷ 5 ∷ 1 ∷ 1 ∷
 abbrev pub widthOf : ℕ → ℕ
 widthOf byte = getD widths byte 0
 
--- "values of two bytes are little-endian"
+-- "values of two or four bytes are little-endian"
 abbrev pub pair : ℕ → ℕ → ℕ
 pair low high = low + high * 256
 
