@@ -23,5 +23,6 @@ pub mod RowsTables
 pub mod RowsSteals
 pub mod RowsEntries
 pub mod RowsCommands
+pub mod RowsPending
 pub mod Rows
 pub mod RowsFree

@@ -8,6 +8,7 @@ use Rattle.rules.specs.RowsTables.{tableRows}
 use Rattle.rules.specs.RowsSteals.{stealRows}
 use Rattle.rules.specs.RowsEntries.{entryRows}
 use Rattle.rules.specs.RowsCommands.{commandRows}
+use Rattle.rules.specs.RowsPending.{pendingRows}
 
 abbrev pub rows : List WorkedRow
-rows = forkRows ++ (joinRows ++ (tableRows ++ (stealRows ++ (entryRows ++ commandRows))))
+rows = forkRows ++ (joinRows ++ (tableRows ++ (stealRows ++ (entryRows ++ (commandRows ++ pendingRows)))))

@@ -199,7 +199,96 @@ cutPastHiInAChild = record {
   statuses = Lent ∷ Lent ∷ Running ∷ Free ∷ [];
 }
 
+-- "A fork whose cut is e needs mark ≤ e", "The root's window is 32 to 1,024": its cut of 31 is not allowed (11), at byte 13
+abbrev pub cutBelowTheRoot : WorkedRow
+cutBelowTheRoot = record {
+  image =
+      (0x02 ∷ 0x02 ∷ 0x00 ∷ 0x0B ∷ 0x00 ∷ 0x01 ∷ 0x00 ∷ 0x02 ∷ 0x00 ∷ [])
+      ++ (0x01 ∷ 0x00 ∷ 0x1F ∷ 0x00 ∷ 0x08 ∷ 0x01 ∷ 0x01 ∷ 0x00 ∷ 0x00 ∷ 0x0D ∷ 0x00 ∷ []) ++ nought;
+  cores = 1;
+  allowance = 100;
+  entries = Step 0 ∷ Step 0 ∷ [];
+  log = 0 ∷ 11 ∷ [];
+  outcome = faulted 11 0 13;
+  units = 1;
+  memory = untouched;
+  statuses = Running ∷ Free ∷ Free ∷ Free ∷ [];
+}
+
+-- nor behind a join, which has no child to wait for and puts the mark back to 32: at byte 14
+abbrev pub cutBelowTheRootAgain : WorkedRow
+cutBelowTheRootAgain = record {
+  image =
+      (0x02 ∷ 0x02 ∷ 0x00 ∷ 0x0C ∷ 0x00 ∷ 0x01 ∷ 0x00 ∷ 0x02 ∷ 0x00 ∷ [])
+      ++ (0x01 ∷ 0x00 ∷ 0x1F ∷ 0x00 ∷ 0x0A ∷ 0x08 ∷ 0x01 ∷ 0x01 ∷ 0x00 ∷ 0x00 ∷ 0x0D ∷ 0x00 ∷ []) ++ nought;
+  cores = 1;
+  allowance = 100;
+  entries = Step 0 ∷ Step 0 ∷ Step 0 ∷ [];
+  log = 0 ∷ 0 ∷ 11 ∷ [];
+  outcome = faulted 11 0 14;
+  units = 2;
+  memory = untouched;
+  statuses = Running ∷ Free ∷ Free ∷ Free ∷ [];
+}
+
+-- "load and store from mark up to hi, nothing else": before the join the parent loads at 32, which is cut off, though the child has ended: 10, at
+-- byte 22. Units: 1 + 6, the child's 1, and 1
+abbrev pub loadBelowTheMark : WorkedRow
+loadBelowTheMark = record {
+  image =
+      (0x02 ∷ 0x04 ∷ 0x00 ∷ 0x12 ∷ 0x00 ∷ 0x01 ∷ 0x00 ∷ 0x02 ∷ 0x00 ∷ [])
+      ++ (0x01 ∷ 0x00 ∷ 0x22 ∷ 0x00 ∷ 0x08 ∷ 0x01 ∷ 0x01 ∷ 0x00 ∷ 0x00 ∷ 0x01 ∷ 0x02 ∷ 0x20 ∷ 0x00 ∷ 0x04 ∷ 0x03 ∷ 0x02 ∷ 0x0D ∷ 0x00 ∷ [])
+      ++ nought;
+  cores = 1;
+  allowance = 100;
+  entries = Step 0 ∷ Step 0 ∷ Step 0 ∷ Step 0 ∷ Step 0 ∷ [];
+  log = 0 ∷ 0 ∷ 0 ∷ 0 ∷ 10 ∷ [];
+  outcome = faulted 10 0 22;
+  units = 9;
+  memory = untouched;
+  statuses = Running ∷ Free ∷ Free ∷ Free ∷ [];
+}
+
+-- "A join puts the mark back to lo", behind two cuts, at 34 and 36, and behind another one: each time 32 is stored to, 36 and then 32, and 1,023
+-- is still in the window. Units: five times 1, three times 6 + 1, twice 1, three times 2, and 1
+abbrev pub joinTwice : WorkedRow
+joinTwice = record {
+  image =
+      (0x02 ∷ 0x04 ∷ 0x00 ∷ 0x30 ∷ 0x00 ∷ 0x01 ∷ 0x00 ∷ 0x02 ∷ 0x00 ∷ [])
+      ++ (0x01 ∷ 0x02 ∷ 0x22 ∷ 0x00 ∷ 0x08 ∷ 0x01 ∷ 0x00 ∷ 0x00 ∷ 0x02 ∷ 0x01 ∷ 0x03 ∷ 0x24 ∷ 0x00 ∷ 0x08 ∷ 0x01 ∷ 0x01 ∷ 0x00 ∷ 0x03 ∷ [])
+      ++ (0x0A ∷ 0x01 ∷ 0x02 ∷ 0x20 ∷ 0x00 ∷ 0x05 ∷ 0x02 ∷ 0x03 ∷ 0x08 ∷ 0x01 ∷ 0x00 ∷ 0x00 ∷ 0x03 ∷ 0x0A ∷ [])
+      ++ (0x01 ∷ 0x02 ∷ 0xFF ∷ 0x03 ∷ 0x05 ∷ 0x02 ∷ 0x02 ∷ 0x01 ∷ 0x02 ∷ 0x20 ∷ 0x00 ∷ 0x05 ∷ 0x02 ∷ 0x02 ∷ 0x0D ∷ 0x00 ∷ []) ++ nought;
+  cores = 1;
+  allowance = 100;
+  entries = replicate 17 (Step 0);
+  log = replicate 17 0;
+  outcome = finished 0;
+  units = 35;
+  memory = 32 ∷ 0 ∷ 0 ∷ 0 ∷ [];
+  statuses = noneLeft;
+}
+
+-- to its own lo, and not to 32: a child's part is 34 to 40. It cuts it at 36 and joins; then 34 is stored to, and 33 is not: thread 2, at byte
+-- 13 + 21 + 21. Units: 1 + 6 + 1, 1 + 6, the child's 1 + 6 + 1 + 1, and 1 + 2 + 1
+abbrev pub joinInAChildsPart : WorkedRow
+joinInAChildsPart = record {
+  image =
+      (0x03 ∷ 0x04 ∷ 0x00 ∷ 0x15 ∷ 0x00 ∷ 0x02 ∷ 0x00 ∷ 0x1A ∷ 0x00 ∷ 0x01 ∷ 0x00 ∷ 0x02 ∷ 0x00 ∷ [])
+      ++ (0x01 ∷ 0x00 ∷ 0x22 ∷ 0x00 ∷ 0x08 ∷ 0x02 ∷ 0x01 ∷ 0x00 ∷ 0x00 ∷ 0x01 ∷ 0x02 ∷ 0x28 ∷ 0x00 ∷ 0x08 ∷ 0x01 ∷ 0x03 ∷ 0x00 ∷ 0x02 ∷ [])
+      ++ (0x0A ∷ 0x0D ∷ 0x03 ∷ []) ++ (0x01 ∷ 0x01 ∷ 0x24 ∷ 0x00 ∷ 0x08 ∷ 0x02 ∷ 0x00 ∷ 0x00 ∷ 0x01 ∷ 0x0A ∷ [])
+      ++ (0x01 ∷ 0x01 ∷ 0x22 ∷ 0x00 ∷ 0x05 ∷ 0x01 ∷ 0x01 ∷ 0x01 ∷ 0x01 ∷ 0x21 ∷ 0x00 ∷ 0x05 ∷ 0x01 ∷ 0x01 ∷ 0x0D ∷ 0x00 ∷ []) ++ nought;
+  cores = 1;
+  allowance = 100;
+  entries = replicate 13 (Step 0);
+  log = replicate 12 0 ++ (10 ∷ []);
+  outcome = faulted 10 2 55;
+  units = 28;
+  memory = 0 ∷ 0 ∷ 34 ∷ 0 ∷ [];
+  statuses = Lent ∷ Free ∷ Running ∷ Free ∷ [];
+}
+
 abbrev pub commandRows : List WorkedRow
 commandRows =
     sumsAreModulo ∷ jumps ∷ parameterWords ∷ memoryEnds ∷ joinGivesThePartBack ∷ notBelowTheMark ∷ notAtTheCut
-    ∷ notBelowTheSecondPart ∷ cutUpToHi ∷ cutPastHi ∷ cutPastHiInAChild ∷ []
+    ∷ notBelowTheSecondPart ∷ cutUpToHi ∷ cutPastHi ∷ cutPastHiInAChild ∷ cutBelowTheRoot ∷ cutBelowTheRootAgain
+    ∷ loadBelowTheMark ∷ joinTwice ∷ joinInAChildsPart ∷ []

@@ -112,6 +112,26 @@ framesFillAStacklet = record {
   statuses = Lent ∷ Free ∷ Ready ∷ Ready ∷ [];
 }
 
+-- the same on another stacklet than the root's: with no stacklet free, thread 1's child goes above thread 1, on stacklet 1, so that the root's frame
+-- is still topmost and its child passes. When stacklet 0 is full, thread 1's next child goes on stacklet 1 too. Units: 1 + 15 times 12, thread 1's
+-- 1 + 6, then 6, 1 + 6, 1 + 6, and 1 and 6
+abbrev pub framesOnAnotherStacklet : WorkedRow
+framesOnAnotherStacklet = record {
+  image =
+      (0x06 ∷ 0x10 ∷ 0x00 ∷ 0x57 ∷ 0x00 ∷ 0x03 ∷ 0x00 ∷ 0x11 ∷ 0x00 ∷ 0x10 ∷ 0x00 ∷ 0x0C ∷ 0x00 ∷ 0x10 ∷ 0x00 ∷ 0x0C ∷ 0x00 ∷ [])
+      ++ (0x10 ∷ 0x00 ∷ 0x02 ∷ 0x00 ∷ 0x01 ∷ 0x00 ∷ 0x02 ∷ 0x00 ∷ []) ++ fifteenForks
+      ++ (0x08 ∷ 0x02 ∷ 0x0F ∷ 0x00 ∷ 0x0F ∷ 0x0A ∷ 0x0D ∷ 0x00 ∷ []) ++ callsTwo 5 5 ++ fromFifteen 3 ++ fromFifteen 4
+      ++ nought ++ nought;
+  cores = 2;
+  allowance = 300;
+  entries = replicate 16 (Step 0) ++ (Take 1 ∷ Step 1 ∷ Step 1 ∷ []) ++ replicate 5 (Step 0) ++ (Step 1 ∷ Step 1 ∷ []);
+  log = replicate 26 0;
+  outcome = going;
+  units = 215;
+  memory = untouched;
+  statuses = Lent ∷ Lent ∷ Ready ∷ Ready ∷ [];
+}
+
 -- "steal: .. on a free stacklet": with no stacklet free, thread 18's three words end at word 51 of stacklet 0. Its first child, of 16 words,
 -- does not fit (21), and once thread 1 has returned goes on the free stacklet. Thread 18 is lent, its frame topmost, and its second child of
 -- one word would fit: the steal meets 21, until thread 2 has returned. Units: 1 + 15 times 12, then 6, 1 + 6, 1 + 6, 1; then 1, 6, 1 and 6
@@ -157,4 +177,4 @@ notAboveASuspendedChild = record {
 abbrev pub tableRows : List WorkedRow
 tableRows =
     readyFirstInFirstOut ∷ numbersAreGivenBackAtTheTail ∷ threadNumbersRunOut ∷ stackletsRunOut ∷ frameGoesWithItsThread
-    ∷ framesFillAStacklet ∷ stolenFrameNeedsAStacklet ∷ notAboveASuspendedChild ∷ []
+    ∷ framesFillAStacklet ∷ framesOnAnotherStacklet ∷ stolenFrameNeedsAStacklet ∷ notAboveASuspendedChild ∷ []
