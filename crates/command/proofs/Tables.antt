@@ -39,7 +39,7 @@ pub weight-most : (byte : ℕ) → weightOf standardWeights byte ≤ 12
 weight-most byte =
     leb-true _ _ (both (leb (weightOf standardWeights byte) 12) _ (both (leb (widthOf byte) 5) _ (rule byte) .1) .0)
 
--- "08 is 6 and 09 is 12, whoever carries them out"
+-- "The weights of 08 and 09 are the totals in 000, table 4.4": 6 and 12
 pub weight-lfork : weightOf standardWeights 8 ≡ 6
 weight-lfork = refl
 

@@ -188,7 +188,7 @@ module _ (j : Job) (s : State) (ok : Sound j s) where
   pub keep-free-stacklets : (e : Entry) → FreeStacklets (entryOf j s e .state)
   keep-free-stacklets e = change-stacklets (entryOf j s e .state) (entry-change j s ok e)
 
-  -- "a finished machine has .. all stacklets .. free": all 16 stand in the queue, each once
+  -- once finished, "16 stacklets are free": all stand in the queue, each once
   pub finished-stacklets : (v : ℕ) → s .outcome ≡ finished v
       → (length (s .queues .freeStacklets) ≡ 16) × ((x : ℕ) → x < 16 → Member x (s .queues .freeStacklets)) × Distinct (s .queues .freeStacklets)
   finished-stacklets v e = (both, all, ok .freeStacklets .once)
