@@ -1,5 +1,5 @@
 -- The table of printed inputs holds, computed by the definition that `print` is proved equal to. Assumes nothing.
-use mathlib.Core.Path.{refl}
+use mathlib.Core.Path.{_≡_, refl}
 use Rattle.command.specs.Command.{commandAt, decoded}
 use Rattle.image.specs.Layout.{startOf, rowsOf, startsUpTo}
 use Rattle.image.specs.Code.{commandsFrom, commandsOf, verdictFrom, lastEnds, isStart, targetsGood, routineVerdict}
@@ -22,8 +22,8 @@ use Rattle.demands.specs.Input.{refusalOf}
 use Rattle.reading.specs.Reading.{wordsFrom}
 use Rattle.text.specs.Text.{digitsOf, decimalOf, entryLines}
 use Rattle.transcript.specs.Transcript.{playedText, numberOfRun, runText, textOf}
-use Rattle.transcript.specs.Cases.{TextsHold, printed}
+use Rattle.transcript.specs.Cases.{printed, printedText, textByHand}
 
-pub printed-hold : TextsHold printed
+pub printed-hold : printedText printed ≡ textByHand printed
 unfolding commandAt decoded startOf rowsOf startsUpTo commandsFrom commandsOf verdictFrom lastEnds isStart targetsGood routineVerdict rowsGood inRange routinesVerdict imageVerdict appended scheduleOf entriesOf fitsOn pushedTops argumentsAt framed pushedWords run anyPending unlessPending provided forking effectOf isPending withPending mayStore mayLoad cutAt effectAt leaves goesAbove placeOf born forkOn forkWith forkOf stackletsWithout wakes statusAfter readyAfter returnToParent returnOf carriedOf turnOf stepOf takeInto takeOf isSeed stolenOf stealOf enableOf entryOf startState refusalOf runFrom logsFrom digitsOf decimalOf wordsFrom entryLines playedText numberOfRun runText textOf
-printed-hold = (refl, (refl, (refl, (refl, (refl, (refl, (refl, (refl, tt))))))))
+printed-hold = refl
