@@ -5,6 +5,7 @@
 #   bench/run.sh print [CASES] [SEED]  the print program on random inputs against the second implementation's lines
 #   bench/run.sh measure               benchmarks; writes docs/BENCHMARKS.md and docs/benchmarks.svg
 #   bench/run.sh wrong [PATTERN..]     wrong versions of the code and of the rules (bench/wrong), each of which a check must refuse
+#   bench/run.sh mutants [NAME..]      small changes of the definitions, tried on their worked rows alone; tells which pass
 # It needs rt and cargo (wrong: rt alone), and no network; measure counts instructions where valgrind is there. It is no part of the gate.
 set -eu
 cd "$(dirname "$0")/.."
@@ -41,8 +42,12 @@ measure)
 wrong)
     exec bench/wrong.sh "$@"
     ;;
+mutants)
+    build --bin mutants
+    exec bench/target/release/mutants . "$@"
+    ;;
 *)
-    echo "usage: bench/run.sh [test [CASES] [SEED] | print [CASES] [SEED] | measure | wrong [PATTERN..]]" >&2
+    echo "usage: bench/run.sh [test [CASES] [SEED] | print [CASES] [SEED] | measure | wrong [PATTERN..] | mutants [NAME..]]" >&2
     exit 2
     ;;
 esac

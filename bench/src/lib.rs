@@ -1,7 +1,9 @@
 //! Tests and benchmarks of the proved crates against a second implementation.
 pub mod assemble;
 pub mod generate;
+pub mod mutation;
 pub mod peer;
 pub mod random;
 pub mod text;
+pub mod witness;
 pub mod workload;
