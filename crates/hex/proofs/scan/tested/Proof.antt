@@ -1,0 +1,16 @@
+-- `hex::scan::tested` meets its contract. Assumes nothing.
+use borrow.Author.Needs.{needs}
+use Rattle.hex.proofs.scan.tested.Statement.{statement}
+use Rattle.hex.proofs.scan.tested.Tie as tie
+
+returns : tie.Need-returns
+returns c = search needs
+
+returns-2 : tie.Need-returns-2
+returns-2 c = search needs
+
+returns-3 : tie.Need-returns-3
+returns-3 c = simp (c .before .if1 .left, c .if2 .left)
+
+pub tested-spec : {M : Type 1} → statement M
+tested-spec = tie.close (tie.spec returns returns-2 returns-3)

@@ -1,0 +1,8 @@
+-- In reading order: digits, the text that is written, a text's lines, a line's record, what is read; and what only the code's contracts need.
+pub mod Digits
+pub mod Text
+pub mod Lines
+pub mod Record
+pub mod Reading
+pub mod Answers
+pub mod Found
