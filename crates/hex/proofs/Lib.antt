@@ -8,6 +8,7 @@ pub mod Scanning
 pub mod Storing
 pub mod Said
 pub mod TextLaws
+pub mod FullLaws
 pub mod Written
 pub mod RoundTrip
 pub mod Canonical

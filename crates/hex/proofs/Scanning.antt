@@ -5,7 +5,7 @@ use mathlib.Core.Path.{_≡_, refl, ap, sym, _∙_}
 use Prim.Native.Nat.{ℕ, zero, suc, _+_, _*_, _%_, _≤_, _<_}
 use native.Mathlib.Nat.{zero-add}
 use native.Mathlib.Omega.{arith}
-use borrow.Author.Tests.{eq-eqb, ne-eqb, le-leb, ltb-true, ltb-false}
+use borrow.Author.Tests.{eq-eqb, ne-eqb, le-leb, lt-ltb, ltb-true, ltb-false}
 use lib.Dec.{eqb, leb, ltb}
 use lib.ListN.{length, drop, length-append, length-drop, drop-of-length-le}
 use Rattle.hex.specs.declared.line.HexRecord.{HexRecord}
@@ -45,11 +45,22 @@ lt-of-ne a b l d = go (ltb a b) refl
     go true e = ltb-true a b e
     go false e = absurd (d (omega (arith, ltb-false a b e)))
 
+-- a byte past address FFFF, once met, stays so as the count grows
+past : (p r b : Bool) (count n : ℕ) → ((p || ltb 65536 count) || (r || (ltb 65536 (count + n) || b))) ≡ (((p || r) || ltb 65536 (count + n)) || b)
+past true r b count n = refl
+past false r b count n = go (ltb 65536 count) refl r
+  where
+    go : (q : Bool) → ltb 65536 count ≡ q → (r : Bool) → (q || (r || (ltb 65536 (count + n) || b))) ≡ ((r || ltb 65536 (count + n)) || b)
+    go true e true = refl
+    go true e false = rw (lt-ltb 65536 (count + n) (omega (arith, ltb-true 65536 count e)))
+    go false e true = refl
+    go false e false = refl
+
 -- the tests of all lines by those behind and those ahead
 pub record Scanned (text : List ℕ) (at count : ℕ) (sum span : Bool) : Type 0 where
   pub lines : malformed (linesOf text) ≡ malformed (linesOf (drop at text))
   pub sums : badChecksum (linesOf text) ≡ (sum || badChecksum (linesOf (drop at text)))
-  pub spans : badSpan 0 (linesOf text) ≡ (span || badSpan count (linesOf (drop at text)))
+  pub spans : badSpan 0 (linesOf text) ≡ ((span || ltb 65536 count) || badSpan count (linesOf (drop at text)))
   pub said : length (saidBy (linesOf text)) ≡ count + length (saidBy (linesOf (drop at text)))
   pub few : count ≤ at
   pub inside : at ≤ length text
@@ -105,13 +116,13 @@ module _ (text : List ℕ) (at : ℕ) (r : HexRecord) (f : Stands text at r) whe
       let c : countOf (lineAt text at (r .count)) ≡ 0 = f .count ∙ n in
       let m : malformed (linesOf text) ≡ false = s .lines ∙ rw (f .lines, z, nothing) in
       let b : badChecksum (linesOf text) ≡ alsoSum sum (r .sum) = s .sums ∙ rw (f .lines, f .sum, nothing, or-false (not (eqb (r .sum % 256) 0))) in
-      let p : badSpan 0 (linesOf text) ≡ span = s .spans ∙ rw (f .lines, z, or-false span) in
+      let p : badSpan 0 (linesOf text) ≡ (span || ltb 65536 count) = s .spans ∙ rw (f .lines, z, or-false (span || ltb 65536 count)) in
       let l : length (saidBy (linesOf text)) ≡ count = s .said ∙ rw (f .lines, nothing, c) (omega arith) in
       rw (m, b, p, l)
 
   -- a data record, and what follows
   pub more : r .kind ≡ 0 → (r .count ≡ 0 → ⊥) → (count : ℕ) (sum span : Bool) → Scanned text at count sum span
-      → Scanned text (r .next) (count + r .count) (alsoSum sum (r .sum)) (alsoSpan span (r .address) count (r .count))
+      → Scanned text (r .next) (count + r .count) (alsoSum sum (r .sum)) (alsoSpan span (r .address) count)
   unfolding malformed badChecksum badSpan saidBy
   more k n count sum span s =
       let z : isEnd (lineAt text at (r .count)) ≡ false = is-end-by ∙ rw k in
@@ -119,7 +130,7 @@ module _ (text : List ℕ) (at : ℕ) (r : HexRecord) (f : Stands text at r) whe
       record {
         lines = s .lines ∙ rw (f .lines, z, d);
         sums = s .sums ∙ rw (f .lines, f .sum, or-assoc sum (not (eqb (r .sum % 256) 0)) (badChecksum (linesOf (drop (r .next) text))));
-        spans = s .spans ∙ rw (f .lines, z, f .address, f .count, or-assoc span (not (eqb (r .address) count) || ltb 65536 (count + r .count)) (badSpan (count + r .count) (linesOf (drop (r .next) text))), or-assoc (not (eqb (r .address) count)) (ltb 65536 (count + r .count)) (badSpan (count + r .count) (linesOf (drop (r .next) text))));
+        spans = s .spans ∙ rw (f .lines, z, f .address, f .count) (past span (not (eqb (r .address) count)) (badSpan (count + r .count) (linesOf (drop (r .next) text))) count (r .count));
         said = s .said ∙ rw (f .lines) (omega (arith, length-append (dataOf (lineAt text at (r .count))) (saidBy (linesOf (drop (r .next) text))), bytes-size (lineAt text at (r .count)) 4 (countOf (lineAt text at (r .count))), f .count));
         few = omega (arith, f .onward, s .few);
         inside = f .inside;
@@ -132,7 +143,7 @@ all-lines {text} {at} {count} {sum} {span} s h =
     let nothing : linesOf (drop at text) ≡ [] = rw (drop-of-length-le text {i = at} h) no-lines in
     let m : malformed (linesOf text) ≡ false = s .lines ∙ rw nothing in
     let b : badChecksum (linesOf text) ≡ sum = s .sums ∙ rw (nothing, or-false sum) in
-    let p : badSpan 0 (linesOf text) ≡ true = s .spans ∙ rw nothing (or-true span) in
+    let p : badSpan 0 (linesOf text) ≡ true = s .spans ∙ rw nothing (or-true (span || ltb 65536 count)) in
     rw (m, b, p)
 
 pub found : {text : List ℕ} {at : ℕ} {line : Line} (r : HexRecord) → LineFound text at line → line ≡ Record r → Stands text at r

@@ -1,13 +1,13 @@
 -- A line at a position of a text: what the code finds by positions alone, and the line's record. Assumes nothing.
-use mathlib.Core.Bool.{Bool, true, false}
+use mathlib.Core.Bool.{Bool, true, false, cond, true≢false}
 use mathlib.Core.List.{List, [], _∷_}
 use mathlib.Core.Path.{_≡_, refl, ap, sym, _∙_}
 use Prim.Native.Nat.{ℕ, zero, suc, _+_, _*_, _-_, _%_, _≤_, _<_}
 use native.Mathlib.Nat.{add-zero}
 use native.Mathlib.Numerals.{add-one}
 use native.Mathlib.Omega.{arith}
-use borrow.Author.Tests.{ltb-true, ltb-false}
-use lib.Dec.{ltb}
+use borrow.Author.Tests.{eqb-true, ltb-true, ltb-false}
+use lib.Dec.{eqb, ltb}
 use lib.ListN.{length, getD, take, drop, length-drop}
 use lib.Seq.{getD-take, getD-drop, drop-drop, length-take-le}
 use Rattle.hex.specs.Digits.{isDigit, digitValue}
@@ -15,7 +15,7 @@ use Rattle.hex.specs.Text.{total}
 use Rattle.hex.specs.Lines.{linesOf}
 use Rattle.hex.specs.Record.{byteOf, bytesFrom, countOf, addressOf, typeOf, sumOf, wellFormed}
 use Rattle.hex.specs.Reading.{malformed}
-use Rattle.hex.specs.Found.{weightOf, byteAt, sumAt, endAt, lineAt, Weighs, Stands}
+use Rattle.hex.specs.Found.{weightOf, byteAt, sumAt, endAt, lineAt, Weighs, fullAt, Stands}
 use Rattle.hex.proofs.DigitLaws.{value-most, weight-value, weight-most, light, plain}
 use Rattle.hex.proofs.LineLaws.{Plain, first-line, Cut, cut, end-rest, end-inside}
 use Rattle.hex.proofs.RecordLaws.{Formed, formed, is-formed, good, good-formed}
@@ -32,8 +32,11 @@ pair-value text p h l =
 pub pair-most : (text : List ℕ) (p : ℕ) → byteAt text p < 8192 → byteAt text p ≤ 255
 pair-most text p h = pair-value text p (light (getD text p 0) (omega arith)) (light (getD text (p + 1) 0) (omega arith)) .1
 
+pub pair-bound : (text : List ℕ) (p : ℕ) → byteAt text p ≤ 139264
+pair-bound text p = omega (arith, weight-most (getD text p 0), weight-most (getD text (p + 1) 0))
+
 -- where all characters are digits, their pairs add up to at most 255 for each
-sum-most : (text : List ℕ) (p m : ℕ) → ((j : ℕ) → j < 2 * m → isDigit (getD text (p + j) 0) ≡ true) → sumAt text p m ≤ 255 * m
+pub sum-most : (text : List ℕ) (p m : ℕ) → ((j : ℕ) → j < 2 * m → isDigit (getD text (p + j) 0) ≡ true) → sumAt text p m ≤ 255 * m
 unfolding sumAt
 sum-most text p zero digits = omega arith
 sum-most text p (suc m) digits =
@@ -42,7 +45,7 @@ sum-most text p (suc m) digits =
     omega (arith, two .1, sum-most text p m (λ j h. digits j (omega arith)))
 
 -- and where they add up to less than 8,192, all are digits
-all-light : (text : List ℕ) (p m : ℕ) → sumAt text p m < 8192 → (j : ℕ) → j < 2 * m → isDigit (getD text (p + j) 0) ≡ true
+pub all-light : (text : List ℕ) (p m : ℕ) → sumAt text p m < 8192 → (j : ℕ) → j < 2 * m → isDigit (getD text (p + j) 0) ≡ true
 unfolding sumAt
 all-light text p zero h j l = absurd (omega arith)
 all-light text p (suc m) h j l = before (λ g. all-light text p m (omega arith) j g) (ltb j (2 * m)) refl
@@ -288,3 +291,33 @@ module _ (text : List ℕ) (at n : ℕ) (count : n ≡ byteAt text (at + 1)) (w 
 
   pub never-open : endAt text (at + 11 + 2 * n) ≡ 3 → ⊥
   never-open e = let l : endAt text (at + 11 + 2 * n) < 3 = rw same-count at (w .ended) in omega arith
+
+-- two characters that are known, compared at once
+two-told : (a b c d : ℕ) → a < 256 → c < 256 → a + 256 * b ≡ c + 256 * d → (a ≡ c) × (b ≡ d)
+two-told a b c d h l e = (omega arith, omega arith)
+
+pub sixteen : (text : List ℕ) (p : ℕ) → getD text p 0 < 256 → getD text p 0 + 256 * getD text (p + 1) 0 ≡ 12337 → byteAt text p ≡ 16
+unfolding weightOf isDigit digitValue
+sixteen text p h e = let t = two-told (getD text p 0) (getD text (p + 1) 0) 49 48 h (omega arith) e in rw (t .0, t .1)
+
+nought : (text : List ℕ) (p : ℕ) → getD text p 0 < 256 → getD text p 0 + 256 * getD text (p + 1) 0 ≡ 12336 → byteAt text p ≡ 0
+unfolding weightOf isDigit digitValue
+nought text p h e = let t = two-told (getD text p 0) (getD text (p + 1) 0) 48 48 h (omega arith) e in rw (t .0, t .1)
+
+pub full-told : (text : List ℕ) (at : ℕ) → fullAt text at ≡ true → getD text (at + 1) 0 < 256 → getD text (at + 7) 0 < 256
+    → (43 ≤ length text - at) × (byteAt text (at + 1) ≡ 16) × (byteAt text (at + 7) ≡ 0)
+full-told text at f h l = one (ltb (length text - at) 43) refl f
+  where
+    first : ℕ
+    first = getD text (at + 1) 0 + 256 * getD text (at + 1 + 1) 0
+
+    last : ℕ
+    last = getD text (at + 7) 0 + 256 * getD text (at + 7 + 1) 0
+
+    two : (b : Bool) → 43 ≤ length text - at → eqb first 12337 ≡ b → cond b (eqb last 12336) false ≡ true → (43 ≤ length text - at) × (byteAt text (at + 1) ≡ 16) × (byteAt text (at + 7) ≡ 0)
+    two true n e g = (n, sixteen text (at + 1) h (eqb-true first 12337 e), nought text (at + 7) l (eqb-true last 12336 g))
+    two false n e g = absurd (true≢false (sym g))
+
+    one : (b : Bool) → ltb (length text - at) 43 ≡ b → cond b false (cond (eqb first 12337) (eqb last 12336) false) ≡ true → (43 ≤ length text - at) × (byteAt text (at + 1) ≡ 16) × (byteAt text (at + 7) ≡ 0)
+    one true e g = absurd (true≢false (sym g))
+    one false e g = two (eqb first 12337) (ltb-false (length text - at) 43 e) refl g

@@ -53,13 +53,13 @@ unfoldable pub countUp : ℕ → ℕ → List ℕ
 countUp zero from = []
 countUp (suc n) from = from ∷ countUp n (suc from)
 
-counted : (n from k : ℕ) → k < n → getD (countUp n from) k 0 ≡ from + k
+pub counted : (n from k : ℕ) → k < n → getD (countUp n from) k 0 ≡ from + k
 unfolding countUp
 counted zero from k h = absurd (omega arith)
 counted (suc n) from zero h = sym (add-zero from)
 counted (suc n) from (suc k) h = counted n (suc from) k (omega arith) ∙ omega arith
 
-counted-length : (n from : ℕ) → length (countUp n from) ≡ n
+pub counted-length : (n from : ℕ) → length (countUp n from) ≡ n
 unfolding countUp
 counted-length zero from = refl
 counted-length (suc n) from = ap suc (counted-length n (suc from))

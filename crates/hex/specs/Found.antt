@@ -2,7 +2,7 @@
 use mathlib.Core.Bool.{Bool, true, false, cond, _&&_, _||_, not}
 use mathlib.Core.List.{List, [], _∷_, _++_}
 use mathlib.Core.Path.{_≡_}
-use Prim.Native.Nat.{ℕ, zero, suc, _+_, _*_, _/_, _%_, _<_, _≤_}
+use Prim.Native.Nat.{ℕ, zero, suc, _+_, _*_, _-_, _/_, _%_, _<_, _≤_}
 use lib.Dec.{eqb, ltb}
 use lib.ListN.{length, getD, take, drop}
 use lib.Seq.{sets}
@@ -38,6 +38,17 @@ pub record Puts (characters before : List ℕ) (at : ℕ) (after : List ℕ) : T
 -- a data record's line up to its data
 abbrev pub headOf : ℕ → ℕ → List ℕ
 headOf count address = colon ∷ pairsOf (count ∷ address / 256 % 256 ∷ address % 256 ∷ 0 ∷ [])
+
+abbrev pub leastOf : ℕ → ℕ → ℕ
+leastOf a b = cond (ltb a b) a b
+
+abbrev pub mostOf : ℕ → ℕ → ℕ
+mostOf a b = cond (ltb a b) b a
+
+-- a digit's value, and more than any digit's for another character
+pub record Valued (c r : ℕ) : Type 0 where
+  pub digit : isDigit c ≡ true → r ≡ digitValue c
+  pub other : isDigit c ≡ false → 16 ≤ r
 
 -- two characters at a position, by their weights
 abbrev pub byteAt : List ℕ → ℕ → ℕ
@@ -88,6 +99,21 @@ pub record Stands (text : List ℕ) (at : ℕ) (r : HexRecord) : Type 0 where
   pub onward : at + 11 + 2 * r .count ≤ r .next
   pub inside : r .next ≤ length text
 
+-- what is known of a line before its address and checksum are read
+pub record Begun (text : List ℕ) (at first kind inner : ℕ) : Type 0 where
+  pub colon : getD text at 0 ≡ colon
+  pub count : byteAt text (at + 1) ≡ first
+  pub few : first ≤ 16
+  pub type : byteAt text (at + 7) ≡ kind
+  pub inside : at + 11 + 2 * first ≤ length text
+  pub weighs : Weighs text (at + 9) first inner
+
+-- the characters `10` and `00` at their places, and enough of them: 12,337 and 12,336 as numbers of two
+abbrev pub fullAt : List ℕ → ℕ → Bool
+fullAt text at =
+    cond (ltb (length text - at) 43) false
+    (cond (eqb (getD text (at + 1) 0 + 256 * getD text (at + 1 + 1) 0) 12337) (eqb (getD text (at + 7) 0 + 256 * getD text (at + 7 + 1) 0) 12336) false)
+
 abbrev pub LineFound : List ℕ → ℕ → Line → Type 0
 LineFound text at NoRecord = malformed (linesOf (drop at text)) ≡ true
 LineFound text at (Record r) = Stands text at r
@@ -97,9 +123,9 @@ abbrev pub alsoSum : Bool → ℕ → Bool
 alsoSum bad sum = bad || not (eqb (sum % 256) 0)
 
 -- one test more of a record's place
-abbrev pub alsoSpan : Bool → ℕ → ℕ → ℕ → Bool
-alsoSpan bad address count n = bad || (not (eqb address count) || ltb 65536 (count + n))
+abbrev pub alsoSpan : Bool → ℕ → ℕ → Bool
+alsoSpan bad address count = bad || not (eqb address count)
 
--- the answer by the tests of all lines, none of which is malformed
+-- the answer by the tests of all lines, none of which is malformed; that no byte lies past address FFFF is told by their count
 abbrev pub testedAs : Bool → Bool → ℕ → HexRead
-testedAs sum span count = cond sum BadChecksum (cond span BadSpan (Bytes count))
+testedAs sum span count = cond sum BadChecksum (cond (span || ltb 65536 count) BadSpan (Bytes count))

@@ -50,3 +50,13 @@ pub fn byte(table: &[u32; 256], text: &[u8], at: usize) -> u32
 {
     16 * weight(table, text, at) + weight(table, text, at + 1)
 }
+
+// Two characters at a position, as one number: compared at once with two that are known.
+pub fn two(text: &[u8], at: usize) -> u32
+    requires { ⌜ at + 2 ≤ length (now text) ⌝ }
+    ensures { λ r. ⌜ r ≡ getD (now (text .entry)) at 0 + 256 * getD (now (text .entry)) (at + 1) 0 ⌝ }
+{
+    let first = text[at] as u32;
+    let second = text[at + 1] as u32;
+    first + 256 * second
+}

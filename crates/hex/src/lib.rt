@@ -2,6 +2,7 @@
 
 mod bytes;
 mod digits;
+mod full;
 mod line;
 pub mod number;
 mod scan;

@@ -1,10 +1,12 @@
 // A record's line at a position of a text.
 use crate::digits::byte;
+use crate::digits::two;
 use crate::digits::weight;
+use crate::full::full_sum;
 ghost use mathlib.Core.Path.{_≡_};
 ghost use Prim.Native.Nat.{_<_, _≤_, _+_, _*_};
 ghost use lib.ListN.{length};
-ghost use Rattle.hex.specs.Found.{Weights, sumAt, Weighs, endAt, LineFound};
+ghost use Rattle.hex.specs.Found.{Weights, sumAt, endAt, Begun, fullAt, LineFound};
 
 // What a line says, and where the next one begins.
 pub struct HexRecord {
@@ -56,42 +58,15 @@ fn sum(table: &[u32; 256], text: &[u8], at: usize, count: usize) -> u32
     16 * highs + lows
 }
 
-// A record's data, added up; the compiler lays out the loop for a full record.
-fn data_sum(table: &[u32; 256], text: &[u8], at: usize, count: usize) -> u32
-    requires { ⌜ Weights (now table) × (at + 2 * count ≤ length (now text)) × (count ≤ 16) ⌝ }
-    ensures { λ r. ⌜ Weighs (now (text .entry)) at count r ⌝ }
-{
-    if count == 16 {
-        return sum(table, text, at, 16);
-    }
-    sum(table, text, at, count)
-}
-
-// The line at a position.
-pub fn line_at(table: &[u32; 256], text: &[u8], at: usize) -> Line
-    requires { ⌜ Weights (now table) × (at < length (now text)) ⌝ }
+// The line of a record by its count, its type and what stands for the sum of its data.
+fn line_of(table: &[u32; 256], text: &[u8], at: usize, first: u32, kind: u32, inner: u32) -> Line
+    requires { ⌜ Weights (now table) × Begun (now text) at first kind inner ⌝ }
     ensures { λ r. ⌜ LineFound (now (text .entry)) at r ⌝ }
 {
-    let left = text.len() - at;
-    if left < 11 {
-        return Line::NoRecord;
-    }
-    if text[at] != b':' {
-        return Line::NoRecord;
-    }
-    let first = byte(table, text, at + 1);
-    if 16 < first {
-        return Line::NoRecord;
-    }
     let count = first as usize;
-    if left < 11 + 2 * count {
-        return Line::NoRecord;
-    }
     let high = byte(table, text, at + 3);
     let low = byte(table, text, at + 5);
-    let kind = byte(table, text, at + 7);
-    let data = data_sum(table, text, at + 9, count);
-    let sum = first + high + low + kind + data + byte(table, text, at + 9 + 2 * count);
+    let sum = first + high + low + kind + inner + byte(table, text, at + 9 + 2 * count);
     if 8191 < sum {
         return Line::NoRecord;
     }
@@ -107,4 +82,52 @@ pub fn line_at(table: &[u32; 256], text: &[u8], at: usize) -> Line
         sum,
         next: end + after,
     })
+}
+
+// Does a line say a count of 16 and type 00, and may it be whole?
+fn is_full(text: &[u8], at: usize) -> bool
+    requires { ⌜ at + 11 ≤ length (now text) ⌝ }
+    ensures { λ r. ⌜ r ≡ fullAt (now (text .entry)) at ⌝ }
+{
+    if text.len() - at < 43 {
+        return false;
+    }
+    if two(text, at + 1) != 12337 {
+        return false;
+    }
+    two(text, at + 7) == 12336
+}
+
+// The line at a position. A full data record, as most are, is told by its characters.
+pub fn line_at(table: &[u32; 256], text: &[u8], at: usize) -> Line
+    requires { ⌜ Weights (now table) × (at < length (now text)) ⌝ }
+    ensures { λ r. ⌜ LineFound (now (text .entry)) at r ⌝ }
+{
+    let left = text.len() - at;
+    if left < 11 {
+        return Line::NoRecord;
+    }
+    if text[at] != b':' {
+        return Line::NoRecord;
+    }
+    if is_full(text, at) {
+        return line_of(table, text, at, 16, 0, full_sum(text, at + 9));
+    }
+    let first = byte(table, text, at + 1);
+    if 16 < first {
+        return Line::NoRecord;
+    }
+    let count = first as usize;
+    if left < 11 + 2 * count {
+        return Line::NoRecord;
+    }
+    let kind = byte(table, text, at + 7);
+    line_of(
+        table,
+        text,
+        at,
+        first,
+        kind,
+        sum(table, text, at + 9, count),
+    )
 }

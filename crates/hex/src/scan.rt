@@ -3,7 +3,6 @@ use crate::HexRead;
 use crate::line::Line;
 use crate::line::line_at;
 ghost use mathlib.Core.Path.{_≡_};
-ghost use Prim.Native.Nat.{_+_, _<_};
 ghost use Rattle.hex.specs.Lines.{linesOf};
 ghost use Rattle.hex.specs.Answers.{verdictOf};
 ghost use Rattle.hex.specs.Found.{Weights, alsoSum, alsoSpan, testedAs};
@@ -18,18 +17,14 @@ fn also_sum(bad: bool, sum: u32) -> bool
     sum % 256 != 0
 }
 
-// Does a record not follow the bytes before it, or end past address FFFF, this one or one before?
-fn also_span(bad: bool, address: usize, count: usize, n: usize) -> bool
-    requires { ⌜ count + n < 10000000000000000000 ⌝ }
-    ensures { λ r. ⌜ r ≡ alsoSpan bad address count n ⌝ }
+// Does a record not follow the bytes before it, this one or one before?
+fn also_span(bad: bool, address: usize, count: usize) -> bool
+    ensures { λ r. ⌜ r ≡ alsoSpan bad address count ⌝ }
 {
     if bad {
         return true;
     }
-    if address != count {
-        return true;
-    }
-    65536 < count + n
+    address != count
 }
 
 // The answer where no line is malformed.
@@ -40,6 +35,9 @@ fn tested(sum: bool, span: bool, count: usize) -> HexRead
         return HexRead::BadChecksum;
     }
     if span {
+        return HexRead::BadSpan;
+    }
+    if 65536 < count {
         return HexRead::BadSpan;
     }
     HexRead::Bytes(count)
@@ -79,7 +77,7 @@ pub fn scan(table: &[u32; 256], text: &[u8]) -> HexRead
         if n == 0 {
             return HexRead::Malformed;
         }
-        span = also_span(span, found.address, count, n);
+        span = also_span(span, found.address, count);
         count = count + n;
         at = found.next;
     }

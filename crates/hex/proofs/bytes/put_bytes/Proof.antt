@@ -16,47 +16,41 @@ abbrev μ-loop : tie.MeasureT-loop
 loop-holds : tie.Need-loop-holds Inv-loop μ-loop
 loop-holds c = storing _ _ (c .before .before .pre .1)
 
-add-byte : tie.Need-add-byte Inv-loop μ-loop
-add-byte c = omega (arith, c .before .loop .inv .inside)
-
-byte-requires : tie.Need-byte-requires Inv-loop μ-loop
-byte-requires c κs = (c .before .before .before .before .pre .0, omega (arith, (next-of (c .before .loop .inv) _ refl (omega (arith, c .before .before .before .before .pre .2, c .loop-test .taken))) .inside))
-
-cast-n : tie.Need-cast-n Inv-loop μ-loop
-cast-n c = omega (arith, c .byte .ensures .1)
+count-at-requires : tie.Need-count-at-requires Inv-loop μ-loop
+count-at-requires c κs = (c .before .before .before .before .pre .0, omega (arith, (next-of (c .before .loop .inv) _ refl (omega (arith, c .before .before .before .before .pre .2, c .loop-test .taken))) .inside))
 
 add-put-data : tie.Need-add-put-data Inv-loop μ-loop
-add-put-data c = omega (arith, (next-of (c .before .before .loop .inv) _ (c .byte .ensures .0) (omega (arith, c .before .before .before .before .before .pre .2, c .before .loop-test .taken))) .inside)
+add-put-data c = omega (arith, (next-of (c .before .before .loop .inv) _ (c .count-at .ensures .0) (omega (arith, c .before .before .before .before .before .pre .2, c .before .loop-test .taken))) .inside)
 
 put-data-requires : tie.Need-put-data-requires Inv-loop μ-loop
 put-data-requires c κs =
-    let r = next-of (c .before .before .before .loop .inv) _ (c .before .byte .ensures .0) (omega (arith, c .before .before .before .before .before .before .pre .2, c .before .before .loop-test .taken)) in
+    let r = next-of (c .before .before .before .loop .inv) _ (c .before .count-at .ensures .0) (omega (arith, c .before .before .before .before .before .before .pre .2, c .before .before .loop-test .taken)) in
     (c .before .before .before .before .before .before .pre .0, r .digits, omega (arith, r .inside), omega (arith, fits (c .before .before .before .loop .inv) _ r, kept-size (c .before .before .before .loop .inv), c .before .before .before .before .before .before .pre .2, c .before .before .before .before .before .before .pre .3))
 
 add-at : tie.Need-add-at Inv-loop μ-loop
-add-at c = omega (arith, fits (c .before .before .before .before .before .before .loop .inv) _ (next-of (c .before .before .before .before .before .before .loop .inv) _ (c .before .before .before .before .byte .ensures .0) (omega (arith, c .before .before .before .before .before .before .before .before .before .pre .2, c .before .before .before .before .before .loop-test .taken))), c .before .before .before .before .before .before .before .before .before .pre .2)
+add-at c = omega (arith, fits (c .before .before .before .before .before .before .loop .inv) _ (next-of (c .before .before .before .before .before .before .loop .inv) _ (c .before .before .before .before .count-at .ensures .0) (omega (arith, c .before .before .before .before .before .before .before .before .before .pre .2, c .before .before .before .before .before .loop-test .taken))), c .before .before .before .before .before .before .before .before .before .pre .2)
 
 add-end : tie.Need-add-end Inv-loop μ-loop
-add-end c = omega (arith, (next-of (c .before .before .before .before .before .before .loop .inv) _ (c .before .before .before .before .byte .ensures .0) (omega (arith, c .before .before .before .before .before .before .before .before .before .pre .2, c .before .before .before .before .before .loop-test .taken))) .inside)
+add-end c = omega (arith, (next-of (c .before .before .before .before .before .before .loop .inv) _ (c .before .before .before .before .count-at .ensures .0) (omega (arith, c .before .before .before .before .before .before .before .before .before .pre .2, c .before .before .before .before .before .loop-test .taken))) .inside)
 
 mul-end : tie.Need-mul-end Inv-loop μ-loop
-mul-end c = omega (arith, (next-of (c .before .before .before .before .before .before .loop .inv) _ (c .before .before .before .before .byte .ensures .0) (omega (arith, c .before .before .before .before .before .before .before .before .before .pre .2, c .before .before .before .before .before .loop-test .taken))) .inside)
+mul-end c = omega (arith, (next-of (c .before .before .before .before .before .before .loop .inv) _ (c .before .before .before .before .count-at .ensures .0) (omega (arith, c .before .before .before .before .before .before .before .before .before .pre .2, c .before .before .before .before .before .loop-test .taken))) .inside)
 
 add-end-2 : tie.Need-add-end-2 Inv-loop μ-loop
-add-end-2 c = omega (arith, (next-of (c .before .before .before .before .before .before .loop .inv) _ (c .before .before .before .before .byte .ensures .0) (omega (arith, c .before .before .before .before .before .before .before .before .before .pre .2, c .before .before .before .before .before .loop-test .taken))) .inside)
+add-end-2 c = omega (arith, (next-of (c .before .before .before .before .before .before .loop .inv) _ (c .before .before .before .before .count-at .ensures .0) (omega (arith, c .before .before .before .before .before .before .before .before .before .pre .2, c .before .before .before .before .before .loop-test .taken))) .inside)
 
 line-end-requires : tie.Need-line-end-requires Inv-loop μ-loop
-line-end-requires c κs = (next-of (c .before .before .before .before .before .before .loop .inv) _ (c .before .before .before .before .byte .ensures .0) (omega (arith, c .before .before .before .before .before .before .before .before .before .pre .2, c .before .before .before .before .before .loop-test .taken))) .inside
+line-end-requires c κs = (next-of (c .before .before .before .before .before .before .loop .inv) _ (c .before .before .before .before .count-at .ensures .0) (omega (arith, c .before .before .before .before .before .before .before .before .before .pre .2, c .before .before .before .before .before .loop-test .taken))) .inside
 
 add-from : tie.Need-add-from Inv-loop μ-loop
-add-from c = omega (arith, c .line-end .ensures, (next-of (c .before .before .before .before .before .before .before .loop .inv) _ (c .before .before .before .before .before .byte .ensures .0) (omega (arith, c .before .before .before .before .before .before .before .before .before .before .pre .2, c .before .before .before .before .before .before .loop-test .taken))) .next)
+add-from c = omega (arith, c .line-end .ensures, (next-of (c .before .before .before .before .before .before .before .loop .inv) _ (c .before .before .before .before .before .count-at .ensures .0) (omega (arith, c .before .before .before .before .before .before .before .before .before .before .pre .2, c .before .before .before .before .before .before .loop-test .taken))) .next)
 
 loop-less : tie.Need-loop-less Inv-loop μ-loop
-loop-less c = omega (arith, (next-of (c .before .before .before .before .before .before .before .loop .inv) _ (c .before .before .before .before .before .byte .ensures .0) (omega (arith, c .before .before .before .before .before .before .before .before .before .before .pre .2, c .before .before .before .before .before .before .loop-test .taken))) .some, c .before .before .before .before .before .before .loop-test .taken)
+loop-less c = omega (arith, (next-of (c .before .before .before .before .before .before .before .loop .inv) _ (c .before .before .before .before .before .count-at .ensures .0) (omega (arith, c .before .before .before .before .before .before .before .before .before .before .pre .2, c .before .before .before .before .before .before .loop-test .taken))) .some, c .before .before .before .before .before .before .loop-test .taken)
 
 loop-again : tie.Need-loop-again Inv-loop μ-loop
 loop-again c =
-    let r = next-of (c .before .before .before .before .before .before .before .loop .inv) _ (c .before .before .before .before .before .byte .ensures .0) (omega (arith, c .before .before .before .before .before .before .before .before .before .before .pre .2, c .before .before .before .before .before .before .loop-test .taken)) in
+    let r = next-of (c .before .before .before .before .before .before .before .loop .inv) _ (c .before .before .before .before .before .count-at .ensures .0) (omega (arith, c .before .before .before .before .before .before .before .before .before .before .pre .2, c .before .before .before .before .before .before .loop-test .taken)) in
     stored (c .before .before .before .before .before .before .before .loop .inv) _ _ r (rw (c .line-end .ensures)) (c .before .before .before .put-data .ensures)
 
 same-length : tie.Need-same-length Inv-loop μ-loop
@@ -74,9 +68,7 @@ put-bytes-spec =
     Inv-loop
     μ-loop
     loop-holds
-    add-byte
-    byte-requires
-    cast-n
+    count-at-requires
     add-put-data
     put-data-requires
     add-at

@@ -55,7 +55,7 @@ returns-7 : tie.Need-returns-7 Inv-loop μ-loop
 returns-7 c = refused (c .before .before .before .before .before .before .before .before .before .before .before .loop .inv) (no-data _ _ _ (found _ (c .before .before .before .before .before .before .before .before .before .line-at .ensures) (c .before .before .before .before .before .before .before .line .given .1)) (c .before .if5 .left) (c .if6 .taken))
 
 also-span-requires : tie.Need-also-span-requires Inv-loop μ-loop
-also-span-requires c κs = omega (arith, (found _ (c .before .before .before .before .before .before .before .before .before .line-at .ensures) (c .before .before .before .before .before .before .before .line .given .1)) .few, c .before .before .before .before .before .before .before .before .before .before .before .loop .inv .few, c .before .before .before .before .before .before .before .before .before .before .before .loop .inv .inside)
+also-span-requires c κs = tt
 
 add-count : tie.Need-add-count Inv-loop μ-loop
 add-count c = omega (arith, (found _ (c .before .before .before .before .before .before .before .before .before .before .line-at .ensures) (c .before .before .before .before .before .before .before .before .line .given .1)) .few, c .before .before .before .before .before .before .before .before .before .before .before .before .loop .inv .few, c .before .before .before .before .before .before .before .before .before .before .before .before .loop .inv .inside)
