@@ -118,11 +118,11 @@ right-even i x = eqb x (cond (eqb (i % 2) 0) 15 0)
 right-odd : ℕ → ℕ → Bool
 right-odd i x = eqb x (cond (eqb (i % 2) 0) 0 15)
 
-even-at : (i : ℕ) → i < 32 → getD evens i 0 ≡ cond (eqb (i % 2) 0) 15 0
+pub even-at : (i : ℕ) → i < 32 → getD evens i 0 ≡ cond (eqb (i % 2) 0) 15 0
 unfolding evens right-even
 even-at i h = let e : right-even (0 + i) (getD evens i 0) ≡ true = each right-even evens 0 i refl h in eqb-true (getD evens i 0) (cond (eqb (i % 2) 0) 15 0) (rw (zero-add i) at e)
 
-odd-at : (i : ℕ) → i < 32 → getD odds i 0 ≡ cond (eqb (i % 2) 0) 0 15
+pub odd-at : (i : ℕ) → i < 32 → getD odds i 0 ≡ cond (eqb (i % 2) 0) 0 15
 unfolding odds right-odd
 odd-at i h = let e : right-odd (0 + i) (getD odds i 0) ≡ true = each right-odd odds 0 i refl h in eqb-true (getD odds i 0) (cond (eqb (i % 2) 0) 0 15) (rw (zero-add i) at e)
 

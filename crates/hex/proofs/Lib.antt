@@ -9,7 +9,9 @@ pub mod Storing
 pub mod Said
 pub mod TextLaws
 pub mod FullLaws
+pub mod FullText
 pub mod Written
 pub mod RoundTrip
 pub mod Canonical
 pub mod Answered
+pub mod Cases

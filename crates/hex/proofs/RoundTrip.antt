@@ -31,7 +31,7 @@ pub small-one : (x : ℕ) → x < 256 → Small (x ∷ [])
 small-one x h zero = h
 small-one x h (suc i) = omega arith
 
-odd : (j : ℕ) → (j % 2 ≡ 0 → ⊥) → j ≡ 2 * (j / 2) + 1
+pub odd : (j : ℕ) → (j % 2 ≡ 0 → ⊥) → j ≡ 2 * (j / 2) + 1
 odd j h = go (j % 2) refl (omega arith)
   where
     go : (r : ℕ) → j % 2 ≡ r → r < 2 → j ≡ 2 * (j / 2) + 1

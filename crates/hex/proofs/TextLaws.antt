@@ -13,7 +13,7 @@ use lib.Seq.{sets, drop-drop, length-take-le, take-suc}
 use Rattle.hex.specs.Digits.{colon, lineFeed, capital}
 use Rattle.hex.specs.Text.{pairsOf, total, checksumOf, fieldsOf, lineOf, recordLine, dataLines, recordsOf, hexOf}
 use Rattle.hex.specs.Answers.{textLength}
-use Rattle.hex.specs.Found.{Pairs, Puts, headOf}
+use Rattle.hex.specs.Found.{Pairs, Puts, headOf, checkOf}
 use Rattle.hex.proofs.Storing.{puts-then, puts-one, puts-same}
 
 pub pairs-append : (xs ys : List ℕ) → pairsOf (xs ++ ys) ≡ pairsOf xs ++ pairsOf ys
@@ -87,29 +87,12 @@ head-written {b} {n} {o} {q} {e} {at} count address high low h l p2 p3 p4 p5 =
     let four : Puts (58 ∷ pairsOf (count ∷ high ∷ low ∷ 0 ∷ [])) b at e = puts-then (puts-then (puts-then (puts-then (puts-one 58 b at) (at + 1) refl p2) (at + 3) refl p3) (at + 5) refl p4) (at + 7) refl p5 in
     rw (h, l) at four
 
--- a line by its parts
-pub line-parts : (bytes : List ℕ) (address check : ℕ) → check ≡ checksumOf (fieldsOf 0 address bytes)
-    → ((headOf (length bytes) address ++ pairsOf bytes) ++ pairsOf (check ∷ [])) ++ (10 ∷ []) ≡ recordLine 0 address bytes
-unfolding pairsOf
-line-parts bytes address check e = rw (← e, pairs-append bytes (check ∷ []))
-
--- a line, part by part
-pub line-written : {b m n o : List ℕ} {at : ℕ} (bytes : List ℕ) (address check : ℕ) → check ≡ checksumOf (fieldsOf 0 address bytes) → Puts (headOf (length bytes) address) b at m
-    → Puts (pairsOf bytes) m (at + 9) n → Puts (pairsOf (check ∷ [])) n (at + 9 + 2 * length bytes) o
-    → Puts (recordLine 0 address bytes) b at (set o (at + 11 + 2 * length bytes) 10)
-unfolding pairsOf
-line-written {b} {m} {n} {o} {at} bytes address check e p q r =
-    let two = puts-then p (at + 9) refl q in
-    let three = puts-then two (at + 9 + 2 * length bytes) (omega (arith, length-append (headOf (length bytes) address) (pairsOf bytes), pairs-length bytes)) r in
-    let four = puts-then three (at + 11 + 2 * length bytes) (omega (arith, length-append (headOf (length bytes) address ++ pairsOf bytes) (pairsOf (check ∷ [])), length-append (headOf (length bytes) address) (pairsOf bytes), pairs-length bytes)) (puts-one 10 o (at + 11 + 2 * length bytes)) in
-    puts-same four (line-parts bytes address check e)
-
 pub high-byte : (address : ℕ) → address < 65536 → address / 256 ≡ address / 256 % 256
 high-byte address h = omega arith
 
 -- sums modulo 256
-mod-both : (a b : ℕ) → (a % 256 + b % 256) % 256 ≡ (a + b) % 256
-mod-both a b = omega arith
+mod-left : (a b : ℕ) → (a % 256 + b) % 256 ≡ (a + b) % 256
+mod-left a b = omega arith
 
 mod-right : (a b : ℕ) → (a + b % 256) % 256 ≡ (a + b) % 256
 mod-right a b = omega arith
@@ -117,15 +100,49 @@ mod-right a b = omega arith
 opposite : (u check : ℕ) → u < 256 → check < 256 → (check + u) % 256 ≡ 0 → check ≡ (256 - u) % 256
 opposite u check h l e = omega arith
 
-pub check-right : (bytes : List ℕ) (address high low place inner more sum check : ℕ) → high ≡ address / 256 % 256 → low ≡ address % 256 → place ≡ (high + low) % 256 → inner ≡ total bytes % 256
-    → more ≡ (place + inner) % 256 → sum ≡ (length bytes + more) % 256 → check < 256 → (check + sum) % 256 ≡ 0 → check ≡ checksumOf (fieldsOf 0 address bytes)
+-- the checksum, and the LF after it
+pub check-written : {b m : List ℕ} {at : ℕ} (count address inner high low place more sum check : ℕ) → high ≡ address / 256 % 256 → low ≡ address % 256 → place ≡ (high + low) % 256
+    → more ≡ (place + inner) % 256 → sum ≡ (count + more) % 256 → check < 256 → (check + sum) % 256 ≡ 0 → Puts (pairsOf (check ∷ [])) b at m → Puts (checkOf count address inner) b at (set m (at + 2) 10)
+unfolding pairsOf
+check-written {b} {m} {at} count address inner high low place more sum check h l p e s c z put =
+    let m' : more ≡ (high + low + inner) % 256 = e ∙ rw p (mod-left (high + low) inner) in
+    let s' : sum ≡ (count + (high + low + inner)) % 256 = s ∙ rw m' (mod-right count (high + low + inner)) in
+    let all : count + (high + low + inner) ≡ count + (address / 256 % 256 + (address % 256 + (0 + inner))) = omega arith in
+    let u : sum ≡ (count + (address / 256 % 256 + (address % 256 + (0 + inner)))) % 256 = s' ∙ ap (λ (n : ℕ). n % 256) all in
+    let right : check ≡ (256 - (count + (address / 256 % 256 + (address % 256 + (0 + inner)))) % 256) % 256 = opposite _ check (omega arith) c (rw u at z) in
+    puts-same (puts-then put (at + 2) refl (puts-one 10 m (at + 2))) (ap (λ (n : ℕ). pairsOf (n ∷ []) ++ (10 ∷ [])) right)
+
+-- a line, part by part
+checked : (bytes : List ℕ) (address inner : ℕ) → inner ≡ total bytes % 256 → checkOf (length bytes) address inner ≡ pairsOf (checksumOf (fieldsOf 0 address bytes) ∷ []) ++ (10 ∷ [])
 unfolding total
-check-right bytes address high low place inner more sum check h l p i m s c e =
-    let m' : more ≡ (high + low + total bytes) % 256 = m ∙ rw (p, i) (mod-both (high + low) (total bytes)) in
-    let s' : sum ≡ (length bytes + (high + low + total bytes)) % 256 = s ∙ rw m' (mod-right (length bytes) (high + low + total bytes)) in
-    let all : length bytes + (high + low + total bytes) ≡ length bytes + (address / 256 % 256 + (address % 256 + (0 + total bytes))) = omega arith in
-    let u : sum ≡ (length bytes + (address / 256 % 256 + (address % 256 + (0 + total bytes)))) % 256 = s' ∙ ap (λ (n : ℕ). n % 256) all in
-    opposite _ check (omega arith) c (rw u at e)
+checked bytes address inner e =
+    let s : (length bytes + (address / 256 % 256 + (address % 256 + (0 + inner)))) % 256 ≡ (length bytes + (address / 256 % 256 + (address % 256 + (0 + total bytes)))) % 256 =
+    inside (length bytes) (address / 256 % 256) (address % 256) inner (total bytes) e in
+    ap (λ (n : ℕ). pairsOf ((256 - n) % 256 ∷ []) ++ (10 ∷ [])) s
+  where
+    inside : (n h l i t : ℕ) → i ≡ t % 256 → (n + (h + (l + (0 + i)))) % 256 ≡ (n + (h + (l + (0 + t)))) % 256
+    inside n h l i t e = omega arith
+
+pub line-written : {b m n o : List ℕ} {at : ℕ} (bytes : List ℕ) (address inner : ℕ) → inner ≡ total bytes % 256 → Puts (headOf (length bytes) address) b at m → Puts (pairsOf bytes) m (at + 9) n
+    → Puts (checkOf (length bytes) address inner) n (at + 9 + 2 * length bytes) o → Puts (recordLine 0 address bytes) b at o
+unfolding pairsOf
+line-written {b} {m} {n} {o} {at} bytes address inner e p q r =
+    let check : ℕ = checksumOf (fieldsOf 0 address bytes) in
+    let two = puts-then p (at + 9) refl q in
+    let three = puts-then two (at + 9 + 2 * length bytes) (omega (arith, length-append (headOf (length bytes) address) (pairsOf bytes), pairs-length bytes)) (puts-same r (checked bytes address inner e)) in
+    puts-same three (parts bytes address check)
+  where
+    parts : (bytes : List ℕ) (address check : ℕ)
+        → (headOf (length bytes) address ++ pairsOf bytes) ++ (pairsOf (check ∷ []) ++ (10 ∷ [])) ≡ 58 ∷ (pairsOf (fieldsOf 0 address bytes ++ (check ∷ [])) ++ (10 ∷ []))
+    parts bytes address check = rw (pairs-append bytes (check ∷ [])) (sym (append-assoc (headOf (length bytes) address ++ pairsOf bytes) (pairsOf (check ∷ [])) (10 ∷ [])))
+
+pub full-line-written : {b m n o : List ℕ} {at : ℕ} (bytes : List ℕ) (address inner : ℕ) → length bytes ≡ 16 → inner ≡ total bytes % 256 → Puts (headOf 16 address) b at m
+    → Puts (pairsOf bytes) m (at + 9) n → Puts (checkOf 16 address inner) n (at + 41) o → Puts (recordLine 0 address bytes) b at o
+full-line-written {b} {m} {n} {o} {at} bytes address inner size e p q r =
+    let place : at + 9 + 2 * 16 ≡ at + 41 = omega arith in
+    let head : Puts (headOf (length bytes) address) b at m = rw size p in
+    let check : Puts (checkOf (length bytes) address inner) n (at + 9 + 2 * length bytes) o = rw (size, place) r in
+    line-written bytes address inner e head q check
 
 pub line-length : (type address : ℕ) (bytes : List ℕ) → length (lineOf type address bytes) ≡ 11 + 2 * length bytes
 line-length type address bytes =

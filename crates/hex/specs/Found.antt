@@ -39,6 +39,14 @@ pub record Puts (characters before : List ℕ) (at : ℕ) (after : List ℕ) : T
 abbrev pub headOf : ℕ → ℕ → List ℕ
 headOf count address = colon ∷ pairsOf (count ∷ address / 256 % 256 ∷ address % 256 ∷ 0 ∷ [])
 
+-- a record's checksum by the sum of its data, and the LF
+abbrev pub checkOf : ℕ → ℕ → ℕ → List ℕ
+checkOf count address inner = pairsOf ((256 - (count + (address / 256 % 256 + (address % 256 + (0 + inner)))) % 256) % 256 ∷ []) ++ (lineFeed ∷ [])
+
+-- so many of a list's elements, each twice
+abbrev pub Doubled : List ℕ → ℕ → List ℕ → Type 0
+Doubled bytes n twice = (k : ℕ) → k < n → getD twice k 0 ≡ getD bytes (k / 2) 0
+
 abbrev pub leastOf : ℕ → ℕ → ℕ
 leastOf a b = cond (ltb a b) a b
 

@@ -1,4 +1,5 @@
--- In reading order: digits, the text that is written, a text's lines, a line's record, what is read; and what only the code's contracts need.
+-- In reading order: digits, the text that is written, a text's lines, a line's record, what is read, the answers; what only the code's contracts
+-- need; and worked cases.
 pub mod Digits
 pub mod Text
 pub mod Lines
@@ -6,3 +7,4 @@ pub mod Record
 pub mod Reading
 pub mod Answers
 pub mod Found
+pub mod Cases

@@ -1,4 +1,4 @@
--- The text that is written: "bytes records (type 00) of 16 bytes, the last of 1 to 16, from address 0 up, then the end record, in capitals with
+-- The text that is written: "data records (type 00) of 16 bytes, the last of 1 to 16, from address 0 up, then the end record, in capitals with
 -- LF after each".
 use mathlib.Core.List.{List, [], _∷_, _++_}
 use Prim.Native.Nat.{ℕ, zero, suc, _+_, _-_, _/_, _%_}

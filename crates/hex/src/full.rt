@@ -11,13 +11,13 @@ ghost use lib.Seq.{sets};
 ghost use Rattle.hex.specs.Digits.{isDigit, digitValue};
 ghost use Rattle.hex.specs.Found.{leastOf, mostOf, Valued, Weighs, Digits, pairsAt};
 
-fn least(a: u8, b: u8) -> u8
+pub fn least(a: u8, b: u8) -> u8
     ensures { λ r. ⌜ r ≡ leastOf a b ⌝ }
 {
     if a < b { a } else { b }
 }
 
-fn most(a: u8, b: u8) -> u8
+pub fn most(a: u8, b: u8) -> u8
     ensures { λ r. ⌜ r ≡ mostOf a b ⌝ }
 {
     if a < b { b } else { a }

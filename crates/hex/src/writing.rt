@@ -1,11 +1,16 @@
 // The text of bytes, line by line.
+use crate::full::least;
+use crate::full::most;
+use std::num::wrapping_add_u8;
+use std::num::wrapping_sub_u8;
 ghost use mathlib.Core.Path.{_≡_};
 ghost use mathlib.Core.List.{[], _∷_};
 ghost use Prim.Native.Nat.{_+_, _*_, _%_, _≤_, _<_};
 ghost use lib.ListN.{length};
+ghost use Rattle.hex.specs.Digits.{capital as capitalOf};
 ghost use Rattle.hex.specs.Text.{pairsOf, total, recordLine, hexOf};
 ghost use Rattle.hex.specs.Answers.{textLength};
-ghost use Rattle.hex.specs.Found.{Pairs, Puts, headOf};
+ghost use Rattle.hex.specs.Found.{Pairs, Puts, headOf, Doubled, checkOf};
 
 // The characters that the text of so many bytes takes.
 pub fn text_length(n: usize) -> usize
@@ -54,10 +59,81 @@ fn put_data(pairs: &[u8], bytes: &[u8], text: &mut [u8], at: usize) -> u8
     while i < bytes.len() {
         let byte = bytes[i];
         put_byte(pairs, text, at + 2 * i, byte);
-        sum = std::num::wrapping_add_u8(sum, byte);
+        sum = wrapping_add_u8(sum, byte);
         i = i + 1;
     }
     sum
+}
+
+// The character of a digit.
+fn capital(d: u8) -> u8
+    requires { ⌜ d ≤ 200 ⌝ }
+    ensures { λ r. ⌜ r ≡ capitalOf d ⌝ }
+{
+    if 9 < d {
+        return 55 + d;
+    }
+    48 + d
+}
+
+// Each of 16 bytes twice.
+fn doubled(bytes: &[u8]) -> [u8; 32]
+    requires { ⌜ length (now bytes) ≡ 16 ⌝ }
+    ensures { λ r. ⌜ Doubled (now (bytes .entry)) 32 r ⌝ }
+{
+    let mut twice = [0u8; 32];
+    let mut i: usize = 0;
+    while i < 16 {
+        let byte = bytes[i];
+        twice[2 * i] = byte;
+        twice[2 * i + 1] = byte;
+        i = i + 1;
+    }
+    twice
+}
+
+// The data of a full record, which is also added up; one loop of 32 turns without a branch, which the compiler makes vectors of.
+fn put_full(bytes: &[u8], text: &mut [u8], at: usize) -> u8
+    requires { ⌜ (length (now bytes) ≡ 16) × (at + 32 ≤ length (now text)) ⌝ }
+    ensures { λ r. ⌜ Puts (pairsOf (now (bytes .entry))) (now (text .entry)) at (now (text .exit)) × (r ≡ total (now (bytes .entry)) % 256) ⌝ }
+{
+    let twice = doubled(bytes);
+    let even =
+        b"\x0f\x00\x0f\x00\x0f\x00\x0f\x00\x0f\x00\x0f\x00\x0f\x00\x0f\x00\x0f\x00\x0f\x00\x0f\x00\x0f\x00\x0f\x00\x0f\x00\x0f\x00\x0f\x00";
+    let odd =
+        b"\x00\x0f\x00\x0f\x00\x0f\x00\x0f\x00\x0f\x00\x0f\x00\x0f\x00\x0f\x00\x0f\x00\x0f\x00\x0f\x00\x0f\x00\x0f\x00\x0f\x00\x0f\x00\x0f";
+    let mut sum: u8 = 0;
+    let mut i: usize = 0;
+    while i < 32 {
+        let byte = twice[i];
+        let high = least(byte / 16, even[i]);
+        let low = least(byte % 16, odd[i]);
+        text[at + i] = capital(most(high, low));
+        sum = wrapping_add_u8(sum, wrapping_add_u8(16 * (high % 16), low));
+        i = i + 1;
+    }
+    sum
+}
+
+// A record's checksum, and the LF.
+fn put_check(pairs: &[u8], count: u8, address: u16, inner: u8, text: &mut [u8], at: usize)
+    requires { ⌜ Pairs (now pairs) × (at + 3 ≤ length (now text)) ⌝ }
+    ensures { λ _. ⌜ Puts (checkOf count address inner) (now (text .entry)) at (now (text .exit)) ⌝ }
+{
+    let place = wrapping_add_u8((address / 256) as u8, (address % 256) as u8);
+    let sum = wrapping_add_u8(count, wrapping_add_u8(place, inner));
+    put_byte(pairs, text, at, wrapping_sub_u8(0, sum));
+    text[at + 2] = 10;
+}
+
+// A full data record's line.
+fn put_full_line(pairs: &[u8], bytes: &[u8], address: u16, text: &mut [u8], at: usize)
+    requires { ⌜ Pairs (now pairs) × (length (now bytes) ≡ 16) × (at + 44 ≤ length (now text)) ⌝ }
+    ensures { λ _. ⌜ Puts (recordLine 0 address (now (bytes .entry))) (now (text .entry)) at (now (text .exit)) ⌝ }
+{
+    put_head(pairs, 16, address, text, at);
+    let inner = put_full(bytes, text, at + 9);
+    put_check(pairs, 16, address, inner, text, at + 41);
 }
 
 // A data record's line.
@@ -68,15 +144,7 @@ fn put_line(pairs: &[u8], bytes: &[u8], address: u16, text: &mut [u8], at: usize
     let n = bytes.len();
     put_head(pairs, n as u8, address, text, at);
     let inner = put_data(pairs, bytes, text, at + 9);
-    let place = std::num::wrapping_add_u8((address / 256) as u8, (address % 256) as u8);
-    let sum = std::num::wrapping_add_u8(n as u8, std::num::wrapping_add_u8(place, inner));
-    put_byte(
-        pairs,
-        text,
-        at + 9 + 2 * n,
-        std::num::wrapping_sub_u8(0, sum),
-    );
-    text[at + 11 + 2 * n] = 10;
+    put_check(pairs, n as u8, address, inner, text, at + 9 + 2 * n);
 }
 
 // Characters as they are.
@@ -108,7 +176,7 @@ fn put_records(pairs: &[u8], image: &[u8], text: &mut [u8])
     let mut at: usize = 0;
     while from + 16 <= image.len() {
         let to = from + 16;
-        put_line(pairs, &image[from..to], from as u16, text, at);
+        put_full_line(pairs, &image[from..to], from as u16, text, at);
         from = to;
         at = at + 44;
     }
