@@ -17,9 +17,9 @@ use Rattle.image.specs.Image.{numberOfRefusal, imageVerdict, imageAnswer}
 use Rattle.hex.specs.declared.HexWritten.the-variants.{Characters, BadImage, NoRoom as NoTextRoom}
 use Rattle.hex.specs.declared.HexRead.{HexRead}
 use Rattle.hex.specs.declared.HexRead.the-variants.{Bytes, Malformed, BadChecksum, BadSpan, NoRoom as NoByteRoom}
-use Rattle.hex.specs.Text.{hexOf}
-use Rattle.hex.specs.Lines.{linesOf}
-use Rattle.hex.specs.Reading.{malformed, badChecksum, badSpan, saidBy}
+use Rattle.hex_format.specs.Text.{hexOf}
+use Rattle.hex_format.specs.Lines.{linesOf}
+use Rattle.hex_format.specs.Reading.{malformed, badChecksum, badSpan, saidBy, textNumber}
 use Rattle.hex.specs.Answers.{ReadsAs, numberOfHexWritten, charactersOf, writtenFor, hexWritten, textLength, HexWrites, numberOfHexRead, bytesIn, verdictOf, hexRead, HexReads}
 use Rattle.hex.specs.Found.{Puts}
 use Rattle.hex.proofs.Storing.{sets-front}
@@ -113,6 +113,17 @@ tested lines = one (malformed lines) (badChecksum lines) (badSpan 0 lines) refl 
     one false true c x y z = summed x y
     one false false true x y z = spanned x y z
     one false false false x y z = passed x y z
+
+-- the verdict's number is the text's
+pub verdict-number : (lines : List (List ℕ)) → numberOfHexRead (verdictOf lines) ≡ textNumber lines
+unfolding verdictOf textNumber
+verdict-number lines = one (malformed lines) (badChecksum lines) (badSpan 0 lines)
+  where
+    one : (a b c : Bool) → numberOfHexRead (cond a Malformed (cond b BadChecksum (cond c BadSpan (Bytes (length (saidBy lines)))))) ≡ cond a 27 (cond b 28 (cond c 29 0))
+    one true b c = refl
+    one false true c = refl
+    one false false true = refl
+    one false false false = refl
 
 -- what each verdict tells
 module _ (lines : List (List ℕ)) where

@@ -8,10 +8,10 @@ use borrow.Author.Tests.{eq-eqb, le-ltb, eqb-true, eqb-false, ltb-false}
 use lib.Dec.{eqb, ltb}
 use lib.ListN.{length, getD, take, drop, length-append, length-drop, length-take, take-append-drop}
 use lib.Seq.{length-take-le, take-all, getD-take, getD-drop}
-use Rattle.hex.specs.Text.{lineOf, recordLine, dataLines, recordsOf, hexOf}
-use Rattle.hex.specs.Lines.{linesOf}
-use Rattle.hex.specs.Record.{byteOf, bytesFrom, countOf, addressOf, typeOf, dataOf, sumOf, wellFormed, isData, isEnd}
-use Rattle.hex.specs.Reading.{malformed, badChecksum, badSpan, saidBy}
+use Rattle.hex_format.specs.Text.{lineOf, recordLine, dataLines, recordsOf, hexOf}
+use Rattle.hex_format.specs.Lines.{linesOf}
+use Rattle.hex_format.specs.Record.{byteOf, bytesFrom, countOf, addressOf, typeOf, dataOf, sumOf, wellFormed, isData, isEnd}
+use Rattle.hex_format.specs.Reading.{malformed, badChecksum, badSpan, saidBy}
 use Rattle.hex.specs.Answers.{textLength, ReadsAs}
 use Rattle.hex.proofs.RecordLaws.{Formed, formed, byte-most, IsData, data-parts, is-data, is-end, end-parts, Good, end, more, good}
 use Rattle.hex.proofs.Scanning.{no-lines, bytes-size}

@@ -10,7 +10,7 @@ use borrow.Author.Tests.{lt-ltb, le-ltb, le-leb, lt-leb, leb-true, leb-false, lt
 use lib.Dec.{eqb, leb, ltb}
 use lib.ListN.{length, getD, replicate}
 use lib.Seq.{sets}
-use Rattle.hex.specs.Digits.{capital, between, isDigit, digitValue}
+use Rattle.hex_format.specs.Digits.{capital, between, isDigit, digitValue}
 use Rattle.hex.specs.Found.{weightOf, Weights, sumAt}
 
 -- where a digit's character lies

@@ -10,7 +10,7 @@ use borrow.Author.Tests.{eq-eqb, ne-eqb, eqb-true, leb-true, lt-ltb, le-ltb, ltb
 use lib.Dec.{eqb, leb, ltb}
 use lib.ListN.{length, getD, set, drop, replicate, length-append, drop-of-length-le, List·getD-append}
 use lib.Seq.{sets, getD-at, getD-append-add, getD-drop}
-use Rattle.hex.specs.Digits.{isDigit, digitValue}
+use Rattle.hex_format.specs.Digits.{isDigit, digitValue}
 use Rattle.hex.specs.Found.{weightOf, leastOf, mostOf, Valued, Digits, byteAt, sumAt, pairsAt, Weighs}
 use Rattle.hex.proofs.DigitLaws.{every, each, value-most, weight-value, weight-most, light}
 use Rattle.hex.proofs.TextLaws.{countUp, counted, counted-length}

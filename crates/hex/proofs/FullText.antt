@@ -9,8 +9,8 @@ use borrow.Author.Tests.{eqb-true, eqb-false, eq-eqb, ne-eqb, ltb-true, ltb-fals
 use lib.Dec.{eqb, ltb}
 use lib.ListN.{length, getD, set, take, length-set, length-append}
 use lib.Seq.{getD-set-same, getD-set-other, take-suc, take-all}
-use Rattle.hex.specs.Digits.{capital}
-use Rattle.hex.specs.Text.{pairsOf, total}
+use Rattle.hex_format.specs.Digits.{capital}
+use Rattle.hex_format.specs.Text.{pairsOf, total}
 use Rattle.hex.specs.Found.{leastOf, mostOf, Puts, Doubled}
 use Rattle.hex.proofs.Storing.{one-more-stored, puts-same}
 use Rattle.hex.proofs.TextLaws.{pair-high, pair-low, pairs-length, total-append}

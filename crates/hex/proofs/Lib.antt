@@ -14,4 +14,3 @@ pub mod Written
 pub mod RoundTrip
 pub mod Canonical
 pub mod Answered
-pub mod Cases

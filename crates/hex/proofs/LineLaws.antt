@@ -10,8 +10,8 @@ use borrow.Author.Tests.{eq-eqb, ne-eqb, eqb-true, eqb-false, ltb-true, ltb-fals
 use lib.Dec.{eqb, ltb, eqb·suc-suc, eqb·zero-suc}
 use lib.ListN.{length, getD, take, drop, length-drop, List·getD-eq-default}
 use lib.Seq.{getD-drop, drop-nil}
-use Rattle.hex.specs.Digits.{lineFeed, carriageReturn}
-use Rattle.hex.specs.Lines.{before, linesOf}
+use Rattle.hex_format.specs.Digits.{lineFeed, carriageReturn}
+use Rattle.hex_format.specs.Lines.{before, linesOf}
 use Rattle.hex.specs.Found.{endAt}
 
 -- a character that is no part of a line's end

@@ -8,9 +8,9 @@ use borrow.Author.Tests.{eq-eqb, le-leb, eqb-true, leb-true}
 use lib.Dec.{eqb, leb}
 use lib.ListN.{length, getD, drop, length-drop}
 use lib.Seq.{getD-drop}
-use Rattle.hex.specs.Digits.{colon, isDigit, digitValue}
-use Rattle.hex.specs.Record.{byteOf, countOf, addressOf, typeOf, allDigits, wellFormed, isData, isEnd}
-use Rattle.hex.specs.Reading.{none, malformed}
+use Rattle.hex_format.specs.Digits.{colon, isDigit, digitValue}
+use Rattle.hex_format.specs.Record.{byteOf, countOf, addressOf, typeOf, allDigits, wellFormed, isData, isEnd}
+use Rattle.hex_format.specs.Reading.{none, malformed}
 use Rattle.hex.proofs.DigitLaws.{value-most}
 
 digits-each : (xs : List ℕ) → allDigits xs ≡ true → (j : ℕ) → j < length xs → isDigit (getD xs j 0) ≡ true

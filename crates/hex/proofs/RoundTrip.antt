@@ -9,10 +9,10 @@ use borrow.Author.Tests.{eqb-true, eqb-false}
 use lib.Dec.{eqb}
 use lib.ListN.{length, getD, take, drop, length-append}
 use lib.Seq.{drop-cons, take-all, take-at}
-use Rattle.hex.specs.Digits.{colon, lineFeed, capital, isDigit, digitValue}
-use Rattle.hex.specs.Text.{pairsOf, total, checksumOf, fieldsOf, lineOf, recordLine}
-use Rattle.hex.specs.Lines.{before, linesOf}
-use Rattle.hex.specs.Record.{byteOf, bytesFrom, countOf, addressOf, typeOf, dataOf, sumOf, wellFormed, isData, isEnd}
+use Rattle.hex_format.specs.Digits.{colon, lineFeed, capital, isDigit, digitValue}
+use Rattle.hex_format.specs.Text.{pairsOf, total, checksumOf, fieldsOf, lineOf, recordLine}
+use Rattle.hex_format.specs.Lines.{before, linesOf}
+use Rattle.hex_format.specs.Record.{byteOf, bytesFrom, countOf, addressOf, typeOf, dataOf, sumOf, wellFormed, isData, isEnd}
 use Rattle.hex.proofs.DigitLaws.{capital-digit, plain}
 use Rattle.hex.proofs.LineLaws.{Plain, plain-first}
 use Rattle.hex.proofs.RecordLaws.{Formed, is-formed}

@@ -10,9 +10,9 @@ use borrow.Author.Tests.{ltb-true, ltb-false}
 use lib.Dec.{ltb}
 use lib.ListN.{length, getD, take, drop, length-append, length-drop, drop-of-length-le}
 use lib.Seq.{sets, length-sets, length-take-le, take-add, take-at, drop-at, drop-drop, take-length}
-use Rattle.hex.specs.Lines.{linesOf}
-use Rattle.hex.specs.Record.{byteOf, bytesFrom, countOf, dataOf}
-use Rattle.hex.specs.Reading.{malformed, saidBy}
+use Rattle.hex_format.specs.Lines.{linesOf}
+use Rattle.hex_format.specs.Record.{byteOf, bytesFrom, countOf, dataOf}
+use Rattle.hex_format.specs.Reading.{malformed, saidBy}
 use Rattle.hex.specs.Found.{byteAt, pairsAt, Digits, endAt, lineAt}
 use Rattle.hex.proofs.LineLaws.{end-inside}
 use Rattle.hex.proofs.RecordLaws.{Good, end, more, good, data-parts, end-parts}

@@ -13,9 +13,9 @@ use Rattle.hex.specs.declared.line.Line.{Line}
 use Rattle.hex.specs.declared.line.Line.the-variants.{NoRecord, Record}
 use Rattle.hex.specs.declared.HexRead.{HexRead}
 use Rattle.hex.specs.declared.HexRead.the-variants.{Bytes, Malformed, BadChecksum, BadSpan}
-use Rattle.hex.specs.Lines.{linesOf}
-use Rattle.hex.specs.Record.{bytesFrom, countOf, addressOf, typeOf, sumOf, dataOf, wellFormed, isData, isEnd}
-use Rattle.hex.specs.Reading.{none, malformed, badChecksum, badSpan, saidBy}
+use Rattle.hex_format.specs.Lines.{linesOf}
+use Rattle.hex_format.specs.Record.{bytesFrom, countOf, addressOf, typeOf, sumOf, dataOf, wellFormed, isData, isEnd}
+use Rattle.hex_format.specs.Reading.{none, malformed, badChecksum, badSpan, saidBy}
 use Rattle.hex.specs.Answers.{verdictOf}
 use Rattle.hex.specs.Found.{lineAt, Stands, LineFound, alsoSum, alsoSpan, testedAs}
 use Rattle.hex.proofs.LineLaws.{Cut, cut}

@@ -10,11 +10,11 @@ use borrow.Author.Tests.{eqb-true, ltb-true, ltb-false}
 use lib.Dec.{eqb, ltb}
 use lib.ListN.{length, getD, take, drop, length-drop}
 use lib.Seq.{getD-take, getD-drop, drop-drop, length-take-le}
-use Rattle.hex.specs.Digits.{isDigit, digitValue}
-use Rattle.hex.specs.Text.{total}
-use Rattle.hex.specs.Lines.{linesOf}
-use Rattle.hex.specs.Record.{byteOf, bytesFrom, countOf, addressOf, typeOf, sumOf, wellFormed}
-use Rattle.hex.specs.Reading.{malformed}
+use Rattle.hex_format.specs.Digits.{isDigit, digitValue}
+use Rattle.hex_format.specs.Text.{total}
+use Rattle.hex_format.specs.Lines.{linesOf}
+use Rattle.hex_format.specs.Record.{byteOf, bytesFrom, countOf, addressOf, typeOf, sumOf, wellFormed}
+use Rattle.hex_format.specs.Reading.{malformed}
 use Rattle.hex.specs.Found.{weightOf, byteAt, sumAt, endAt, lineAt, Weighs, fullAt, Stands}
 use Rattle.hex.proofs.DigitLaws.{value-most, weight-value, weight-most, light, plain}
 use Rattle.hex.proofs.LineLaws.{Plain, first-line, Cut, cut, end-rest, end-inside}

@@ -10,8 +10,8 @@ use borrow.Author.Tests.{eq-eqb, ne-eqb}
 use lib.Dec.{eqb}
 use lib.ListN.{length, getD, set, take, drop, length-append, length-take, length-drop}
 use lib.Seq.{sets, drop-drop, length-take-le, take-suc}
-use Rattle.hex.specs.Digits.{colon, lineFeed, capital}
-use Rattle.hex.specs.Text.{pairsOf, total, checksumOf, fieldsOf, lineOf, recordLine, dataLines, recordsOf, hexOf}
+use Rattle.hex_format.specs.Digits.{colon, lineFeed, capital}
+use Rattle.hex_format.specs.Text.{pairsOf, total, checksumOf, fieldsOf, lineOf, recordLine, dataLines, recordsOf, hexOf}
 use Rattle.hex.specs.Answers.{textLength}
 use Rattle.hex.specs.Found.{Pairs, Puts, headOf, checkOf}
 use Rattle.hex.proofs.Storing.{puts-then, puts-one, puts-same}

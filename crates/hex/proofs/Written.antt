@@ -6,8 +6,8 @@ use native.Mathlib.Nat.{zero-add}
 use native.Mathlib.Omega.{arith}
 use lib.ListN.{length, take, drop, length-append, length-drop}
 use lib.Seq.{take-all, length-take-le, drop-length}
-use Rattle.hex.specs.Text.{pairsOf, total, recordLine, dataLines, recordsOf, hexOf}
-use Rattle.hex.specs.Digits.{capital}
+use Rattle.hex_format.specs.Text.{pairsOf, total, recordLine, dataLines, recordsOf, hexOf}
+use Rattle.hex_format.specs.Digits.{capital}
 use Rattle.hex.specs.Answers.{textLength}
 use Rattle.hex.specs.Found.{Puts}
 use Rattle.hex.proofs.Storing.{puts-then, puts-same, puts-none}

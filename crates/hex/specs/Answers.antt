@@ -14,9 +14,9 @@ use Rattle.hex.specs.declared.HexWritten.{HexWritten}
 use Rattle.hex.specs.declared.HexWritten.the-variants.{Characters, BadImage, NoRoom as NoTextRoom}
 use Rattle.hex.specs.declared.HexRead.{HexRead}
 use Rattle.hex.specs.declared.HexRead.the-variants.{Bytes, Malformed, BadChecksum, BadSpan, NoRoom as NoByteRoom}
-use Rattle.hex.specs.Text.{hexOf}
-use Rattle.hex.specs.Lines.{linesOf}
-use Rattle.hex.specs.Reading.{malformed, badChecksum, badSpan, saidBy}
+use Rattle.hex_format.specs.Text.{hexOf}
+use Rattle.hex_format.specs.Lines.{linesOf}
+use Rattle.hex_format.specs.Reading.{malformed, badChecksum, badSpan, saidBy}
 
 -- a text that is read, and the bytes that it gives
 pub record ReadsAs (text bytes : List ℕ) : Type 0 where

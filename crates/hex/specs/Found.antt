@@ -11,11 +11,11 @@ use Rattle.hex.specs.declared.line.Line.the-variants.{NoRecord, Record}
 use Rattle.hex.specs.declared.line.HexRecord.{HexRecord}
 use Rattle.hex.specs.declared.HexRead.{HexRead}
 use Rattle.hex.specs.declared.HexRead.the-variants.{Bytes, BadChecksum, BadSpan}
-use Rattle.hex.specs.Digits.{colon, lineFeed, carriageReturn, capital, isDigit, digitValue}
-use Rattle.hex.specs.Text.{pairsOf}
-use Rattle.hex.specs.Lines.{linesOf}
-use Rattle.hex.specs.Record.{countOf, addressOf, typeOf, sumOf, wellFormed}
-use Rattle.hex.specs.Reading.{malformed}
+use Rattle.hex_format.specs.Digits.{colon, lineFeed, carriageReturn, capital, isDigit, digitValue}
+use Rattle.hex_format.specs.Text.{pairsOf}
+use Rattle.hex_format.specs.Lines.{linesOf}
+use Rattle.hex_format.specs.Record.{countOf, addressOf, typeOf, sumOf, wellFormed}
+use Rattle.hex_format.specs.Reading.{malformed}
 
 -- a character's weight: a digit's value; else more than a record's digits add up to
 unfoldable pub weightOf : ℕ → ℕ

@@ -1,10 +1,3 @@
--- In reading order: digits, the text that is written, a text's lines, a line's record, what is read, the answers; what only the code's contracts
--- need; and worked cases.
-pub mod Digits
-pub mod Text
-pub mod Lines
-pub mod Record
-pub mod Reading
+-- The answers, and what only the code's contracts need.
 pub mod Answers
 pub mod Found
-pub mod Cases

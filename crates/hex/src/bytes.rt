@@ -9,8 +9,8 @@ ghost use mathlib.Core.List.{_++_};
 ghost use Prim.Native.Nat.{_≤_, _+_, _*_};
 ghost use lib.ListN.{length, drop};
 ghost use lib.Seq.{sets};
-ghost use Rattle.hex.specs.Lines.{linesOf};
-ghost use Rattle.hex.specs.Reading.{malformed, saidBy};
+ghost use Rattle.hex_format.specs.Lines.{linesOf};
+ghost use Rattle.hex_format.specs.Reading.{malformed, saidBy};
 ghost use Rattle.hex.specs.Found.{Weights, Digits, byteAt, pairsAt};
 
 // So many bytes, read at one position and stored at another.

@@ -8,7 +8,7 @@ ghost use Prim.Native.Nat.{_≤_, _+_};
 ghost use lib.Dec.{ltb};
 ghost use lib.ListN.{length};
 ghost use lib.Seq.{sets};
-ghost use Rattle.hex.specs.Digits.{isDigit, digitValue};
+ghost use Rattle.hex_format.specs.Digits.{isDigit, digitValue};
 ghost use Rattle.hex.specs.Found.{leastOf, mostOf, Valued, Weighs, Digits, pairsAt};
 
 pub fn least(a: u8, b: u8) -> u8

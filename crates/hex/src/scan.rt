@@ -3,7 +3,7 @@ use crate::HexRead;
 use crate::line::Line;
 use crate::line::line_at;
 ghost use mathlib.Core.Path.{_≡_};
-ghost use Rattle.hex.specs.Lines.{linesOf};
+ghost use Rattle.hex_format.specs.Lines.{linesOf};
 ghost use Rattle.hex.specs.Answers.{verdictOf};
 ghost use Rattle.hex.specs.Found.{Weights, alsoSum, alsoSpan, testedAs};
 

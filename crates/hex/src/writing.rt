@@ -7,8 +7,8 @@ ghost use mathlib.Core.Path.{_≡_};
 ghost use mathlib.Core.List.{[], _∷_};
 ghost use Prim.Native.Nat.{_+_, _*_, _%_, _≤_, _<_};
 ghost use lib.ListN.{length};
-ghost use Rattle.hex.specs.Digits.{capital as capitalOf};
-ghost use Rattle.hex.specs.Text.{pairsOf, total, recordLine, hexOf};
+ghost use Rattle.hex_format.specs.Digits.{capital as capitalOf};
+ghost use Rattle.hex_format.specs.Text.{pairsOf, total, recordLine, hexOf};
 ghost use Rattle.hex.specs.Answers.{textLength};
 ghost use Rattle.hex.specs.Found.{Pairs, Puts, headOf, Doubled, checkOf};
 

@@ -12,9 +12,9 @@ use lib.Seq.{length-take-le}
 use Rattle.image.specs.declared.Verdict.the-variants.{Rejected}
 use Rattle.image.specs.declared.Refusal.the-variants.{BadLength}
 use Rattle.image.specs.Image.{imageVerdict}
-use Rattle.hex.specs.Lines.{before, linesOf}
-use Rattle.hex.specs.Record.{bytesFrom, countOf, dataOf}
-use Rattle.hex.specs.Reading.{malformed, saidBy}
+use Rattle.hex_format.specs.Lines.{before, linesOf}
+use Rattle.hex_format.specs.Record.{bytesFrom, countOf, dataOf}
+use Rattle.hex_format.specs.Reading.{malformed, saidBy}
 use Rattle.hex.specs.Answers.{ReadsAs, hexWritten}
 use Rattle.hex.proofs.RecordLaws.{formed, data-parts, end-parts, Good, end, more, good}
 use Rattle.hex.proofs.Canonical.{below-64K}

@@ -10,8 +10,8 @@ use lib.ListN.{length, drop}
 use Rattle.text.specs.Buffer.{Put}
 use Rattle.hex.specs.declared.HexRead.{HexRead}
 use Rattle.hex.specs.declared.HexRead.the-variants.{Bytes, Malformed, BadChecksum, BadSpan, NoRoom as NoByteRoom}
-use Rattle.hex.specs.Lines.{linesOf}
-use Rattle.hex.specs.Reading.{saidBy}
+use Rattle.hex_format.specs.Lines.{linesOf}
+use Rattle.hex_format.specs.Reading.{saidBy}
 use Rattle.hex.specs.Answers.{numberOfHexRead, bytesIn, verdictOf, within, hexRead, bytesAfter, HexReads}
 use Rattle.hex.proofs.Canonical.{below-64K}
 use Rattle.hex_output.specs.Output.{refusedLine, ReadsOutput}

@@ -16,7 +16,7 @@ use Rattle.image.proofs.Accepted.{accepted}
 use Rattle.text.specs.Buffer.{Put}
 use Rattle.hex.specs.declared.HexWritten.{HexWritten}
 use Rattle.hex.specs.declared.HexWritten.the-variants.{Characters, BadImage, NoRoom as NoTextRoom}
-use Rattle.hex.specs.Text.{hexOf}
+use Rattle.hex_format.specs.Text.{hexOf}
 use Rattle.hex.specs.Answers.{numberOfHexWritten, charactersOf, writtenFor, hexWritten, textAfter, textLength, HexWrites}
 use Rattle.hex_output.specs.Output.{refusedLine, WritesOutput}
 use Rattle.hex_output.proofs.Fronts.{laid, refused-for, few-refused}

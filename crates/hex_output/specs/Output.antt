@@ -5,9 +5,9 @@ use Prim.Native.Nat.{ℕ, zero, suc, _≤_}
 use lib.ListN.{length}
 use Rattle.text.specs.Text.{ascii, spaced}
 use Rattle.text.specs.Buffer.{Put}
-use Rattle.hex.specs.Text.{hexOf}
-use Rattle.hex.specs.Lines.{linesOf}
-use Rattle.hex.specs.Reading.{saidBy}
+use Rattle.hex_format.specs.Text.{hexOf}
+use Rattle.hex_format.specs.Lines.{linesOf}
+use Rattle.hex_format.specs.Reading.{saidBy}
 use Rattle.hex.specs.Answers.{numberOfHexWritten, hexWritten, numberOfHexRead, hexRead}
 
 -- "or alone `refused` number", as the print program says it

@@ -1,7 +1,7 @@
 -- `hex::writing::capital` meets its contract. Assumes nothing.
 use borrow.Author.Tests.{lt-ltb, le-ltb}
 use native.Mathlib.Omega.{arith}
-use Rattle.hex.specs.Digits.{capital}
+use Rattle.hex_format.specs.Digits.{capital}
 use borrow.Author.Needs.{needs}
 use Rattle.hex.proofs.writing.capital.Statement.{statement}
 use Rattle.hex.proofs.writing.capital.Tie as tie

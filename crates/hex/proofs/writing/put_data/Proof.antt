@@ -4,7 +4,7 @@ use Prim.Native.Nat.{_*_, _%_, _≤_, _-_}
 use native.Mathlib.Omega.{arith}
 use lib.ListN.{length, take}
 use lib.Seq.{take-all}
-use Rattle.hex.specs.Text.{pairsOf, total}
+use Rattle.hex_format.specs.Text.{pairsOf, total}
 use Rattle.hex.specs.Found.{Puts}
 use Rattle.hex.proofs.Storing.{still-long, puts-size, puts-none, puts-same}
 use Rattle.hex.proofs.TextLaws.{one-more-pair, one-more-summed}

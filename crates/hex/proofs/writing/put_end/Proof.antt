@@ -1,6 +1,6 @@
 -- `hex::writing::put_end` meets its contract: its characters are the end record's. Assumes nothing.
-use Rattle.hex.specs.Digits.{capital}
-use Rattle.hex.specs.Text.{pairsOf, total}
+use Rattle.hex_format.specs.Digits.{capital}
+use Rattle.hex_format.specs.Text.{pairsOf, total}
 use borrow.Author.Needs.{needs}
 use Rattle.hex.proofs.writing.put_end.Statement.{statement}
 use Rattle.hex.proofs.writing.put_end.Tie as tie

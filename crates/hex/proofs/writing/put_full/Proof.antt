@@ -5,8 +5,8 @@ use native.Mathlib.Omega.{arith}
 use borrow.Author.Needs.{needs}
 use lib.ListN.{length, take}
 use lib.Seq.{take-all}
-use Rattle.hex.specs.Digits.{capital}
-use Rattle.hex.specs.Text.{pairsOf}
+use Rattle.hex_format.specs.Digits.{capital}
+use Rattle.hex_format.specs.Text.{pairsOf}
 use Rattle.hex.specs.Found.{Puts}
 use Rattle.hex.proofs.Storing.{puts-none, puts-size, puts-same, still-long, one-more-stored}
 use Rattle.hex.proofs.TextLaws.{pairs-length}

@@ -1,8 +1,8 @@
 -- `hex::writing::put_text` meets its contract: its table has the characters of each byte. Assumes nothing.
 use borrow.Author.Needs.{needs}
 use native.Mathlib.Omega.{arith}
-use Rattle.hex.specs.Digits.{capital}
-use Rattle.hex.specs.Text.{pairsOf}
+use Rattle.hex_format.specs.Digits.{capital}
+use Rattle.hex_format.specs.Text.{pairsOf}
 use Rattle.hex.proofs.TextLaws.{countUp, pairs-right}
 use Rattle.hex.proofs.writing.put_text.Statement.{statement}
 use Rattle.hex.proofs.writing.put_text.Tie as tie

@@ -4,7 +4,7 @@ use mathlib.Core.List.{List, [], _∷_}
 use Prim.Native.Nat.{ℕ}
 use lib.Dec.{eqb}
 use lib.ListN.{getD}
-use Rattle.hex.specs.Digits.{lineFeed, carriageReturn}
+use Rattle.hex_format.specs.Digits.{lineFeed, carriageReturn}
 
 -- lines, with a character before the first; it begins a line where there is none
 abbrev pub before : ℕ → List (List ℕ) → List (List ℕ)

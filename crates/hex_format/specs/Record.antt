@@ -4,8 +4,8 @@ use mathlib.Core.List.{List, [], _∷_}
 use Prim.Native.Nat.{ℕ, zero, suc, _+_, _*_}
 use lib.Dec.{eqb, leb}
 use lib.ListN.{getD, length, drop}
-use Rattle.hex.specs.Digits.{colon, isDigit, digitValue}
-use Rattle.hex.specs.Text.{total}
+use Rattle.hex_format.specs.Digits.{colon, isDigit, digitValue}
+use Rattle.hex_format.specs.Text.{total}
 
 -- byte k of a line: two digits after the colon, the high one first
 abbrev pub byteOf : List ℕ → ℕ → ℕ

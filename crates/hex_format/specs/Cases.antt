@@ -8,10 +8,9 @@ use Prim.Native.String.{String, [] as none, _∷_ as first}
 use lib.Dec.{eqb}
 use lib.ListN.{drop, replicate}
 use Rattle.image.specs.Cases.{whole}
-use Rattle.hex.specs.Text.{hexOf}
-use Rattle.hex.specs.Lines.{linesOf}
-use Rattle.hex.specs.Reading.{badSpan, saidBy}
-use Rattle.hex.specs.Answers.{numberOfHexRead, verdictOf}
+use Rattle.hex_format.specs.Text.{hexOf}
+use Rattle.hex_format.specs.Lines.{linesOf}
+use Rattle.hex_format.specs.Reading.{badSpan, saidBy, textNumber}
 
 abbrev pub characters : String → List ℕ
 characters none = []
@@ -220,7 +219,7 @@ hexCases = readTexts ++ malformedLines ++ malformedRecords ++ wrongChecksums ++ 
 abbrev pub asRead : HexCase → HexCase
 asRead c =
     let lines : List (List ℕ) = linesOf (c .text) in
-    let number : ℕ = numberOfHexRead (verdictOf lines) in
+    let number : ℕ = textNumber lines in
     record { text = c .text; number = number; bytes = cond (eqb number 0) (saidBy lines) [] }
 
 abbrev pub eachRead : List HexCase → List HexCase

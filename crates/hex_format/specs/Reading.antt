@@ -3,7 +3,7 @@ use mathlib.Core.Bool.{Bool, true, false, cond, _||_, not}
 use mathlib.Core.List.{List, [], _∷_, _++_}
 use Prim.Native.Nat.{ℕ, _+_, _%_}
 use lib.Dec.{eqb, ltb}
-use Rattle.hex.specs.Record.{countOf, addressOf, dataOf, sumOf, isData, isEnd}
+use Rattle.hex_format.specs.Record.{countOf, addressOf, dataOf, sumOf, isData, isEnd}
 
 -- is there no line?
 abbrev pub none : List (List ℕ) → Bool
@@ -30,3 +30,7 @@ badSpan count (line ∷ lines) =
 unfoldable pub saidBy : List (List ℕ) → List ℕ
 saidBy [] = []
 saidBy (line ∷ lines) = dataOf line ++ saidBy lines
+
+-- "Refused, each over the whole text before the next"; 0 where the text is read
+unfoldable pub textNumber : List (List ℕ) → ℕ
+textNumber lines = cond (malformed lines) 27 (cond (badChecksum lines) 28 (cond (badSpan 0 lines) 29 0))

@@ -3,7 +3,7 @@
 use mathlib.Core.List.{List, [], _∷_, _++_}
 use Prim.Native.Nat.{ℕ, zero, suc, _+_, _-_, _/_, _%_}
 use lib.ListN.{length, take, drop}
-use Rattle.hex.specs.Digits.{colon, lineFeed, capital}
+use Rattle.hex_format.specs.Digits.{colon, lineFeed, capital}
 
 -- bytes as characters, two for each, the high digit first
 unfoldable pub pairsOf : List ℕ → List ℕ
