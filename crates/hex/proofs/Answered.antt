@@ -18,10 +18,10 @@ use Rattle.hex.specs.declared.HexWritten.the-variants.{Characters, BadIm
 use Rattle.hex.specs.declared.HexRead.{HexRead}
 use Rattle.hex.specs.declared.HexRead.the-variants.{Bytes, Malformed, BadChecksum, BadSpan, NoRoom as NoByteRoom}
 use Rattle.hex_format.specs.Text.{hexOf}
-use Rattle.hex_format.specs.Lines.{linesOf}
+use Rattle.hex_format.specs.Lines.{textLines}
 use Rattle.hex_format.specs.Reading.{malformed, badChecksum, badSpan, saidBy, textNumber}
 use Rattle.hex.specs.Answers.{ReadsAs, numberOfHexWritten, charactersOf, writtenFor, hexWritten, textLength, HexWrites, numberOfHexRead, bytesIn, verdictOf, hexRead, HexReads}
-use Rattle.hex.specs.Found.{Puts}
+use Rattle.hex.specs.Found.{PutsText}
 use Rattle.hex.proofs.Storing.{sets-front}
 use Rattle.hex.proofs.RoundTrip.{Small}
 use Rattle.hex.proofs.Canonical.{reads-back, canonical, text-length}
@@ -79,7 +79,7 @@ module _ (image before : List ℕ) where
         no-room-bad r p = let z : 25 ≡ numberOfRefusal r = ap numberOfHexWritten p in omega (arith, numbers r .1)
 
     -- the text
-    pub text-written : {after : List ℕ} (n : ℕ) → n ≡ textLength (length image) → n ≤ length before → Small image → length image ≤ 4096 → Puts (hexOf image) before 0 after
+    pub text-written : {after : List ℕ} (n : ℕ) → n ≡ textLength (length image) → n ≤ length before → Small image → length image ≤ 4096 → PutsText (hexOf image) before 0 after
         → HexWrites image before after (Characters n)
     unfolding hexWritten
     text-written {after} n e h small most p =
@@ -170,10 +170,10 @@ unlike : {b : Bool} → b ≡ true → b ≡ false → ⊥
 unlike x y = true≢false (sym x ∙ y)
 
 module _ (text before : List ℕ) where
-  pub is-malformed : Malformed ≡ verdictOf (linesOf text) → HexReads text before before Malformed
+  pub is-malformed : Malformed ≡ verdictOf (textLines text) → HexReads text before before Malformed
   unfolding hexRead
   is-malformed e =
-      let x : malformed (linesOf text) ≡ true = told-malformed (linesOf text) (verdictOf (linesOf text)) (tested (linesOf text)) (sym e) in
+      let x : malformed (textLines text) ≡ true = told-malformed (textLines text) (verdictOf (textLines text)) (tested (textLines text)) (sym e) in
       record {
         answered = rw (← e);
         number27 = (λ p. x, λ p. refl);
@@ -186,10 +186,10 @@ module _ (text before : List ℕ) where
         canonical = λ n p. let z : _≡_ {A = ℕ} 27 0 = ap numberOfHexRead p in absurd (omega arith);
       }
 
-  pub is-bad-checksum : BadChecksum ≡ verdictOf (linesOf text) → HexReads text before before BadChecksum
+  pub is-bad-checksum : BadChecksum ≡ verdictOf (textLines text) → HexReads text before before BadChecksum
   unfolding hexRead
   is-bad-checksum e =
-      let t = told-checksum (linesOf text) (verdictOf (linesOf text)) (tested (linesOf text)) (sym e) in
+      let t = told-checksum (textLines text) (verdictOf (textLines text)) (tested (textLines text)) (sym e) in
       record {
         answered = rw (← e);
         number27 = (λ p. absurd (omega arith), λ p. absurd (unlike p (t .0)));
@@ -202,10 +202,10 @@ module _ (text before : List ℕ) where
         canonical = λ n p. let z : _≡_ {A = ℕ} 28 0 = ap numberOfHexRead p in absurd (omega arith);
       }
 
-  pub is-bad-span : BadSpan ≡ verdictOf (linesOf text) → HexReads text before before BadSpan
+  pub is-bad-span : BadSpan ≡ verdictOf (textLines text) → HexReads text before before BadSpan
   unfolding hexRead
   is-bad-span e =
-      let t = told-span (linesOf text) (verdictOf (linesOf text)) (tested (linesOf text)) (sym e) in
+      let t = told-span (textLines text) (verdictOf (textLines text)) (tested (textLines text)) (sym e) in
       record {
         answered = rw (← e);
         number27 = (λ p. absurd (omega arith), λ p. absurd (unlike p (t .0)));
@@ -218,14 +218,14 @@ module _ (text before : List ℕ) where
         canonical = λ n p. let z : _≡_ {A = ℕ} 29 0 = ap numberOfHexRead p in absurd (omega arith);
       }
 
-  module _ (n : ℕ) (e : Bytes n ≡ verdictOf (linesOf text)) where
-    all-pass : ReadsAs text (saidBy (linesOf text))
-    all-pass = let t = passes (linesOf text) n e in record { lines = t .0; checksums = t .1; span = t .2; said = refl }
+  module _ (n : ℕ) (e : Bytes n ≡ verdictOf (textLines text)) where
+    all-pass : ReadsAs text (saidBy (textLines text))
+    all-pass = let t = passes (textLines text) n e in record { lines = t .0; checksums = t .1; span = t .2; said = refl }
 
     pub no-byte-room : length before < n → HexReads text before before NoByteRoom
     unfolding hexRead
     no-byte-room h =
-        let t = passes (linesOf text) n e in
+        let t = passes (textLines text) n e in
         record {
           answered = rw (← e, lt-leb n (length before) h);
           number27 = (λ p. absurd (omega arith), λ p. absurd (unlike p (t .0)));
@@ -238,10 +238,10 @@ module _ (text before : List ℕ) where
           canonical = λ m p. let z : _≡_ {A = ℕ} 25 0 = ap numberOfHexRead p in absurd (omega arith);
         }
 
-    pub bytes-read : {after : List ℕ} → n ≤ length before → after ≡ saidBy (linesOf text) ++ drop n before → HexReads text before after (Bytes n)
+    pub bytes-read : {after : List ℕ} → n ≤ length before → after ≡ saidBy (textLines text) ++ drop n before → HexReads text before after (Bytes n)
     unfolding hexRead
     bytes-read {after} h is =
-        let t = passes (linesOf text) n e in
+        let t = passes (textLines text) n e in
         record {
           answered = rw (← e, le-leb n (length before) h);
           number27 = (λ p. absurd (omega arith), λ p. absurd (unlike p (t .0)));
@@ -256,5 +256,5 @@ module _ (text before : List ℕ) where
       where
         front : (m : ℕ) → n ≡ m → ReadsAs text (take m after)
         front m q =
-            let s : take m after ≡ saidBy (linesOf text) = rw (← q, is) (take-at (saidBy (linesOf text)) (drop n before) n (sym (passes (linesOf text) n e .3))) in
+            let s : take m after ≡ saidBy (textLines text) = rw (← q, is) (take-at (saidBy (textLines text)) (drop n before) n (sym (passes (textLines text) n e .3))) in
             rw s all-pass

@@ -8,9 +8,9 @@ use borrow.Author.Tests.{eq-eqb, le-ltb, eqb-true, eqb-false, ltb-false}
 use lib.Dec.{eqb, ltb}
 use lib.ListN.{length, getD, take, drop, length-append, length-drop, length-take, take-append-drop}
 use lib.Seq.{length-take-le, take-all, getD-take, getD-drop}
-use Rattle.hex_format.specs.Text.{lineOf, recordLine, dataLines, recordsOf, hexOf}
-use Rattle.hex_format.specs.Lines.{linesOf}
-use Rattle.hex_format.specs.Record.{byteOf, bytesFrom, countOf, addressOf, typeOf, dataOf, sumOf, wellFormed, isData, isEnd}
+use Rattle.hex_format.specs.Text.{lineOf, recordLine, dataLines, recordCount, hexOf}
+use Rattle.hex_format.specs.Lines.{textLines}
+use Rattle.hex_format.specs.Record.{lineByte, bytesFrom, countOf, addressOf, typeOf, dataOf, sumOf, wellFormed, isData, isEnd}
 use Rattle.hex_format.specs.Reading.{malformed, badChecksum, badSpan, saidBy}
 use Rattle.hex.specs.Answers.{textLength, ReadsAs}
 use Rattle.hex.proofs.RecordLaws.{Formed, formed, byte-most, IsData, data-parts, is-data, is-end, end-parts, Good, end, more, good}
@@ -35,12 +35,12 @@ end-says = line-says 1 0 [] small-none (omega arith) (omega arith) (omega arith)
 is-end-record : isEnd (lineOf 1 0 []) ≡ true
 is-end-record = is-end (lineOf 1 0 []) (record { formed = end-says .formed; type = end-says .type; none = end-says .count; first = end-says .address })
 
-end-lines : linesOf (recordLine 1 0 []) ≡ lineOf 1 0 [] ∷ []
+end-lines : textLines (recordLine 1 0 []) ≡ lineOf 1 0 [] ∷ []
 end-lines =
-    let e : linesOf (recordLine 1 0 [] ++ []) ≡ lineOf 1 0 [] ∷ linesOf [] = line-first (lineOf 1 0 []) [] (line-plain 1 0 [] small-none (omega arith) (omega arith) (omega arith)) in
-    sym (ap linesOf (append-nil (recordLine 1 0 []))) ∙ e ∙ rw no-lines
+    let e : textLines (recordLine 1 0 [] ++ []) ≡ lineOf 1 0 [] ∷ textLines [] = line-first (lineOf 1 0 []) [] (line-plain 1 0 [] small-none (omega arith) (omega arith) (omega arith)) in
+    sym (ap textLines (append-nil (recordLine 1 0 []))) ∙ e ∙ rw no-lines
 
-end-reading : (count : ℕ) → Reading count (linesOf (recordLine 1 0 [])) []
+end-reading : (count : ℕ) → Reading count (textLines (recordLine 1 0 [])) []
 unfolding malformed badChecksum badSpan saidBy bytesFrom
 end-reading count =
     record {
@@ -60,11 +60,11 @@ no-end line e = rw e (and-false (wellFormed line))
 
 -- a data record's line, and what the lines behind it say
 module _ (address count : ℕ) (first rest : List ℕ) (text : List ℕ) (small : Small first) (some : 1 ≤ length first) (few : length first ≤ 16) where
-  data-reading : count ≡ address → count + length first ≤ 65536 → Reading (count + length first) (linesOf text) rest → Reading count (linesOf (recordLine 0 address first ++ text)) (first ++ rest)
+  data-reading : count ≡ address → count + length first ≤ 65536 → Reading (count + length first) (textLines text) rest → Reading count (textLines (recordLine 0 address first ++ text)) (first ++ rest)
   unfolding malformed badChecksum badSpan saidBy
   data-reading place below r =
       let s : Says 0 address first (lineOf 0 address first) = line-says 0 address first small (omega arith) (omega arith) (omega arith) in
-      let l : linesOf (recordLine 0 address first ++ text) ≡ lineOf 0 address first ∷ linesOf text =
+      let l : textLines (recordLine 0 address first ++ text) ≡ lineOf 0 address first ∷ textLines text =
       line-first (lineOf 0 address first) text (line-plain 0 address first small (omega arith) (omega arith) (omega arith)) in
       let d : isData (lineOf 0 address first) ≡ true =
       is-data (lineOf 0 address first) (record { formed = s .formed; type = s .type; some = rw (s .count) some; few = rw (s .count) few }) in
@@ -89,8 +89,8 @@ small-drop : (n : ℕ) (xs : List ℕ) → Small xs → Small (drop n xs)
 small-drop n xs h i = rw (getD-drop n xs i 0) (h (n + i))
 
 -- so many records' lines and the end record's
-lines-reading : (k address count : ℕ) (bytes : List ℕ) → k ≡ recordsOf (length bytes) → Small bytes → (0 < length bytes → count ≡ address) → count + length bytes ≤ 65536
-    → Reading count (linesOf (dataLines k address bytes ++ recordLine 1 0 [])) bytes
+lines-reading : (k address count : ℕ) (bytes : List ℕ) → k ≡ recordCount (length bytes) → Small bytes → (0 < length bytes → count ≡ address) → count + length bytes ≤ 65536
+    → Reading count (textLines (dataLines k address bytes ++ recordLine 1 0 [])) bytes
 unfolding dataLines
 lines-reading zero address count [] e small place below = end-reading count
 lines-reading zero address count (x ∷ bytes) e small place below = absurd (omega arith)
@@ -107,7 +107,7 @@ lines-reading (suc k) address count bytes e small place below =
 pub reads-back : (bytes : List ℕ) → Small bytes → length bytes ≤ 65536 → ReadsAs (hexOf bytes) bytes
 unfolding hexOf
 reads-back bytes small below =
-    let r = lines-reading (recordsOf (length bytes)) 0 0 bytes refl small (λ h. refl) (omega arith) in
+    let r = lines-reading (recordCount (length bytes)) 0 0 bytes refl small (λ h. refl) (omega arith) in
     record { lines = r .fine; checksums = r .sums; span = r .span; said = sym (r .said) }
 
 -- the bytes of a line, and of all lines that are not malformed
@@ -157,12 +157,12 @@ below-64K (line ∷ lines) count h b l = go (λ n m p q. below-64K lines n m p q
 -- of every accepted text the canonical text of its bytes is accepted too and gives the same bytes
 pub canonical : (text bytes : List ℕ) → ReadsAs text bytes → ReadsAs (hexOf bytes) bytes
 canonical text bytes r =
-    rw (r .said) (reads-back (saidBy (linesOf text)) (small-said (linesOf text) (r .lines)) (omega (arith, below-64K (linesOf text) 0 (r .lines) (r .span) (omega arith))))
+    rw (r .said) (reads-back (saidBy (textLines text)) (small-said (textLines text) (r .lines)) (omega (arith, below-64K (textLines text) 0 (r .lines) (r .span) (omega arith))))
 
-more-than : (n : ℕ) → (n % 16 ≡ 0 → ⊥) → recordsOf n ≡ suc (n / 16)
+more-than : (n : ℕ) → (n % 16 ≡ 0 → ⊥) → recordCount n ≡ suc (n / 16)
 more-than n h = go (n % 16) refl
   where
-    go : (r : ℕ) → n % 16 ≡ r → recordsOf n ≡ suc (n / 16)
+    go : (r : ℕ) → n % 16 ≡ r → recordCount n ≡ suc (n / 16)
     go zero e = absurd (h e)
     go (suc r) e = omega arith
 
@@ -170,17 +170,17 @@ more-than n h = go (n % 16) refl
 pub text-length : (bytes : List ℕ) → length (hexOf bytes) ≡ textLength (length bytes)
 unfolding hexOf
 text-length bytes =
-    length-append (dataLines (recordsOf (length bytes)) 0 bytes) (recordLine 1 0 []) ∙ rw (record-length 1 0 []) (by-rest (eqb (length bytes % 16) 0) refl)
+    length-append (dataLines (recordCount (length bytes)) 0 bytes) (recordLine 1 0 []) ∙ rw (record-length 1 0 []) (by-rest (eqb (length bytes % 16) 0) refl)
   where
-    even : length bytes % 16 ≡ 0 → length (dataLines (recordsOf (length bytes)) 0 bytes) ≡ 44 * (length bytes / 16)
+    even : length bytes % 16 ≡ 0 → length (dataLines (recordCount (length bytes)) 0 bytes) ≡ 44 * (length bytes / 16)
     even e =
-        let r : recordsOf (length bytes) ≡ length bytes / 16 = omega arith in
+        let r : recordCount (length bytes) ≡ length bytes / 16 = omega arith in
         rw r (lines-length (length bytes / 16) 0 bytes (omega arith))
 
-    odd : (length bytes % 16 ≡ 0 → ⊥) → length (dataLines (recordsOf (length bytes)) 0 bytes) ≡ 44 * (length bytes / 16) + (12 + 2 * (length bytes % 16))
+    odd : (length bytes % 16 ≡ 0 → ⊥) → length (dataLines (recordCount (length bytes)) 0 bytes) ≡ 44 * (length bytes / 16) + (12 + 2 * (length bytes % 16))
     odd e =
         let k : ℕ = length bytes / 16 in
-        let r : recordsOf (length bytes) ≡ suc (length bytes / 16) = more-than (length bytes) e in
+        let r : recordCount (length bytes) ≡ suc (length bytes / 16) = more-than (length bytes) e in
         let last : List ℕ = take 16 (drop (16 * (length bytes / 16)) bytes) in
         let s : length last ≡ length bytes % 16 = ap length (take-all 16 (drop (16 * (length bytes / 16)) bytes) (omega (arith, length-drop (16 * (length bytes / 16)) bytes))) ∙ length-drop (16 * (length bytes / 16)) bytes ∙ omega arith in
         rw (r, lines-last (length bytes / 16) 0 bytes) (omega (
@@ -191,6 +191,6 @@ text-length bytes =
           s,
         ))
 
-    by-rest : (b : Bool) → eqb (length bytes % 16) 0 ≡ b → length (dataLines (recordsOf (length bytes)) 0 bytes) + (12 + 2 * 0) ≡ textLength (length bytes)
+    by-rest : (b : Bool) → eqb (length bytes % 16) 0 ≡ b → length (dataLines (recordCount (length bytes)) 0 bytes) + (12 + 2 * 0) ≡ textLength (length bytes)
     by-rest true e = rw (even (eqb-true (length bytes % 16) 0 e), e) (omega arith)
     by-rest false e = rw (odd (eqb-false (length bytes % 16) 0 e), e) (omega arith)

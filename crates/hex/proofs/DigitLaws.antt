@@ -11,7 +11,7 @@ use lib.Dec.{eqb, leb, ltb}
 use lib.ListN.{length, getD, replicate}
 use lib.Seq.{sets}
 use Rattle.hex_format.specs.Digits.{capital, between, isDigit, digitValue}
-use Rattle.hex.specs.Found.{weightOf, Weights, sumAt}
+use Rattle.hex.specs.Found.{digitWeight, Weights, sumAt}
 
 -- where a digit's character lies
 pub data Range (c : ℕ) : Type 0 where
@@ -55,19 +55,19 @@ pub plain : (c : ℕ) → isDigit c ≡ true → (c ≡ 10 → ⊥) × (c ≡ 13
 plain c h = plain-in c (range c h)
 
 -- a digit's weight is its value, and nothing else weighs as little
-pub weight-value : (c : ℕ) → isDigit c ≡ true → weightOf c ≡ digitValue c
-unfolding weightOf
+pub weight-value : (c : ℕ) → isDigit c ≡ true → digitWeight c ≡ digitValue c
+unfolding digitWeight
 weight-value c h = rw h
 
-by-digit : (c : ℕ) (b : Bool) → isDigit c ≡ b → (weightOf c ≤ 8192) × (weightOf c < 8192 → isDigit c ≡ true)
-unfolding weightOf
+by-digit : (c : ℕ) (b : Bool) → isDigit c ≡ b → (digitWeight c ≤ 8192) × (digitWeight c < 8192 → isDigit c ≡ true)
+unfolding digitWeight
 by-digit c true h = rw h (omega (arith, value-most c h), λ l. refl)
 by-digit c false h = rw h (omega arith, λ l. absurd (omega arith))
 
-pub weight-most : (c : ℕ) → weightOf c ≤ 8192
+pub weight-most : (c : ℕ) → digitWeight c ≤ 8192
 weight-most c = by-digit c (isDigit c) refl .0
 
-pub light : (c : ℕ) → weightOf c < 8192 → isDigit c ≡ true
+pub light : (c : ℕ) → digitWeight c < 8192 → isDigit c ≡ true
 light c = by-digit c (isDigit c) refl .1
 
 -- a capital is a digit of its value
@@ -103,13 +103,13 @@ weighed =
     sets (sets (sets (replicate 256 8192) 48 (0 ∷ 1 ∷ 2 ∷ 3 ∷ 4 ∷ 5 ∷ 6 ∷ 7 ∷ 8 ∷ 9 ∷ [])) 65 letters) 97 letters
 
 pub weights-right : Weights weighed
-unfolding weighed weightOf isDigit digitValue
+unfolding weighed digitWeight isDigit digitValue
 weights-right c h =
-    let e : eqb (getD weighed c 0) (weightOf (0 + c)) ≡ true = each (λ k x. eqb x (weightOf k)) weighed 0 c refl h in
-    eqb-true (getD weighed c 0) (weightOf c) (rw (zero-add c) at e)
+    let e : eqb (getD weighed c 0) (digitWeight (0 + c)) ≡ true = each (λ k x. eqb x (digitWeight k)) weighed 0 c refl h in
+    eqb-true (getD weighed c 0) (digitWeight c) (rw (zero-add c) at e)
 
 -- pairs of characters added up, with one more
-pub one-more-pair : (text : List ℕ) (at i highs lows : ℕ) {high low : ℕ} → 16 * highs + lows ≡ sumAt text at i → high ≡ weightOf (getD text (at + 2 * i) 0)
-    → low ≡ weightOf (getD text (at + 2 * i + 1) 0) → 16 * (highs + high) + (lows + low) ≡ sumAt text at (i + 1)
+pub one-more-pair : (text : List ℕ) (at i highs lows : ℕ) {high low : ℕ} → 16 * highs + lows ≡ sumAt text at i → high ≡ digitWeight (getD text (at + 2 * i) 0)
+    → low ≡ digitWeight (getD text (at + 2 * i + 1) 0) → 16 * (highs + high) + (lows + low) ≡ sumAt text at (i + 1)
 unfolding sumAt
 one-more-pair text at i highs lows e h l = rw (add-one i) (omega arith)

@@ -11,7 +11,7 @@ use lib.Dec.{eqb, leb, ltb}
 use lib.ListN.{length, getD, set, drop, replicate, length-append, drop-of-length-le, List·getD-append}
 use lib.Seq.{sets, getD-at, getD-append-add, getD-drop}
 use Rattle.hex_format.specs.Digits.{isDigit, digitValue}
-use Rattle.hex.specs.Found.{weightOf, leastOf, mostOf, Valued, Digits, byteAt, sumAt, pairsAt, Weighs}
+use Rattle.hex.specs.Found.{digitWeight, leastOf, mostOf, Valued, Digits, pairAt, sumAt, pairsAt, Weighs}
 use Rattle.hex.proofs.DigitLaws.{every, each, value-most, weight-value, weight-most, light}
 use Rattle.hex.proofs.TextLaws.{countUp, counted, counted-length}
 use Rattle.hex.proofs.Standing.{pair-value, sum-most}
@@ -93,7 +93,7 @@ unit i = cond (eqb (i % 2) 0) 16 1
 
 unfoldable pub charsAt : List ℕ → ℕ → ℕ → ℕ
 charsAt text at zero = 0
-charsAt text at (suc i) = charsAt text at i + unit i * weightOf (getD text (at + i) 0)
+charsAt text at (suc i) = charsAt text at i + unit i * digitWeight (getD text (at + i) 0)
 
 pairs-of : (text : List ℕ) (at m : ℕ) → charsAt text at (2 * m) ≡ sumAt text at m
 unfolding charsAt sumAt unit
@@ -175,14 +175,14 @@ module _ (text : List ℕ) (at i : ℕ) (within : i < 32) where
   heavier h = rw (add-one i) (omega arith)
 
   no-digit : isDigit (getD text (at + i) 0) ≡ false → 8192 ≤ charsAt text at (i + 1)
-  unfolding charsAt weightOf
+  unfolding charsAt digitWeight
   no-digit d = rw (add-one i, d) (omega (arith, unit-some i))
 
   a-digit : (sum v : ℕ) → isDigit (getD text (at + i) 0) ≡ true → v ≡ digitValue (getD text (at + i) 0) → sum ≡ charsAt text at i % 256
       → (sum + (16 * (leastOf v (getD evens i 0) % 16) + leastOf v (getD odds i 0) % 16)) % 256 ≡ charsAt text at (i + 1) % 256
   unfolding charsAt
   a-digit sum v d e s =
-      let w : weightOf (getD text (at + i) 0) ≡ v = weight-value (getD text (at + i) 0) d ∙ sym e in
+      let w : digitWeight (getD text (at + i) 0) ≡ v = weight-value (getD text (at + i) 0) d ∙ sym e in
       let term = adds i v within (omega (arith, value-most (getD text (at + i) 0) d)) in
       rw (add-one i, term, s, w) (mod-left (charsAt text at i) (unit i * v))
     where
@@ -272,7 +272,7 @@ module _ (text part : List ℕ) (p j : ℕ) (h : j < 16) (e : part ≡ sets (hig
   one-more-low v x is sum =
       let n : p + 2 * j + 1 ≡ p + (2 * j + 1) = omega arith in
       let two = pair-value text (p + 2 * j) (digits (2 * j) (omega arith)) (rw n (digits (2 * j + 1) (omega arith))) in
-      let x' : x ≡ byteAt text (p + 2 * j) = sum ∙ rw (still-high, is) (small-sum _ _ (two .0) (two .1)) in
+      let x' : x ≡ pairAt text (p + 2 * j) = sum ∙ rw (still-high, is) (small-sum _ _ (two .0) (two .1)) in
       rw (e, x') (rw (zero-add j) at (one-more-byte (highsAt text p 16) text 0 p j))
     where
       small-sum : (a r : ℕ) → r ≡ a → r ≤ 255 → a % 256 ≡ r

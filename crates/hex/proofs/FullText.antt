@@ -11,7 +11,7 @@ use lib.ListN.{length, getD, set, take, length-set, length-append}
 use lib.Seq.{getD-set-same, getD-set-other, take-suc, take-all}
 use Rattle.hex_format.specs.Digits.{capital}
 use Rattle.hex_format.specs.Text.{pairsOf, total}
-use Rattle.hex.specs.Found.{leastOf, mostOf, Puts, Doubled}
+use Rattle.hex.specs.Found.{leastOf, mostOf, PutsText, Doubled}
 use Rattle.hex.proofs.Storing.{one-more-stored, puts-same}
 use Rattle.hex.proofs.TextLaws.{pair-high, pair-low, pairs-length, total-append}
 use Rattle.hex.proofs.FullLaws.{evens, odds, even-at, odd-at}

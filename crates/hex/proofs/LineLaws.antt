@@ -11,7 +11,7 @@ use lib.Dec.{eqb, ltb, eqb·suc-suc, eqb·zero-suc}
 use lib.ListN.{length, getD, take, drop, length-drop, List·getD-eq-default}
 use lib.Seq.{getD-drop, drop-nil}
 use Rattle.hex_format.specs.Digits.{lineFeed, carriageReturn}
-use Rattle.hex_format.specs.Lines.{before, linesOf}
+use Rattle.hex_format.specs.Lines.{before, textLines}
 use Rattle.hex.specs.Found.{endAt}
 
 -- a character that is no part of a line's end
@@ -19,15 +19,15 @@ abbrev pub Plain : ℕ → Type 0
 Plain c = (c ≡ 10 → ⊥) × (c ≡ 13 → ⊥)
 
 -- what ends no line belongs to one
-inside-line : (c : ℕ) (text : List ℕ) → eqb c 10 ≡ false → (eqb c 13 && eqb (getD text 0 0) 10) ≡ false → linesOf (c ∷ text) ≡ before c (linesOf text)
-unfolding linesOf
+inside-line : (c : ℕ) (text : List ℕ) → eqb c 10 ≡ false → (eqb c 13 && eqb (getD text 0 0) 10) ≡ false → textLines (c ∷ text) ≡ before c (textLines text)
+unfolding textLines
 inside-line c text e f = rw (e, f)
 
-pub plain-first : (c : ℕ) (text : List ℕ) → Plain c → linesOf (c ∷ text) ≡ before c (linesOf text)
+pub plain-first : (c : ℕ) (text : List ℕ) → Plain c → textLines (c ∷ text) ≡ before c (textLines text)
 plain-first c text p = inside-line c text (ne-eqb c 10 (p .0)) (rw (ne-eqb c 13 (p .1)))
 
-no-more : (c e : ℕ) → before c (linesOf []) ≡ (c ∷ []) ∷ linesOf (drop (1 + e) (c ∷ []))
-unfolding linesOf
+no-more : (c e : ℕ) → before c (textLines []) ≡ (c ∷ []) ∷ textLines (drop (1 + e) (c ∷ []))
+unfolding textLines
 no-more c e =
     let s : 1 + e ≡ suc e = omega arith in
     rw (s, drop-nil {A = ℕ} e)
@@ -60,14 +60,14 @@ ended-first c text h = one (eqb c 10) refl (rw (eqb·zero-suc (length text)) at 
     one false e l = two (eqb c 13 && eqb (getD text 0 0) 10) refl l
 
 -- a line that says nothing
-pub empty-line : (cs : List ℕ) → Ended cs → (linesOf cs ≡ [] ∷ linesOf (drop (endAt cs 0) cs)) × (endAt cs 0 < 3)
-unfolding linesOf endAt
+pub empty-line : (cs : List ℕ) → Ended cs → (textLines cs ≡ [] ∷ textLines (drop (endAt cs 0) cs)) × (endAt cs 0 < 3)
+unfolding textLines endAt
 empty-line cs (feed text e) = rw (e, eqb·zero-suc (length text)) (refl, omega arith)
 empty-line cs (return text e) = rw (e, eqb·zero-suc (suc (length text))) (refl, omega arith)
 
 -- plain characters up to a line's end are a line
 pub first-line : (k : ℕ) (cs : List ℕ) → 0 < length cs → k ≤ length cs → ((j : ℕ) → j < k → Plain (getD cs j 0)) → endAt cs k < 3
-    → linesOf cs ≡ take k cs ∷ linesOf (drop (k + endAt cs k) cs)
+    → textLines cs ≡ take k cs ∷ textLines (drop (k + endAt cs k) cs)
 first-line k [] some inside plain ended = absurd (omega arith)
 first-line zero (c ∷ text) some inside plain ended = rw (zero-add (endAt (c ∷ text) 0)) (empty-line (c ∷ text) (ended-first c text ended) .0)
 first-line (suc zero) (c ∷ []) some inside plain ended = plain-first c [] (plain 0 (omega arith)) ∙ no-more c (endAt (c ∷ []) 1)
@@ -84,12 +84,12 @@ first-line (suc k) (c ∷ d ∷ text) some inside plain ended =
 -- the first line, whatever its characters
 pub record Cut (cs : List ℕ) : Type 0 where
   pub line : List ℕ
-  pub lines : linesOf cs ≡ line ∷ linesOf (drop (length line + endAt cs (length line)) cs)
+  pub lines : textLines cs ≡ line ∷ textLines (drop (length line + endAt cs (length line)) cs)
   pub first : line ≡ take (length line) cs
   pub inside : length line ≤ length cs
   pub ended : endAt cs (length line) < 3
 
-cut-after : (c : ℕ) (text : List ℕ) → Cut text → linesOf (c ∷ text) ≡ before c (linesOf text) → Cut (c ∷ text)
+cut-after : (c : ℕ) (text : List ℕ) → Cut text → textLines (c ∷ text) ≡ before c (textLines text) → Cut (c ∷ text)
 cut-after c text cut is =
     let n : ℕ = length (cut .line) in
     let e : suc n + endAt text n ≡ suc (n + endAt text n) = omega arith in
@@ -110,11 +110,11 @@ cut-return : (c : ℕ) (text : List ℕ) → c ≡ 13 → getD text 0 0 ≡ 10 �
 cut-return c [] e f = absurd (omega arith)
 cut-return c (d ∷ text) e f = cut-empty (c ∷ d ∷ text) (return text (rw (e, f)))
 
-cut-last : (c : ℕ) → linesOf (c ∷ []) ≡ before c (linesOf []) → Cut (c ∷ [])
+cut-last : (c : ℕ) → textLines (c ∷ []) ≡ before c (textLines []) → Cut (c ∷ [])
 unfolding endAt
 cut-last c is = record { line = c ∷ []; lines = is ∙ no-more c (endAt (c ∷ []) 1); first = refl; inside = omega arith; ended = omega arith }
 
-by-tests : (c : ℕ) (text : List ℕ) → (linesOf (c ∷ text) ≡ before c (linesOf text) → Cut (c ∷ text)) → Cut (c ∷ text)
+by-tests : (c : ℕ) (text : List ℕ) → (textLines (c ∷ text) ≡ before c (textLines text) → Cut (c ∷ text)) → Cut (c ∷ text)
 by-tests c text go = one (eqb c 10) refl
   where
     two : eqb c 10 ≡ false → (b : Bool) → (eqb c 13 && eqb (getD text 0 0) 10) ≡ b → Cut (c ∷ text)

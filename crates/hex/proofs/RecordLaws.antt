@@ -9,8 +9,8 @@ use lib.Dec.{eqb, leb}
 use lib.ListN.{length, getD, drop, length-drop}
 use lib.Seq.{getD-drop}
 use Rattle.hex_format.specs.Digits.{colon, isDigit, digitValue}
-use Rattle.hex_format.specs.Record.{byteOf, countOf, addressOf, typeOf, allDigits, wellFormed, isData, isEnd}
-use Rattle.hex_format.specs.Reading.{none, malformed}
+use Rattle.hex_format.specs.Record.{lineByte, countOf, addressOf, typeOf, allDigits, wellFormed, isData, isEnd}
+use Rattle.hex_format.specs.Reading.{noLines, malformed}
 use Rattle.hex.proofs.DigitLaws.{value-most}
 
 digits-each : (xs : List ℕ) → allDigits xs ≡ true → (j : ℕ) → j < length xs → isDigit (getD xs j 0) ≡ true
@@ -53,7 +53,7 @@ is-formed line f =
     rw (eq-eqb (getD line 0 0) 58 (f .colon), d, eq-eqb (length line) (11 + 2 * countOf line) (f .size))
 
 -- a byte of a line
-pub byte-most : (line : List ℕ) → Formed line → (k : ℕ) → 2 * k + 2 < length line → byteOf line k ≤ 255
+pub byte-most : (line : List ℕ) → Formed line → (k : ℕ) → 2 * k + 2 < length line → lineByte line k ≤ 255
 byte-most line f k l =
     let h : isDigit (getD line (2 * k + 1) 0) ≡ true = ap (λ (j : ℕ). isDigit (getD line j 0)) (omega arith) ∙ f .digits (2 * k) (omega arith) in
     let o : isDigit (getD line (2 * k + 2) 0) ≡ true = ap (λ (j : ℕ). isDigit (getD line j 0)) (omega arith) ∙ f .digits (2 * k + 1) (omega arith) in
@@ -115,7 +115,7 @@ pub good : (line : List ℕ) (lines : List (List ℕ)) → malformed (line ∷ l
 unfolding malformed
 good line lines h = one (isEnd line) refl h
   where
-    last : (ls : List (List ℕ)) → not (none ls) ≡ false → ls ≡ []
+    last : (ls : List (List ℕ)) → not (noLines ls) ≡ false → ls ≡ []
     last [] e = refl
     last (l ∷ ls) e = absurd (true≢false e)
 
@@ -123,7 +123,7 @@ good line lines h = one (isEnd line) refl h
     two true e d g = more e d g
     two false e d g = absurd (true≢false g)
 
-    one : (b : Bool) → isEnd line ≡ b → cond b (not (none lines)) (not (isData line) || malformed lines) ≡ false → Good line lines
+    one : (b : Bool) → isEnd line ≡ b → cond b (not (noLines lines)) (not (isData line) || malformed lines) ≡ false → Good line lines
     one true e g = end e (last lines g)
     one false e g = two (isData line) e refl g
 

@@ -11,8 +11,8 @@ use lib.ListN.{length, getD, take, drop, length-append}
 use lib.Seq.{drop-cons, take-all, take-at}
 use Rattle.hex_format.specs.Digits.{colon, lineFeed, capital, isDigit, digitValue}
 use Rattle.hex_format.specs.Text.{pairsOf, total, checksumOf, fieldsOf, lineOf, recordLine}
-use Rattle.hex_format.specs.Lines.{before, linesOf}
-use Rattle.hex_format.specs.Record.{byteOf, bytesFrom, countOf, addressOf, typeOf, dataOf, sumOf, wellFormed, isData, isEnd}
+use Rattle.hex_format.specs.Lines.{before, textLines}
+use Rattle.hex_format.specs.Record.{lineByte, bytesFrom, countOf, addressOf, typeOf, dataOf, sumOf, wellFormed, isData, isEnd}
 use Rattle.hex.proofs.DigitLaws.{capital-digit, plain}
 use Rattle.hex.proofs.LineLaws.{Plain, plain-first}
 use Rattle.hex.proofs.RecordLaws.{Formed, is-formed}
@@ -47,7 +47,7 @@ module _ (xs : List ℕ) (small : Small xs) where
   low-digit : (k : ℕ) → k < length xs → (isDigit (getD (pairsOf xs) (2 * k + 1) 0) ≡ true) × (digitValue (getD (pairsOf xs) (2 * k + 1) 0) ≡ getD xs k 0 % 16)
   low-digit k h = rw (pair-low xs k h) (capital-digit (getD xs k 0 % 16) (omega arith))
 
-  says : (k : ℕ) → k < length xs → byteOf (58 ∷ pairsOf xs) k ≡ getD xs k 0
+  says : (k : ℕ) → k < length xs → lineByte (58 ∷ pairsOf xs) k ≡ getD xs k 0
   says k h =
       let one : 2 * k + 1 ≡ suc (2 * k) = omega arith in
       let two : 2 * k + 2 ≡ suc (2 * k + 1) = omega arith in
@@ -119,7 +119,7 @@ module _ (type address : ℕ) (bytes : List ℕ) (small : Small bytes) (few : le
       plain (getD (pairsOf xs) j 0) (only-digits xs small-fields j (omega (arith, pairs-length xs)))
 
 -- a plain line and its LF, before other lines
-pub line-first : (line rest : List ℕ) → ((j : ℕ) → j < length line → Plain (getD line j 0)) → linesOf ((line ++ (10 ∷ [])) ++ rest) ≡ line ∷ linesOf rest
-unfolding linesOf
+pub line-first : (line rest : List ℕ) → ((j : ℕ) → j < length line → Plain (getD line j 0)) → textLines ((line ++ (10 ∷ [])) ++ rest) ≡ line ∷ textLines rest
+unfolding textLines
 line-first [] rest h = refl
 line-first (c ∷ line) rest h = plain-first c ((line ++ (10 ∷ [])) ++ rest) (h 0 (omega arith)) ∙ rw (line-first line rest (λ j l. h (suc j) (omega arith)))

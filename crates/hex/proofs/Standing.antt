@@ -12,27 +12,27 @@ use lib.ListN.{length, getD, take, drop, length-drop}
 use lib.Seq.{getD-take, getD-drop, drop-drop, length-take-le}
 use Rattle.hex_format.specs.Digits.{isDigit, digitValue}
 use Rattle.hex_format.specs.Text.{total}
-use Rattle.hex_format.specs.Lines.{linesOf}
-use Rattle.hex_format.specs.Record.{byteOf, bytesFrom, countOf, addressOf, typeOf, sumOf, wellFormed}
+use Rattle.hex_format.specs.Lines.{textLines}
+use Rattle.hex_format.specs.Record.{lineByte, bytesFrom, countOf, addressOf, typeOf, sumOf, wellFormed}
 use Rattle.hex_format.specs.Reading.{malformed}
-use Rattle.hex.specs.Found.{weightOf, byteAt, sumAt, endAt, lineAt, Weighs, fullAt, Stands}
+use Rattle.hex.specs.Found.{digitWeight, pairAt, sumAt, endAt, lineAt, Weighs, fullAt, StandsAt}
 use Rattle.hex.proofs.DigitLaws.{value-most, weight-value, weight-most, light, plain}
 use Rattle.hex.proofs.LineLaws.{Plain, first-line, Cut, cut, end-rest, end-inside}
 use Rattle.hex.proofs.RecordLaws.{Formed, formed, is-formed, good, good-formed}
 
 -- two digits say a byte
 pub pair-value : (text : List ℕ) (p : ℕ) → isDigit (getD text p 0) ≡ true → isDigit (getD text (p + 1) 0) ≡ true
-    → (byteAt text p ≡ 16 * digitValue (getD text p 0) + digitValue (getD text (p + 1) 0)) × (byteAt text p ≤ 255)
+    → (pairAt text p ≡ 16 * digitValue (getD text p 0) + digitValue (getD text (p + 1) 0)) × (pairAt text p ≤ 255)
 pair-value text p h l =
     let a = weight-value (getD text p 0) h in
     let b = weight-value (getD text (p + 1) 0) l in
     (rw (a, b), omega (arith, a, b, value-most (getD text p 0) h, value-most (getD text (p + 1) 0) l))
 
 -- and so does a pair that is light
-pub pair-most : (text : List ℕ) (p : ℕ) → byteAt text p < 8192 → byteAt text p ≤ 255
+pub pair-most : (text : List ℕ) (p : ℕ) → pairAt text p < 8192 → pairAt text p ≤ 255
 pair-most text p h = pair-value text p (light (getD text p 0) (omega arith)) (light (getD text (p + 1) 0) (omega arith)) .1
 
-pub pair-bound : (text : List ℕ) (p : ℕ) → byteAt text p ≤ 139264
+pub pair-bound : (text : List ℕ) (p : ℕ) → pairAt text p ≤ 139264
 pair-bound text p = omega (arith, weight-most (getD text p 0), weight-most (getD text (p + 1) 0))
 
 -- where all characters are digits, their pairs add up to at most 255 for each
@@ -75,7 +75,7 @@ sum-split text p m (suc k) =
 
 -- a record's pairs by its parts: four, the data, and the checksum
 pub sum-parts : (text : List ℕ) (at n : ℕ)
-    → sumAt text (at + 1) (n + 5) ≡ byteAt text (at + 1) + byteAt text (at + 3) + byteAt text (at + 5) + byteAt text (at + 7) + sumAt text (at + 9) n + byteAt text (at + 9 + 2 * n)
+    → sumAt text (at + 1) (n + 5) ≡ pairAt text (at + 1) + pairAt text (at + 3) + pairAt text (at + 5) + pairAt text (at + 7) + sumAt text (at + 9) n + pairAt text (at + 9 + 2 * n)
 unfolding sumAt
 sum-parts text at n =
     let e : n + 5 ≡ 4 + (n + 1) = omega arith in
@@ -83,7 +83,7 @@ sum-parts text at n =
     ap (sumAt text (at + 1)) e ∙ sum-split text (at + 1) 4 (n + 1) ∙ rw (a, add-one n) (four ∙ refl)
   where
     four : sumAt text (at + 1) 4 + sumAt text (at + 9) (suc n)
-        ≡ byteAt text (at + 1) + byteAt text (at + 3) + byteAt text (at + 5) + byteAt text (at + 7) + sumAt text (at + 9) n + byteAt text (at + 9 + 2 * n)
+        ≡ pairAt text (at + 1) + pairAt text (at + 3) + pairAt text (at + 5) + pairAt text (at + 7) + sumAt text (at + 9) n + pairAt text (at + 9 + 2 * n)
     four =
         let b : at + 1 + 2 * 1 ≡ at + 3 = omega arith in
         let c : at + 1 + 2 * 2 ≡ at + 5 = omega arith in
@@ -93,16 +93,16 @@ sum-parts text at n =
 
 -- where the code's sum of the parts is light, so is that of all characters, and alike modulo 256
 pub parts-light : (text : List ℕ) (at n inner : ℕ) → n ≤ 16 → Weighs text (at + 9) n inner
-    → byteAt text (at + 1) + byteAt text (at + 3) + byteAt text (at + 5) + byteAt text (at + 7) + inner + byteAt text (at + 9 + 2 * n) < 8192
+    → pairAt text (at + 1) + pairAt text (at + 3) + pairAt text (at + 5) + pairAt text (at + 7) + inner + pairAt text (at + 9 + 2 * n) < 8192
     → (sumAt text (at + 1) (n + 5) < 8192)
     × (sumAt text (at + 1) (n + 5) % 256
-    ≡ (byteAt text (at + 1) + byteAt text (at + 3) + byteAt text (at + 5) + byteAt text (at + 7) + inner + byteAt text (at + 9 + 2 * n)) % 256)
+    ≡ (pairAt text (at + 1) + pairAt text (at + 3) + pairAt text (at + 5) + pairAt text (at + 7) + inner + pairAt text (at + 9 + 2 * n)) % 256)
 parts-light text at n inner few w low = go (ltb (sumAt text (at + 9) n) 8192) refl
   where
     go : (b : Bool) → ltb (sumAt text (at + 9) n) 8192 ≡ b
         → (sumAt text (at + 1) (n + 5) < 8192)
         × (sumAt text (at + 1) (n + 5) % 256
-        ≡ (byteAt text (at + 1) + byteAt text (at + 3) + byteAt text (at + 5) + byteAt text (at + 7) + inner + byteAt text (at + 9 + 2 * n)) % 256)
+        ≡ (pairAt text (at + 1) + pairAt text (at + 3) + pairAt text (at + 5) + pairAt text (at + 7) + inner + pairAt text (at + 9 + 2 * n)) % 256)
     go true e =
         let l : sumAt text (at + 9) n < 8192 = ltb-true (sumAt text (at + 9) n) 8192 e in
         let m : sumAt text (at + 9) n ≤ 255 * n = sum-most text (at + 9) n (all-light text (at + 9) n l) in
@@ -116,7 +116,7 @@ parts-light text at n inner few w low = go (ltb (sumAt text (at + 9) n) 8192) re
 
 -- and the other way round
 pub light-parts : (text : List ℕ) (at n inner : ℕ) → n ≤ 16 → Weighs text (at + 9) n inner → ((j : ℕ) → j < 2 * (n + 5) → isDigit (getD text (at + 1 + j) 0) ≡ true)
-    → byteAt text (at + 1) + byteAt text (at + 3) + byteAt text (at + 5) + byteAt text (at + 7) + inner + byteAt text (at + 9 + 2 * n) < 8192
+    → pairAt text (at + 1) + pairAt text (at + 3) + pairAt text (at + 5) + pairAt text (at + 7) + inner + pairAt text (at + 9 + 2 * n) < 8192
 light-parts text at n inner few w digits =
     let m : sumAt text (at + 9) n ≤ 255 * n = sum-most text (at + 9) n (λ j h. moved (at + 9 + j) (8 + j) (omega arith) (omega arith)) in
     let l : sumAt text (at + 9) n < 8192 = omega arith in
@@ -130,7 +130,7 @@ light-parts text at n inner few w digits =
     moved : (p j : ℕ) → p ≡ at + 1 + j → j < 2 * (n + 5) → isDigit (getD text p 0) ≡ true
     moved p j e h = rw e (digits j h)
 
-    pair : (p j : ℕ) → p ≡ at + 1 + j → j + 1 < 2 * (n + 5) → byteAt text p ≤ 255
+    pair : (p j : ℕ) → p ≡ at + 1 + j → j + 1 < 2 * (n + 5) → pairAt text p ≤ 255
     pair p j e h = pair-value text p (moved p j e (omega arith)) (moved (p + 1) (j + 1) (omega arith) h) .1
 
 sum-bound : (text : List ℕ) (p m : ℕ) → sumAt text p m ≤ 139264 * m
@@ -149,7 +149,7 @@ weighs-itself text p m r few e =
     }
 
 -- all bytes of a line but the last, and the last
-total-last : (line : List ℕ) (k m : ℕ) → total (bytesFrom line k (suc m)) ≡ total (bytesFrom line k m) + byteOf line (k + m)
+total-last : (line : List ℕ) (k m : ℕ) → total (bytesFrom line k (suc m)) ≡ total (bytesFrom line k m) + lineByte line (k + m)
 unfolding total bytesFrom
 total-last line k zero = rw (add-zero k) (omega arith)
 total-last line k (suc m) =
@@ -165,7 +165,7 @@ module _ (text : List ℕ) (at n : ℕ) (inside : at + 11 + 2 * n ≤ length tex
   line-size = length-take-le (11 + 2 * n) (drop at text) (omega (arith, length-drop at text))
 
   module _ (digits : (j : ℕ) → j < 2 * (n + 5) → isDigit (getD text (at + 1 + j) 0) ≡ true) where
-    pub same-byte : (k p : ℕ) → k < n + 5 → p ≡ at + 1 + 2 * k → byteOf (lineAt text at n) k ≡ byteAt text p
+    pub same-byte : (k p : ℕ) → k < n + 5 → p ≡ at + 1 + 2 * k → lineByte (lineAt text at n) k ≡ pairAt text p
     same-byte k p h e =
         let one : at + (2 * k + 1) ≡ p = omega arith in
         let two : at + (2 * k + 2) ≡ p + 1 = omega arith in
@@ -181,7 +181,7 @@ module _ (text : List ℕ) (at n : ℕ) (inside : at + 11 + 2 * n ≤ length tex
         let z : 0 + m ≡ m = omega arith in
         total-last (lineAt text at n) 0 m ∙ rw (z, same-sum m (omega arith), same-byte m (at + 1 + 2 * m) (omega arith) refl)
 
-    pub line-formed : getD text at 0 ≡ 58 → byteAt text (at + 1) ≡ n → Formed (lineAt text at n)
+    pub line-formed : getD text at 0 ≡ 58 → pairAt text (at + 1) ≡ n → Formed (lineAt text at n)
     line-formed colon count =
         let z : at + 0 ≡ at = add-zero at in
         record {
@@ -194,7 +194,7 @@ module _ (text : List ℕ) (at n : ℕ) (inside : at + 11 + 2 * n ≤ length tex
 
     -- such a line is a text's next
     pub next-line : getD text at 0 ≡ 58 → endAt text (at + 11 + 2 * n) < 3
-        → linesOf (drop at text) ≡ lineAt text at n ∷ linesOf (drop (at + 11 + 2 * n + endAt text (at + 11 + 2 * n)) text)
+        → textLines (drop at text) ≡ lineAt text at n ∷ textLines (drop (at + 11 + 2 * n + endAt text (at + 11 + 2 * n)) text)
     next-line colon ended =
         let place : at + 11 + 2 * n ≡ at + (11 + 2 * n) = omega arith in
         let e : endAt text (at + 11 + 2 * n) ≡ endAt (drop at text) (11 + 2 * n) = ap (endAt text) place ∙ end-rest text at (11 + 2 * n) (omega arith) in
@@ -202,7 +202,7 @@ module _ (text : List ℕ) (at n : ℕ) (inside : at + 11 + 2 * n ≤ length tex
         let d : drop (11 + 2 * n + endAt (drop at text) (11 + 2 * n)) (drop at text) ≡ drop (at + 11 + 2 * n + endAt text (at + 11 + 2 * n)) text =
         drop-drop (11 + 2 * n + endAt (drop at text) (11 + 2 * n)) at text ∙ ap (λ (k : ℕ). drop k text) far in
         first-line (11 + 2 * n) (drop at text) (omega (arith, length-drop at text)) (omega (arith, length-drop at text)) plains (omega arith)
-        ∙ ap (λ (rest : List ℕ). lineAt text at n ∷ linesOf rest) d
+        ∙ ap (λ (rest : List ℕ). lineAt text at n ∷ textLines rest) d
       where
         plains : (j : ℕ) → j < 11 + 2 * n → Plain (getD (drop at text) j 0)
         plains zero h = rw (getD-drop at text 0 0, add-zero at, colon) (λ x. omega arith, λ x. omega arith)
@@ -211,11 +211,11 @@ module _ (text : List ℕ) (at n : ℕ) (inside : at + 11 + 2 * n ≤ length tex
             rw (getD-drop at text (suc j) 0, e) (plain (getD text (at + 1 + j) 0) (digits j (omega arith)))
 
 -- what the code finds is a record's line
-module _ (text : List ℕ) (at n inner after : ℕ) (inside : at + 11 + 2 * n ≤ length text) (colon : getD text at 0 ≡ 58) (count : byteAt text (at + 1) ≡ n) (few : n ≤ 16) where
+module _ (text : List ℕ) (at n inner after : ℕ) (inside : at + 11 + 2 * n ≤ length text) (colon : getD text at 0 ≡ 58) (count : pairAt text (at + 1) ≡ n) (few : n ≤ 16) where
   pub stands : Weighs text (at + 9) n inner → {sum address kind : ℕ}
-      → sum ≡ byteAt text (at + 1) + byteAt text (at + 3) + byteAt text (at + 5) + byteAt text (at + 7) + inner + byteAt text (at + 9 + 2 * n) → sum < 8192
-      → after ≡ endAt text (at + 11 + 2 * n) → after < 3 → address ≡ 256 * byteAt text (at + 3) + byteAt text (at + 5) → kind ≡ byteAt text (at + 7)
-      → Stands text at (record { count = n; address = address; kind = kind; sum = sum; next = at + 11 + 2 * n + after })
+      → sum ≡ pairAt text (at + 1) + pairAt text (at + 3) + pairAt text (at + 5) + pairAt text (at + 7) + inner + pairAt text (at + 9 + 2 * n) → sum < 8192
+      → after ≡ endAt text (at + 11 + 2 * n) → after < 3 → address ≡ 256 * pairAt text (at + 3) + pairAt text (at + 5) → kind ≡ pairAt text (at + 7)
+      → StandsAt text at (record { count = n; address = address; kind = kind; sum = sum; next = at + 11 + 2 * n + after })
   stands w s low e ended a k =
       let p = parts-light text at n inner few w (omega arith) in
       let digits = all-light text (at + 1) (n + 5) (p .0) in
@@ -239,7 +239,7 @@ pub record Whole (text : List ℕ) (at : ℕ) : Type 0 where
   pub inside : at + 11 + 2 * n ≤ length text
   pub colon : getD text at 0 ≡ 58
   pub digits : (j : ℕ) → j < 2 * (n + 5) → isDigit (getD text (at + 1 + j) 0) ≡ true
-  pub count : byteAt text (at + 1) ≡ n
+  pub count : pairAt text (at + 1) ≡ n
   pub few : n ≤ 16
   pub ended : endAt text (at + 11 + 2 * n) < 3
 
@@ -251,7 +251,7 @@ module _ (text : List ℕ) (at n : ℕ) (line : List ℕ) (is : line ≡ lineAt 
       let e : at + 1 + j ≡ at + suc j = omega arith in
       rw (e, ← same-character text at n inside (suc j) (omega arith), ← is) (f .digits j (omega (arith, f .size))) in
       let place : at + 11 + 2 * n ≡ at + (11 + 2 * n) = omega arith in
-      let c : byteOf (lineAt text at n) 0 ≡ byteAt text (at + 1) = same-byte text at n inside digits 0 (at + 1) (omega arith) (omega arith) in
+      let c : lineByte (lineAt text at n) 0 ≡ pairAt text (at + 1) = same-byte text at n inside digits 0 (at + 1) (omega arith) (omega arith) in
       record {
         n = n;
         inside = inside;
@@ -262,7 +262,7 @@ module _ (text : List ℕ) (at n : ℕ) (line : List ℕ) (is : line ≡ lineAt 
         ended = rw (place, end-rest text at (11 + 2 * n) (omega arith)) ended;
       }
 
-pub whole : (text : List ℕ) (at : ℕ) → at < length text → malformed (linesOf (drop at text)) ≡ false → Whole text at
+pub whole : (text : List ℕ) (at : ℕ) → at < length text → malformed (textLines (drop at text)) ≡ false → Whole text at
 whole text at h fine = go (cut (drop at text) (omega (arith, length-drop at text)))
   where
     go : Cut (drop at text) → Whole text at
@@ -273,20 +273,20 @@ whole text at h fine = go (cut (drop at text) (omega (arith, length-drop at text
         (rw (f .size) at (c .ended))
 
 -- where the code finds no such line, the text is malformed
-pub not-whole : (text : List ℕ) (at : ℕ) → at < length text → (Whole text at → ⊥) → malformed (linesOf (drop at text)) ≡ true
-not-whole text at h never = go (malformed (linesOf (drop at text))) refl
+pub not-whole : (text : List ℕ) (at : ℕ) → at < length text → (Whole text at → ⊥) → malformed (textLines (drop at text)) ≡ true
+not-whole text at h never = go (malformed (textLines (drop at text))) refl
   where
-    go : (b : Bool) → malformed (linesOf (drop at text)) ≡ b → malformed (linesOf (drop at text)) ≡ true
+    go : (b : Bool) → malformed (textLines (drop at text)) ≡ b → malformed (textLines (drop at text)) ≡ true
     go true e = e
     go false e = absurd (never (whole text at h e))
 
 -- such a line is neither too heavy nor without an end
-module _ (text : List ℕ) (at n : ℕ) (count : n ≡ byteAt text (at + 1)) (w : Whole text at) where
+module _ (text : List ℕ) (at n : ℕ) (count : n ≡ pairAt text (at + 1)) (w : Whole text at) where
   same-count : w .n ≡ n
   same-count = sym (w .count) ∙ sym count
 
   pub never-heavy : (inner : ℕ) → Weighs text (at + 9) n inner
-      → 8191 < byteAt text (at + 1) + byteAt text (at + 3) + byteAt text (at + 5) + byteAt text (at + 7) + inner + byteAt text (at + 9 + 2 * n) → ⊥
+      → 8191 < pairAt text (at + 1) + pairAt text (at + 3) + pairAt text (at + 5) + pairAt text (at + 7) + inner + pairAt text (at + 9 + 2 * n) → ⊥
   never-heavy inner v h = omega (arith, light-parts text at n inner (omega (arith, w .few, same-count)) v (rw same-count at (w .digits)))
 
   pub never-open : endAt text (at + 11 + 2 * n) ≡ 3 → ⊥
@@ -296,16 +296,16 @@ module _ (text : List ℕ) (at n : ℕ) (count : n ≡ byteAt text (at + 1)) (w 
 two-told : (a b c d : ℕ) → a < 256 → c < 256 → a + 256 * b ≡ c + 256 * d → (a ≡ c) × (b ≡ d)
 two-told a b c d h l e = (omega arith, omega arith)
 
-pub sixteen : (text : List ℕ) (p : ℕ) → getD text p 0 < 256 → getD text p 0 + 256 * getD text (p + 1) 0 ≡ 12337 → byteAt text p ≡ 16
-unfolding weightOf isDigit digitValue
+pub sixteen : (text : List ℕ) (p : ℕ) → getD text p 0 < 256 → getD text p 0 + 256 * getD text (p + 1) 0 ≡ 12337 → pairAt text p ≡ 16
+unfolding digitWeight isDigit digitValue
 sixteen text p h e = let t = two-told (getD text p 0) (getD text (p + 1) 0) 49 48 h (omega arith) e in rw (t .0, t .1)
 
-nought : (text : List ℕ) (p : ℕ) → getD text p 0 < 256 → getD text p 0 + 256 * getD text (p + 1) 0 ≡ 12336 → byteAt text p ≡ 0
-unfolding weightOf isDigit digitValue
+nought : (text : List ℕ) (p : ℕ) → getD text p 0 < 256 → getD text p 0 + 256 * getD text (p + 1) 0 ≡ 12336 → pairAt text p ≡ 0
+unfolding digitWeight isDigit digitValue
 nought text p h e = let t = two-told (getD text p 0) (getD text (p + 1) 0) 48 48 h (omega arith) e in rw (t .0, t .1)
 
 pub full-told : (text : List ℕ) (at : ℕ) → fullAt text at ≡ true → getD text (at + 1) 0 < 256 → getD text (at + 7) 0 < 256
-    → (43 ≤ length text - at) × (byteAt text (at + 1) ≡ 16) × (byteAt text (at + 7) ≡ 0)
+    → (43 ≤ length text - at) × (pairAt text (at + 1) ≡ 16) × (pairAt text (at + 7) ≡ 0)
 full-told text at f h l = one (ltb (length text - at) 43) refl f
   where
     first : ℕ
@@ -314,10 +314,10 @@ full-told text at f h l = one (ltb (length text - at) 43) refl f
     last : ℕ
     last = getD text (at + 7) 0 + 256 * getD text (at + 7 + 1) 0
 
-    two : (b : Bool) → 43 ≤ length text - at → eqb first 12337 ≡ b → cond b (eqb last 12336) false ≡ true → (43 ≤ length text - at) × (byteAt text (at + 1) ≡ 16) × (byteAt text (at + 7) ≡ 0)
+    two : (b : Bool) → 43 ≤ length text - at → eqb first 12337 ≡ b → cond b (eqb last 12336) false ≡ true → (43 ≤ length text - at) × (pairAt text (at + 1) ≡ 16) × (pairAt text (at + 7) ≡ 0)
     two true n e g = (n, sixteen text (at + 1) h (eqb-true first 12337 e), nought text (at + 7) l (eqb-true last 12336 g))
     two false n e g = absurd (true≢false (sym g))
 
-    one : (b : Bool) → ltb (length text - at) 43 ≡ b → cond b false (cond (eqb first 12337) (eqb last 12336) false) ≡ true → (43 ≤ length text - at) × (byteAt text (at + 1) ≡ 16) × (byteAt text (at + 7) ≡ 0)
+    one : (b : Bool) → ltb (length text - at) 43 ≡ b → cond b false (cond (eqb first 12337) (eqb last 12336) false) ≡ true → (43 ≤ length text - at) × (pairAt text (at + 1) ≡ 16) × (pairAt text (at + 7) ≡ 0)
     one true e g = absurd (true≢false (sym g))
     one false e g = two (eqb first 12337) (ltb-false (length text - at) 43 e) refl g

@@ -7,7 +7,7 @@ use native.Mathlib.Numerals.{add-one}
 use native.Mathlib.Omega.{arith}
 use lib.ListN.{length, getD, set, take, drop}
 use lib.Seq.{sets, sets-eq, take-suc, length-take-le, length-sets}
-use Rattle.hex.specs.Found.{Puts}
+use Rattle.hex.specs.Found.{PutsText}
 
 -- some, and then others
 pub sets-append : (b : List ℕ) (at : ℕ) (xs ys : List ℕ) → sets b at (xs ++ ys) ≡ sets (sets b at xs) (at + length xs) ys
@@ -25,8 +25,8 @@ pub sets-front : (b xs : List ℕ) (n : ℕ) → length xs ≡ n → n ≤ lengt
 sets-front b xs n e h = sets-eq xs b 0 (omega arith) ∙ rw (zero-add (length xs), e)
 
 -- the same of characters put into a text
-module _ {xs b : List ℕ} {at : ℕ} {m : List ℕ} (p : Puts xs b at m) where
-  pub puts-then : {ys e : List ℕ} (next : ℕ) → next ≡ at + length xs → Puts ys m next e → Puts (xs ++ ys) b at e
+module _ {xs b : List ℕ} {at : ℕ} {m : List ℕ} (p : PutsText xs b at m) where
+  pub puts-then : {ys e : List ℕ} (next : ℕ) → next ≡ at + length xs → PutsText ys m next e → PutsText (xs ++ ys) b at e
   puts-then {ys} next n q = record { stored = q .stored ∙ rw (p .stored, n) (sets-then b at (length xs) xs ys refl) }
 
   pub puts-size : length m ≡ length b
@@ -35,17 +35,17 @@ module _ {xs b : List ℕ} {at : ℕ} {m : List ℕ} (p : Puts xs b at m) where
   pub still-long : (k : ℕ) → k ≤ length b → k ≤ length m
   still-long k h = omega (arith, puts-size)
 
-  pub puts-same : {ys : List ℕ} → xs ≡ ys → Puts ys b at m
+  pub puts-same : {ys : List ℕ} → xs ≡ ys → PutsText ys b at m
   puts-same e = rw (← e) p
 
-pub puts-one : (x : ℕ) (b : List ℕ) (at : ℕ) → Puts (x ∷ []) b at (set b at x)
+pub puts-one : (x : ℕ) (b : List ℕ) (at : ℕ) → PutsText (x ∷ []) b at (set b at x)
 puts-one x b at = record { stored = refl }
 
-pub puts-none : (b : List ℕ) (at : ℕ) → Puts [] b at b
+pub puts-none : (b : List ℕ) (at : ℕ) → PutsText [] b at b
 puts-none b at = record { stored = refl }
 
 -- the first of some, and one more
-pub one-more-stored : (xs : List ℕ) (i : ℕ) → i < length xs → {b : List ℕ} {at : ℕ} {m : List ℕ} → Puts (take i xs) b at m → Puts (take (i + 1) xs) b at (set m (at + i) (getD xs i 0))
+pub one-more-stored : (xs : List ℕ) (i : ℕ) → i < length xs → {b : List ℕ} {at : ℕ} {m : List ℕ} → PutsText (take i xs) b at m → PutsText (take (i + 1) xs) b at (set m (at + i) (getD xs i 0))
 one-more-stored xs i h {b} {at} {m} p =
     let size : length (take i xs) ≡ i = length-take-le i xs (omega arith) in
     rw (add-one i, take-suc xs i 0 h) (puts-then p (at + i) (rw size) (puts-one (getD xs i 0) m (at + i)))

@@ -11,9 +11,9 @@ use lib.Dec.{eqb}
 use lib.ListN.{length, getD, set, take, drop, length-append, length-take, length-drop}
 use lib.Seq.{sets, drop-drop, length-take-le, take-suc}
 use Rattle.hex_format.specs.Digits.{colon, lineFeed, capital}
-use Rattle.hex_format.specs.Text.{pairsOf, total, checksumOf, fieldsOf, lineOf, recordLine, dataLines, recordsOf, hexOf}
+use Rattle.hex_format.specs.Text.{pairsOf, total, checksumOf, fieldsOf, lineOf, recordLine, dataLines, recordCount, hexOf}
 use Rattle.hex.specs.Answers.{textLength}
-use Rattle.hex.specs.Found.{Pairs, Puts, headOf, checkOf}
+use Rattle.hex.specs.Found.{Pairs, PutsText, headOf, checkOf}
 use Rattle.hex.proofs.Storing.{puts-then, puts-one, puts-same}
 
 pub pairs-append : (xs ys : List ℕ) → pairsOf (xs ++ ys) ≡ pairsOf xs ++ pairsOf ys
@@ -74,17 +74,17 @@ pairs-right =
     }
 
 -- the two stores of a byte
-pub stored-pair : (table b : List ℕ) (at byte : ℕ) → Pairs table → byte < 256 → Puts (pairsOf (byte ∷ [])) b at (set (set b at (getD table (2 * byte) 0)) (at + 1) (getD table (2 * byte + 1) 0))
+pub stored-pair : (table b : List ℕ) (at byte : ℕ) → Pairs table → byte < 256 → PutsText (pairsOf (byte ∷ [])) b at (set (set b at (getD table (2 * byte) 0)) (at + 1) (getD table (2 * byte + 1) 0))
 unfolding pairsOf
 stored-pair table b at byte p h = record { stored = rw (p .high byte h, p .low byte h, add-one at) }
 
 -- a line's head by its parts
 pub head-written : {b n o q e : List ℕ} {at : ℕ} (count address high low : ℕ) → high ≡ address / 256 % 256 → low ≡ address % 256
-    → Puts (pairsOf (count ∷ [])) (set b at 58) (at + 1) n → Puts (pairsOf (high ∷ [])) n (at + 3) o → Puts (pairsOf (low ∷ [])) o (at + 5) q → Puts (pairsOf (0 ∷ [])) q (at + 7) e
-    → Puts (headOf count address) b at e
+    → PutsText (pairsOf (count ∷ [])) (set b at 58) (at + 1) n → PutsText (pairsOf (high ∷ [])) n (at + 3) o → PutsText (pairsOf (low ∷ [])) o (at + 5) q → PutsText (pairsOf (0 ∷ [])) q (at + 7) e
+    → PutsText (headOf count address) b at e
 unfolding pairsOf
 head-written {b} {n} {o} {q} {e} {at} count address high low h l p2 p3 p4 p5 =
-    let four : Puts (58 ∷ pairsOf (count ∷ high ∷ low ∷ 0 ∷ [])) b at e = puts-then (puts-then (puts-then (puts-then (puts-one 58 b at) (at + 1) refl p2) (at + 3) refl p3) (at + 5) refl p4) (at + 7) refl p5 in
+    let four : PutsText (58 ∷ pairsOf (count ∷ high ∷ low ∷ 0 ∷ [])) b at e = puts-then (puts-then (puts-then (puts-then (puts-one 58 b at) (at + 1) refl p2) (at + 3) refl p3) (at + 5) refl p4) (at + 7) refl p5 in
     rw (h, l) at four
 
 pub high-byte : (address : ℕ) → address < 65536 → address / 256 ≡ address / 256 % 256
@@ -102,7 +102,7 @@ opposite u check h l e = omega arith
 
 -- the checksum, and the LF after it
 pub check-written : {b m : List ℕ} {at : ℕ} (count address inner high low place more sum check : ℕ) → high ≡ address / 256 % 256 → low ≡ address % 256 → place ≡ (high + low) % 256
-    → more ≡ (place + inner) % 256 → sum ≡ (count + more) % 256 → check < 256 → (check + sum) % 256 ≡ 0 → Puts (pairsOf (check ∷ [])) b at m → Puts (checkOf count address inner) b at (set m (at + 2) 10)
+    → more ≡ (place + inner) % 256 → sum ≡ (count + more) % 256 → check < 256 → (check + sum) % 256 ≡ 0 → PutsText (pairsOf (check ∷ [])) b at m → PutsText (checkOf count address inner) b at (set m (at + 2) 10)
 unfolding pairsOf
 check-written {b} {m} {at} count address inner high low place more sum check h l p e s c z put =
     let m' : more ≡ (high + low + inner) % 256 = e ∙ rw p (mod-left (high + low) inner) in
@@ -123,8 +123,8 @@ checked bytes address inner e =
     inside : (n h l i t : ℕ) → i ≡ t % 256 → (n + (h + (l + (0 + i)))) % 256 ≡ (n + (h + (l + (0 + t)))) % 256
     inside n h l i t e = omega arith
 
-pub line-written : {b m n o : List ℕ} {at : ℕ} (bytes : List ℕ) (address inner : ℕ) → inner ≡ total bytes % 256 → Puts (headOf (length bytes) address) b at m → Puts (pairsOf bytes) m (at + 9) n
-    → Puts (checkOf (length bytes) address inner) n (at + 9 + 2 * length bytes) o → Puts (recordLine 0 address bytes) b at o
+pub line-written : {b m n o : List ℕ} {at : ℕ} (bytes : List ℕ) (address inner : ℕ) → inner ≡ total bytes % 256 → PutsText (headOf (length bytes) address) b at m → PutsText (pairsOf bytes) m (at + 9) n
+    → PutsText (checkOf (length bytes) address inner) n (at + 9 + 2 * length bytes) o → PutsText (recordLine 0 address bytes) b at o
 unfolding pairsOf
 line-written {b} {m} {n} {o} {at} bytes address inner e p q r =
     let check : ℕ = checksumOf (fieldsOf 0 address bytes) in
@@ -136,12 +136,12 @@ line-written {b} {m} {n} {o} {at} bytes address inner e p q r =
         → (headOf (length bytes) address ++ pairsOf bytes) ++ (pairsOf (check ∷ []) ++ (10 ∷ [])) ≡ 58 ∷ (pairsOf (fieldsOf 0 address bytes ++ (check ∷ [])) ++ (10 ∷ []))
     parts bytes address check = rw (pairs-append bytes (check ∷ [])) (sym (append-assoc (headOf (length bytes) address ++ pairsOf bytes) (pairsOf (check ∷ [])) (10 ∷ [])))
 
-pub full-line-written : {b m n o : List ℕ} {at : ℕ} (bytes : List ℕ) (address inner : ℕ) → length bytes ≡ 16 → inner ≡ total bytes % 256 → Puts (headOf 16 address) b at m
-    → Puts (pairsOf bytes) m (at + 9) n → Puts (checkOf 16 address inner) n (at + 41) o → Puts (recordLine 0 address bytes) b at o
+pub full-line-written : {b m n o : List ℕ} {at : ℕ} (bytes : List ℕ) (address inner : ℕ) → length bytes ≡ 16 → inner ≡ total bytes % 256 → PutsText (headOf 16 address) b at m
+    → PutsText (pairsOf bytes) m (at + 9) n → PutsText (checkOf 16 address inner) n (at + 41) o → PutsText (recordLine 0 address bytes) b at o
 full-line-written {b} {m} {n} {o} {at} bytes address inner size e p q r =
     let place : at + 9 + 2 * 16 ≡ at + 41 = omega arith in
-    let head : Puts (headOf (length bytes) address) b at m = rw size p in
-    let check : Puts (checkOf (length bytes) address inner) n (at + 9 + 2 * length bytes) o = rw (size, place) r in
+    let head : PutsText (headOf (length bytes) address) b at m = rw size p in
+    let check : PutsText (checkOf (length bytes) address inner) n (at + 9 + 2 * length bytes) o = rw (size, place) r in
     line-written bytes address inner e head q check
 
 pub line-length : (type address : ℕ) (bytes : List ℕ) → length (lineOf type address bytes) ≡ 11 + 2 * length bytes
@@ -180,8 +180,8 @@ lines-length (suc k) address bytes h =
     )
 
 -- one byte more of a record's data
-pub one-more-pair : (b text e : List ℕ) (at : ℕ) (bytes : List ℕ) (i : ℕ) → i < length bytes → Puts (pairsOf (take i bytes)) b at text → Puts (pairsOf (getD bytes i 0 ∷ [])) text (at + 2 * i) e
-    → Puts (pairsOf (take (i + 1) bytes)) b at e
+pub one-more-pair : (b text e : List ℕ) (at : ℕ) (bytes : List ℕ) (i : ℕ) → i < length bytes → PutsText (pairsOf (take i bytes)) b at text → PutsText (pairsOf (getD bytes i 0 ∷ [])) text (at + 2 * i) e
+    → PutsText (pairsOf (take (i + 1) bytes)) b at e
 one-more-pair b text e at bytes i h p q =
     let size : length (take i bytes) ≡ i = length-take-le i bytes (omega arith) in
     rw (add-one i, take-suc bytes i 0 h, pairs-append (take i bytes) (getD bytes i 0 ∷ [])) (puts-then p (at + 2 * i) (rw (pairs-length (take i bytes), size)) q)

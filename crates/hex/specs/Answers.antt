@@ -15,15 +15,15 @@ use Rattle.hex.specs.declared.HexWritten.the-variants.{Characters, BadIm
 use Rattle.hex.specs.declared.HexRead.{HexRead}
 use Rattle.hex.specs.declared.HexRead.the-variants.{Bytes, Malformed, BadChecksum, BadSpan, NoRoom as NoByteRoom}
 use Rattle.hex_format.specs.Text.{hexOf}
-use Rattle.hex_format.specs.Lines.{linesOf}
+use Rattle.hex_format.specs.Lines.{textLines}
 use Rattle.hex_format.specs.Reading.{malformed, badChecksum, badSpan, saidBy}
 
 -- a text that is read, and the bytes that it gives
 pub record ReadsAs (text bytes : List ℕ) : Type 0 where
-  pub lines : malformed (linesOf text) ≡ false
-  pub checksums : badChecksum (linesOf text) ≡ false
-  pub span : badSpan 0 (linesOf text) ≡ false
-  pub said : bytes ≡ saidBy (linesOf text)
+  pub lines : malformed (textLines text) ≡ false
+  pub checksums : badChecksum (textLines text) ≡ false
+  pub span : badSpan 0 (textLines text) ≡ false
+  pub said : bytes ≡ saidBy (textLines text)
 
 -- the number of each answer of `write`, 0 where the text is written: "A bad image is not written (1 to 8)", "An output buffer too short is 25,
 -- last"
@@ -100,11 +100,11 @@ within room BadSpan = BadSpan
 within room NoByteRoom = NoByteRoom
 
 unfoldable pub hexRead : List ℕ → List ℕ → HexRead
-hexRead text bytes = within (length bytes) (verdictOf (linesOf text))
+hexRead text bytes = within (length bytes) (verdictOf (textLines text))
 
 -- the bytes then
 abbrev pub bytesAfter : HexRead → List ℕ → List ℕ → List ℕ
-bytesAfter (Bytes n) text bytes = saidBy (linesOf text) ++ drop n bytes
+bytesAfter (Bytes n) text bytes = saidBy (textLines text) ++ drop n bytes
 bytesAfter Malformed text bytes = bytes
 bytesAfter BadChecksum text bytes = bytes
 bytesAfter BadSpan text bytes = bytes
@@ -112,11 +112,11 @@ bytesAfter NoByteRoom text bytes = bytes
 
 pub record HexReads (text before after : List ℕ) (answer : HexRead) : Type 0 where
   pub answered : answer ≡ hexRead text before
-  pub number27 : (numberOfHexRead answer ≡ 27) ↔ (malformed (linesOf text) ≡ true)
-  pub number28 : (numberOfHexRead answer ≡ 28) ↔ ((malformed (linesOf text) ≡ false) × (badChecksum (linesOf text) ≡ true))
-  pub number29 : (numberOfHexRead answer ≡ 29) ↔ ((malformed (linesOf text) ≡ false) × (badChecksum (linesOf text) ≡ false) × (badSpan 0 (linesOf text) ≡ true))
-  pub number25 : (numberOfHexRead answer ≡ 25) ↔ (ReadsAs text (saidBy (linesOf text)) × (length before < length (saidBy (linesOf text))))
-  pub number0 : (numberOfHexRead answer ≡ 0) ↔ (answer ≡ Bytes (length (saidBy (linesOf text))))
+  pub number27 : (numberOfHexRead answer ≡ 27) ↔ (malformed (textLines text) ≡ true)
+  pub number28 : (numberOfHexRead answer ≡ 28) ↔ ((malformed (textLines text) ≡ false) × (badChecksum (textLines text) ≡ true))
+  pub number29 : (numberOfHexRead answer ≡ 29) ↔ ((malformed (textLines text) ≡ false) × (badChecksum (textLines text) ≡ false) × (badSpan 0 (textLines text) ≡ true))
+  pub number25 : (numberOfHexRead answer ≡ 25) ↔ (ReadsAs text (saidBy (textLines text)) × (length before < length (saidBy (textLines text))))
+  pub number0 : (numberOfHexRead answer ≡ 0) ↔ (answer ≡ Bytes (length (saidBy (textLines text))))
   -- "every text read gives the bytes its records say"
   pub bytes : after ≡ bytesAfter answer text before
   pub reads : (n : ℕ) → answer ≡ Bytes n → ReadsAs text (take n after)

@@ -13,17 +13,17 @@ use Rattle.hex.specs.declared.HexRead.{HexRead}
 use Rattle.hex.specs.declared.HexRead.the-variants.{Bytes, BadChecksum, BadSpan}
 use Rattle.hex_format.specs.Digits.{colon, lineFeed, carriageReturn, capital, isDigit, digitValue}
 use Rattle.hex_format.specs.Text.{pairsOf}
-use Rattle.hex_format.specs.Lines.{linesOf}
+use Rattle.hex_format.specs.Lines.{textLines}
 use Rattle.hex_format.specs.Record.{countOf, addressOf, typeOf, sumOf, wellFormed}
 use Rattle.hex_format.specs.Reading.{malformed}
 
 -- a character's weight: a digit's value; else more than a record's digits add up to
-unfoldable pub weightOf : ℕ → ℕ
-weightOf c = cond (isDigit c) (digitValue c) 8192
+unfoldable pub digitWeight : ℕ → ℕ
+digitWeight c = cond (isDigit c) (digitValue c) 8192
 
 -- a table of each character's weight
 abbrev pub Weights : List ℕ → Type 0
-Weights table = (c : ℕ) → c < 256 → getD table c 0 ≡ weightOf c
+Weights table = (c : ℕ) → c < 256 → getD table c 0 ≡ digitWeight c
 
 -- a table of each byte's two characters
 pub record Pairs (table : List ℕ) : Type 0 where
@@ -32,7 +32,7 @@ pub record Pairs (table : List ℕ) : Type 0 where
   pub low : (byte : ℕ) → byte < 256 → getD table (2 * byte + 1) 0 ≡ capital (byte % 16)
 
 -- characters stored from a position on
-pub record Puts (characters before : List ℕ) (at : ℕ) (after : List ℕ) : Type 0 where
+pub record PutsText (characters before : List ℕ) (at : ℕ) (after : List ℕ) : Type 0 where
   pub stored : after ≡ sets before at characters
 
 -- a data record's line up to its data
@@ -59,18 +59,18 @@ pub record Valued (c r : ℕ) : Type 0 where
   pub other : isDigit c ≡ false → 16 ≤ r
 
 -- two characters at a position, by their weights
-abbrev pub byteAt : List ℕ → ℕ → ℕ
-byteAt text at = 16 * weightOf (getD text at 0) + weightOf (getD text (at + 1) 0)
+abbrev pub pairAt : List ℕ → ℕ → ℕ
+pairAt text at = 16 * digitWeight (getD text at 0) + digitWeight (getD text (at + 1) 0)
 
 -- so many pairs of characters from a position on, added up
 unfoldable pub sumAt : List ℕ → ℕ → ℕ → ℕ
 sumAt text at zero = 0
-sumAt text at (suc n) = sumAt text at n + byteAt text (at + 2 * n)
+sumAt text at (suc n) = sumAt text at n + pairAt text (at + 2 * n)
 
 -- so many bytes from a position on
 unfoldable pub pairsAt : List ℕ → ℕ → ℕ → List ℕ
 pairsAt text at zero = []
-pairsAt text at (suc n) = pairsAt text at n ++ (byteAt text (at + 2 * n) ∷ [])
+pairsAt text at (suc n) = pairsAt text at n ++ (pairAt text (at + 2 * n) ∷ [])
 
 -- so many digits from a position on
 abbrev pub Digits : List ℕ → ℕ → ℕ → Type 0
@@ -96,8 +96,8 @@ abbrev pub lineAt : List ℕ → ℕ → ℕ → List ℕ
 lineAt text at count = take (11 + 2 * count) (drop at text)
 
 -- a record's line at a position, and where the next line begins
-pub record Stands (text : List ℕ) (at : ℕ) (r : HexRecord) : Type 0 where
-  pub lines : linesOf (drop at text) ≡ lineAt text at (r .count) ∷ linesOf (drop (r .next) text)
+pub record StandsAt (text : List ℕ) (at : ℕ) (r : HexRecord) : Type 0 where
+  pub lines : textLines (drop at text) ≡ lineAt text at (r .count) ∷ textLines (drop (r .next) text)
   pub formed : wellFormed (lineAt text at (r .count)) ≡ true
   pub count : countOf (lineAt text at (r .count)) ≡ r .count
   pub few : r .count ≤ 16
@@ -110,9 +110,9 @@ pub record Stands (text : List ℕ) (at : ℕ) (r : HexRecord) : Type 0 where
 -- what is known of a line before its address and checksum are read
 pub record Begun (text : List ℕ) (at first kind inner : ℕ) : Type 0 where
   pub colon : getD text at 0 ≡ colon
-  pub count : byteAt text (at + 1) ≡ first
+  pub count : pairAt text (at + 1) ≡ first
   pub few : first ≤ 16
-  pub type : byteAt text (at + 7) ≡ kind
+  pub type : pairAt text (at + 7) ≡ kind
   pub inside : at + 11 + 2 * first ≤ length text
   pub weighs : Weighs text (at + 9) first inner
 
@@ -123,8 +123,8 @@ fullAt text at =
     (cond (eqb (getD text (at + 1) 0 + 256 * getD text (at + 1 + 1) 0) 12337) (eqb (getD text (at + 7) 0 + 256 * getD text (at + 7 + 1) 0) 12336) false)
 
 abbrev pub LineFound : List ℕ → ℕ → Line → Type 0
-LineFound text at NoRecord = malformed (linesOf (drop at text)) ≡ true
-LineFound text at (Record r) = Stands text at r
+LineFound text at NoRecord = malformed (textLines (drop at text)) ≡ true
+LineFound text at (Record r) = StandsAt text at r
 
 -- one test more of a line's checksum
 abbrev pub alsoSum : Bool → ℕ → Bool
@@ -135,5 +135,5 @@ abbrev pub alsoSpan : Bool → ℕ → ℕ → Bool
 alsoSpan bad address count = bad || not (eqb address count)
 
 -- the answer by the tests of all lines, none of which is malformed; that no byte lies past address FFFF is told by their count
-abbrev pub testedAs : Bool → Bool → ℕ → HexRead
-testedAs sum span count = cond sum BadChecksum (cond (span || ltb 65536 count) BadSpan (Bytes count))
+abbrev pub scannedAs : Bool → Bool → ℕ → HexRead
+scannedAs sum span count = cond sum BadChecksum (cond (span || ltb 65536 count) BadSpan (Bytes count))

@@ -9,9 +9,9 @@ ghost use mathlib.Core.List.{_++_};
 ghost use Prim.Native.Nat.{_≤_, _+_, _*_};
 ghost use lib.ListN.{length, drop};
 ghost use lib.Seq.{sets};
-ghost use Rattle.hex_format.specs.Lines.{linesOf};
+ghost use Rattle.hex_format.specs.Lines.{textLines};
 ghost use Rattle.hex_format.specs.Reading.{malformed, saidBy};
-ghost use Rattle.hex.specs.Found.{Weights, Digits, byteAt, pairsAt};
+ghost use Rattle.hex.specs.Found.{Weights, Digits, pairAt, pairsAt};
 
 // So many bytes, read at one position and stored at another.
 fn put_pairs(table: &[u32; 256], text: &[u8], from: usize, bytes: &mut [u8], at: usize, n: usize)
@@ -40,7 +40,7 @@ fn put_data(table: &[u32; 256], text: &[u8], from: usize, bytes: &mut [u8], at: 
 // The count of a record; 16 is told by its characters.
 fn count_at(table: &[u32; 256], text: &[u8], from: usize) -> usize
     requires { ⌜ Weights (now table) × (from + 3 ≤ length (now text)) ⌝ }
-    ensures { λ r. ⌜ (r ≡ byteAt (now (text .entry)) (from + 1)) × (r ≤ 139264) ⌝ }
+    ensures { λ r. ⌜ (r ≡ pairAt (now (text .entry)) (from + 1)) × (r ≤ 139264) ⌝ }
 {
     if two(text, from + 1) == 12337 {
         return 16;
@@ -49,8 +49,8 @@ fn count_at(table: &[u32; 256], text: &[u8], from: usize) -> usize
 }
 
 pub fn put_bytes(table: &[u32; 256], text: &[u8], bytes: &mut [u8], count: usize)
-    requires { ⌜ Weights (now table) × (malformed (linesOf (now text)) ≡ false) × (count ≡ length (saidBy (linesOf (now text)))) × (count ≤ length (now bytes)) ⌝ }
-    ensures { λ _. ⌜ now (bytes .exit) ≡ saidBy (linesOf (now (text .entry))) ++ drop count (now (bytes .entry)) ⌝ }
+    requires { ⌜ Weights (now table) × (malformed (textLines (now text)) ≡ false) × (count ≡ length (saidBy (textLines (now text)))) × (count ≤ length (now bytes)) ⌝ }
+    ensures { λ _. ⌜ now (bytes .exit) ≡ saidBy (textLines (now (text .entry))) ++ drop count (now (bytes .entry)) ⌝ }
 {
     let mut from: usize = 0;
     let mut at: usize = 0;

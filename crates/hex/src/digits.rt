@@ -2,7 +2,7 @@
 ghost use mathlib.Core.Path.{_≡_};
 ghost use Prim.Native.Nat.{_<_, _≤_, _+_, _*_};
 ghost use lib.ListN.{length, getD};
-ghost use Rattle.hex.specs.Found.{weightOf, Weights, byteAt};
+ghost use Rattle.hex.specs.Found.{digitWeight, Weights, pairAt};
 
 // The weight of each character: the value of a digit, and 8,192 of what is none. A record's digits, by their places, add up to less.
 pub fn weights() -> [u32; 256]
@@ -37,7 +37,7 @@ pub fn weights() -> [u32; 256]
 // The weight of the character at a position.
 pub fn weight(table: &[u32; 256], text: &[u8], at: usize) -> u32
     requires { ⌜ Weights (now table) × (at < length (now text)) ⌝ }
-    ensures { λ r. ⌜ (r ≡ weightOf (getD (now (text .entry)) at 0)) × (r ≤ 8192) ⌝ }
+    ensures { λ r. ⌜ (r ≡ digitWeight (getD (now (text .entry)) at 0)) × (r ≤ 8192) ⌝ }
 {
     let c = text[at] as usize;
     table[c]
@@ -46,7 +46,7 @@ pub fn weight(table: &[u32; 256], text: &[u8], at: usize) -> u32
 // The byte of two characters at a position; more than 255 where one is no digit.
 pub fn byte(table: &[u32; 256], text: &[u8], at: usize) -> u32
     requires { ⌜ Weights (now table) × (at + 2 ≤ length (now text)) ⌝ }
-    ensures { λ r. ⌜ (r ≡ byteAt (now (text .entry)) at) × (r ≤ 139264) ⌝ }
+    ensures { λ r. ⌜ (r ≡ pairAt (now (text .entry)) at) × (r ≤ 139264) ⌝ }
 {
     16 * weight(table, text, at) + weight(table, text, at + 1)
 }

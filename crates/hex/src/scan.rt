@@ -3,9 +3,9 @@ use crate::HexRead;
 use crate::line::Line;
 use crate::line::line_at;
 ghost use mathlib.Core.Path.{_≡_};
-ghost use Rattle.hex_format.specs.Lines.{linesOf};
+ghost use Rattle.hex_format.specs.Lines.{textLines};
 ghost use Rattle.hex.specs.Answers.{verdictOf};
-ghost use Rattle.hex.specs.Found.{Weights, alsoSum, alsoSpan, testedAs};
+ghost use Rattle.hex.specs.Found.{Weights, alsoSum, alsoSpan, scannedAs};
 
 // Is a checksum wrong, this line's or one before?
 fn also_sum(bad: bool, sum: u32) -> bool
@@ -29,7 +29,7 @@ fn also_span(bad: bool, address: usize, count: usize) -> bool
 
 // The answer where no line is malformed.
 fn tested(sum: bool, span: bool, count: usize) -> HexRead
-    ensures { λ r. ⌜ r ≡ testedAs sum span count ⌝ }
+    ensures { λ r. ⌜ r ≡ scannedAs sum span count ⌝ }
 {
     if sum {
         return HexRead::BadChecksum;
@@ -46,7 +46,7 @@ fn tested(sum: bool, span: bool, count: usize) -> HexRead
 // The answer, but for the room: the number of bytes, or the first test that fails.
 pub fn scan(table: &[u32; 256], text: &[u8]) -> HexRead
     requires { ⌜ Weights (now table) ⌝ }
-    ensures { λ r. ⌜ r ≡ verdictOf (linesOf (now (text .entry))) ⌝ }
+    ensures { λ r. ⌜ r ≡ verdictOf (textLines (now (text .entry))) ⌝ }
 {
     let mut at: usize = 0;
     let mut count: usize = 0;

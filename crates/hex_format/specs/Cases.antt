@@ -9,7 +9,7 @@ use lib.Dec.{eqb}
 use lib.ListN.{drop, replicate}
 use Rattle.image.specs.Cases.{whole}
 use Rattle.hex_format.specs.Text.{hexOf}
-use Rattle.hex_format.specs.Lines.{linesOf}
+use Rattle.hex_format.specs.Lines.{textLines}
 use Rattle.hex_format.specs.Reading.{badSpan, saidBy, textNumber}
 
 abbrev pub characters : String → List ℕ
@@ -25,8 +25,8 @@ pub record HexCase : Type 0 where
 abbrev pub gives : String → List ℕ → HexCase
 gives text bytes = record { text = characters text; number = 0; bytes = bytes }
 
-abbrev pub refused : ℕ → String → HexCase
-refused number text = record { text = characters text; number = number; bytes = [] }
+abbrev pub refusedText : ℕ → String → HexCase
+refusedText number text = record { text = characters text; number = number; bytes = [] }
 
 -- so many bytes that go up by one, from n on
 abbrev pub upFrom : ℕ → ℕ → List ℕ
@@ -71,145 +71,145 @@ readTexts =
 abbrev pub malformedLines : List HexCase
 malformedLines =
     -- an empty line
-    refused 27 "\n"
-    ∷ refused 27 "\r\n"
-    ∷ refused 27 "\n:00000001FF\n"
-    ∷ refused 27 ":01000000AB54\n\n:00000001FF\n"
+    refusedText 27 "\n"
+    ∷ refusedText 27 "\r\n"
+    ∷ refusedText 27 "\n:00000001FF\n"
+    ∷ refusedText 27 ":01000000AB54\n\n:00000001FF\n"
     -- no colon in the first place
-    ∷ refused 27 "00000001FF\n"
-    ∷ refused 27 ";00000001FF\n"
-    ∷ refused 27 " :00000001FF\n"
-    ∷ refused 27 "::00000001FF\n"
+    ∷ refusedText 27 "00000001FF\n"
+    ∷ refusedText 27 ";00000001FF\n"
+    ∷ refusedText 27 " :00000001FF\n"
+    ∷ refusedText 27 "::00000001FF\n"
     -- G as 16: 01 + B0 = B1; and as 0: 01 + A0 = A1
-    ∷ refused 27 ":01000000AG4F\n:00000001FF\n"
-    ∷ refused 27 ":01000000AG5F\n:00000001FF\n"
+    ∷ refusedText 27 ":01000000AG4F\n:00000001FF\n"
+    ∷ refusedText 27 ":01000000AG5F\n:00000001FF\n"
     -- g as 16
-    ∷ refused 27 ":01000000Ag4F\n:00000001FF\n"
+    ∷ refusedText 27 ":01000000Ag4F\n:00000001FF\n"
     -- `@` stands before A, and "`" before a: as 9, 01 + A9 = AA
-    ∷ refused 27 ":01000000A@56\n:00000001FF\n"
-    ∷ refused 27 ":01000000A`56\n:00000001FF\n"
+    ∷ refusedText 27 ":01000000A@56\n:00000001FF\n"
+    ∷ refusedText 27 ":01000000A`56\n:00000001FF\n"
     -- `/` stands before 0: as 0; and `:` after 9: as 10, 01 + AA = AB, and as 3, 01 + A3 = A4
-    ∷ refused 27 ":01000000A/5F\n:00000001FF\n"
-    ∷ refused 27 ":01000000A:55\n:00000001FF\n"
-    ∷ refused 27 ":01000000A:5C\n:00000001FF\n"
+    ∷ refusedText 27 ":01000000A/5F\n:00000001FF\n"
+    ∷ refusedText 27 ":01000000A:55\n:00000001FF\n"
+    ∷ refusedText 27 ":01000000A:5C\n:00000001FF\n"
     -- a space: as 0, 01 + 00 = 01; and at the end of a line
-    ∷ refused 27 ":010000000 FF\n:00000001FF\n"
-    ∷ refused 27 ":01000000 0FF\n:00000001FF\n"
-    ∷ refused 27 ":00000001FF \n"
+    ∷ refusedText 27 ":010000000 FF\n:00000001FF\n"
+    ∷ refusedText 27 ":01000000 0FF\n:00000001FF\n"
+    ∷ refusedText 27 ":00000001FF \n"
     -- F with the eighth bit set, C6
-    ∷ refused 27 ":00000001FÆ\n"
+    ∷ refusedText 27 ":00000001FÆ\n"
     -- an odd count of digits
-    ∷ refused 27 ":00000001F\n"
-    ∷ refused 27 ":00000001FF0\n"
-    ∷ refused 27 ":01000000AB5\n:00000001FF\n"
+    ∷ refusedText 27 ":00000001F\n"
+    ∷ refusedText 27 ":00000001FF0\n"
+    ∷ refusedText 27 ":01000000AB5\n:00000001FF\n"
     -- fewer than 10 digits
-    ∷ refused 27 ":\n"
-    ∷ refused 27 ":00\n"
-    ∷ refused 27 ":00000001\n"
+    ∷ refusedText 27 ":\n"
+    ∷ refusedText 27 ":00\n"
+    ∷ refusedText 27 ":00000001\n"
     -- a length that is not the count of data bytes, one more and one fewer: 02 + AB = AD; 01 + AB + CD = 179
-    ∷ refused 27 ":02000000AB53\n:00000001FF\n"
-    ∷ refused 27 ":01000000ABCD87\n:00000001FF\n"
+    ∷ refusedText 27 ":02000000AB53\n:00000001FF\n"
+    ∷ refusedText 27 ":01000000ABCD87\n:00000001FF\n"
     -- a CR that no LF follows is a character of its line
-    ∷ refused 27 ":00000001FF\r"
-    ∷ refused 27 ":01000000AB54\r:00000001FF\r"
-    ∷ refused 27 ":01000000AB54\r:00000001FF\n"
+    ∷ refusedText 27 ":00000001FF\r"
+    ∷ refusedText 27 ":01000000AB54\r:00000001FF\r"
+    ∷ refusedText 27 ":01000000AB54\r:00000001FF\n"
     -- CR CR LF
-    ∷ refused 27 ":01000000AB54\r\r\n:00000001FF\n"
-    ∷ refused 27 ":00000001FF\r\r\n"
+    ∷ refusedText 27 ":01000000AB54\r\r\n:00000001FF\n"
+    ∷ refusedText 27 ":00000001FF\r\r\n"
     -- LF CR
-    ∷ refused 27 ":01000000AB54\n\r:00000001FF\n"
-    ∷ refused 27 ":00000001FF\n\r"
+    ∷ refusedText 27 ":01000000AB54\n\r:00000001FF\n"
+    ∷ refusedText 27 ":00000001FF\n\r"
     ∷ []
 
 -- 27: a record that is not allowed, each with a right checksum
 abbrev pub malformedRecords : List HexCase
 malformedRecords =
     -- no data, also in the last line, and 17 bytes of it
-    refused 27 ":0000000000\n:00000001FF\n"
-    ∷ refused 27 ":0000000000\n"
-    ∷ refused 27 ":110000000000000000000000000000000000000000EF\n:00000001FF\n"
+    refusedText 27 ":0000000000\n:00000001FF\n"
+    ∷ refusedText 27 ":0000000000\n"
+    ∷ refusedText 27 ":110000000000000000000000000000000000000000EF\n:00000001FF\n"
     -- types 02 to 05: 02 + 02 + 10 = 14; 04 + 03 + 38 = 3F; 02 + 04 + 08 = 0E; 04 + 05 + CD = D6
-    ∷ refused 27 ":020000021000EC\n:00000001FF\n"
-    ∷ refused 27 ":0400000300003800C1\n:00000001FF\n"
-    ∷ refused 27 ":020000040800F2\n:00000001FF\n"
-    ∷ refused 27 ":04000005000000CD2A\n:00000001FF\n"
+    ∷ refusedText 27 ":020000021000EC\n:00000001FF\n"
+    ∷ refusedText 27 ":0400000300003800C1\n:00000001FF\n"
+    ∷ refusedText 27 ":020000040800F2\n:00000001FF\n"
+    ∷ refusedText 27 ":04000005000000CD2A\n:00000001FF\n"
     -- types FF and 80: 01 + FF + AB = 1AB; 01 + 80 + AB = 12C
-    ∷ refused 27 ":010000FFAB55\n:00000001FF\n"
-    ∷ refused 27 ":01000080ABD4\n:00000001FF\n"
+    ∷ refusedText 27 ":010000FFAB55\n:00000001FF\n"
+    ∷ refusedText 27 ":01000080ABD4\n:00000001FF\n"
     -- type 02 in place of the end record
-    ∷ refused 27 ":00000002FE\n"
+    ∷ refusedText 27 ":00000002FE\n"
     -- an end record whose address is not 0, in its low and its high byte, and where the data end: 01 + 01 = 02
-    ∷ refused 27 ":00000101FE\n"
-    ∷ refused 27 ":00010001FE\n"
-    ∷ refused 27 ":01000000AB54\n:00000101FE\n"
+    ∷ refusedText 27 ":00000101FE\n"
+    ∷ refusedText 27 ":00010001FE\n"
+    ∷ refusedText 27 ":01000000AB54\n:00000101FE\n"
     -- an end record with data: 01 + 01 + AA = AC
-    ∷ refused 27 ":01000001AA54\n"
+    ∷ refusedText 27 ":01000001AA54\n"
     -- text after the end record: an empty line, a character, a second end record, a data record
-    ∷ refused 27 ":00000001FF\n\n"
-    ∷ refused 27 ":00000001FF\r\n\r\n"
-    ∷ refused 27 ":00000001FF\n "
-    ∷ refused 27 ":00000001FF\n\0"
-    ∷ refused 27 ":00000001FF\n\u{1a}"
-    ∷ refused 27 ":00000001FF\n:00000001FF\n"
-    ∷ refused 27 ":00000001FF\n:01000000AB54\n"
-    ∷ refused 27 ":01000000AB54\n:00000001FF\n:01000100CD31\n:00000001FF\n"
+    ∷ refusedText 27 ":00000001FF\n\n"
+    ∷ refusedText 27 ":00000001FF\r\n\r\n"
+    ∷ refusedText 27 ":00000001FF\n "
+    ∷ refusedText 27 ":00000001FF\n\0"
+    ∷ refusedText 27 ":00000001FF\n\u{1a}"
+    ∷ refusedText 27 ":00000001FF\n:00000001FF\n"
+    ∷ refusedText 27 ":00000001FF\n:01000000AB54\n"
+    ∷ refusedText 27 ":01000000AB54\n:00000001FF\n:01000100CD31\n:00000001FF\n"
     ∷ []
 
 -- 28
 abbrev pub wrongChecksums : List HexCase
 wrongChecksums =
     -- one too many, one too few
-    refused 28 ":01000000AB55\n:00000001FF\n"
-    ∷ refused 28 ":01000000AB53\n:00000001FF\n"
+    refusedText 28 ":01000000AB55\n:00000001FF\n"
+    ∷ refusedText 28 ":01000000AB53\n:00000001FF\n"
     -- in the end record; there without the type
-    ∷ refused 28 ":00000001FE\n"
-    ∷ refused 28 ":0000000100\n"
-    ∷ refused 28 ":01000000AB54\n:00000001FE"
+    ∷ refusedText 28 ":00000001FE\n"
+    ∷ refusedText 28 ":0000000100\n"
+    ∷ refusedText 28 ":01000000AB54\n:00000001FE"
     -- without the data: 01 + FF = 100; the sum itself; and without the count it is the first of these rows
-    ∷ refused 28 ":01000000ABFF\n:00000001FF\n"
-    ∷ refused 28 ":01000000ABAC\n:00000001FF\n"
+    ∷ refusedText 28 ":01000000ABFF\n:00000001FF\n"
+    ∷ refusedText 28 ":01000000ABAC\n:00000001FF\n"
     -- without the address: 01 + 10 = 11
-    ∷ refused 28 ":10000000000102030405060708090A0B0C0D0E0F78\n:0100100010EF\n:00000001FF\n"
+    ∷ refusedText 28 ":10000000000102030405060708090A0B0C0D0E0F78\n:0100100010EF\n:00000001FF\n"
     ∷ []
 
 -- 29
 abbrev pub wrongSpans : List HexCase
 wrongSpans =
     -- no line, so none is malformed; the end is missing
-    refused 29 ""
+    refusedText 29 ""
     -- missing end
-    ∷ refused 29 ":01000000AB54\n"
-    ∷ refused 29 ":01000000AB54"
+    ∷ refusedText 29 ":01000000AB54\n"
+    ∷ refusedText 29 ":01000000AB54"
     -- a gap: 01 + 02 + CD = D0
-    ∷ refused 29 ":01000000AB54\n:01000200CD30\n:00000001FF\n"
+    ∷ refusedText 29 ":01000000AB54\n:01000200CD30\n:00000001FF\n"
     -- the same record twice
-    ∷ refused 29 ":01000000AB54\n:01000000AB54\n:00000001FF\n"
+    ∷ refusedText 29 ":01000000AB54\n:01000000AB54\n:00000001FF\n"
     -- an overlap of one byte: 02 + AB + CD = 17A; 01 + 01 + EF = F1
-    ∷ refused 29 ":02000000ABCD86\n:01000100EF0F\n:00000001FF\n"
+    ∷ refusedText 29 ":02000000ABCD86\n:01000100EF0F\n:00000001FF\n"
     -- the first address is not 0; nor is it where the records descend: 01 + 01 + CD = CF
-    ∷ refused 29 ":01000100CD31\n:00000001FF\n"
-    ∷ refused 29 ":01000100CD31\n:01000000AB54\n:00000001FF\n"
+    ∷ refusedText 29 ":01000100CD31\n:00000001FF\n"
+    ∷ refusedText 29 ":01000100CD31\n:01000000AB54\n:00000001FF\n"
     -- the high byte of the address comes first: this one is 1000
-    ∷ refused 29 ":10000000000102030405060708090A0B0C0D0E0F78\n:0110000010DF\n:00000001FF\n"
+    ∷ refusedText 29 ":10000000000102030405060708090A0B0C0D0E0F78\n:0110000010DF\n:00000001FF\n"
     -- FFF0 after one byte: 10 + FF + F0 = 1FF
-    ∷ refused 29 ":01000000AB54\n:10FFF0000000000000000000000000000000000001\n:00000001FF\n"
+    ∷ refusedText 29 ":01000000AB54\n:10FFF0000000000000000000000000000000000001\n:00000001FF\n"
     ∷ []
 
 -- "each over the whole text before the next"
 abbrev pub inOrder : List HexCase
 inOrder =
     -- a malformed last line after a wrong checksum, and after a gap
-    refused 27 ":01000000AB55\n:00000001G\n"
-    ∷ refused 27 ":01000100CD31\n:00000001FF\n\n"
+    refusedText 27 ":01000000AB55\n:00000001G\n"
+    ∷ refusedText 27 ":01000100CD31\n:00000001FF\n\n"
     -- a second end record, both checksums wrong
-    ∷ refused 27 ":00000001FE\n:00000001FE\n"
+    ∷ refusedText 27 ":00000001FE\n:00000001FE\n"
     -- a type and an end record's address, with wrong checksums
-    ∷ refused 27 ":020000040800F3\n:00000001FF\n"
-    ∷ refused 27 ":00000101FF\n"
+    ∷ refusedText 27 ":020000040800F3\n:00000001FF\n"
+    ∷ refusedText 27 ":00000101FF\n"
     -- a wrong checksum in the end record, though the first address is not 0
-    ∷ refused 28 ":01000100CD31\n:00000001FE\n"
+    ∷ refusedText 28 ":01000100CD31\n:00000001FE\n"
     -- a wrong checksum, though the end is missing
-    ∷ refused 28 ":01000000AB55\n"
+    ∷ refusedText 28 ":01000000AB55\n"
     ∷ []
 
 abbrev pub hexCases : List HexCase
@@ -218,7 +218,7 @@ hexCases = readTexts ++ malformedLines ++ malformedRecords ++ wrongChecksums ++ 
 -- what the definitions make of a row's text
 abbrev pub asRead : HexCase → HexCase
 asRead c =
-    let lines : List (List ℕ) = linesOf (c .text) in
+    let lines : List (List ℕ) = textLines (c .text) in
     let number : ℕ = textNumber lines in
     record { text = c .text; number = number; bytes = cond (eqb number 0) (saidBy lines) [] }
 

@@ -12,9 +12,9 @@ before c [] = (c ∷ []) ∷ []
 before c (line ∷ lines) = (c ∷ line) ∷ lines
 
 -- an LF ends a line; a CR belongs to a line's end only where an LF follows, and is a character of its line elsewhere
-unfoldable pub linesOf : List ℕ → List (List ℕ)
-linesOf [] = []
-linesOf (c ∷ text) =
-    cond (eqb c lineFeed) ([] ∷ linesOf text)
-    (cond (eqb c carriageReturn && eqb (getD text 0 0) lineFeed) (linesOf text)
-    (before c (linesOf text)))
+unfoldable pub textLines : List ℕ → List (List ℕ)
+textLines [] = []
+textLines (c ∷ text) =
+    cond (eqb c lineFeed) ([] ∷ textLines text)
+    (cond (eqb c carriageReturn && eqb (getD text 0 0) lineFeed) (textLines text)
+    (before c (textLines text)))

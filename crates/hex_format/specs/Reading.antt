@@ -6,14 +6,14 @@ use lib.Dec.{eqb, ltb}
 use Rattle.hex_format.specs.Record.{countOf, addressOf, dataOf, sumOf, isData, isEnd}
 
 -- is there no line?
-abbrev pub none : List (List ℕ) → Bool
-none [] = true
-none (line ∷ lines) = false
+abbrev pub noLines : List (List ℕ) → Bool
+noLines [] = true
+noLines (line ∷ lines) = false
 
 -- "27 a malformed line, record type or length, an end record whose address is not 0, or text after the end record"
 unfoldable pub malformed : List (List ℕ) → Bool
 malformed [] = false
-malformed (line ∷ lines) = cond (isEnd line) (not (none lines)) (not (isData line) || malformed lines)
+malformed (line ∷ lines) = cond (isEnd line) (not (noLines lines)) (not (isData line) || malformed lines)
 
 -- "28 a checksum"
 unfoldable pub badChecksum : List (List ℕ) → Bool

@@ -8,23 +8,23 @@ use Rattle.hex_format.specs.Digits.{colon, isDigit, digitValue}
 use Rattle.hex_format.specs.Text.{total}
 
 -- byte k of a line: two digits after the colon, the high one first
-abbrev pub byteOf : List ℕ → ℕ → ℕ
-byteOf line k = 16 * digitValue (getD line (2 * k + 1) 0) + digitValue (getD line (2 * k + 2) 0)
+abbrev pub lineByte : List ℕ → ℕ → ℕ
+lineByte line k = 16 * digitValue (getD line (2 * k + 1) 0) + digitValue (getD line (2 * k + 2) 0)
 
 -- so many bytes of a line, from byte k on
 unfoldable pub bytesFrom : List ℕ → ℕ → ℕ → List ℕ
 bytesFrom line k zero = []
-bytesFrom line k (suc n) = byteOf line k ∷ bytesFrom line (suc k) n
+bytesFrom line k (suc n) = lineByte line k ∷ bytesFrom line (suc k) n
 
 -- a record's parts: the count of its data, its address (the high byte first), its type and its data
 abbrev pub countOf : List ℕ → ℕ
-countOf line = byteOf line 0
+countOf line = lineByte line 0
 
 abbrev pub addressOf : List ℕ → ℕ
-addressOf line = 256 * byteOf line 1 + byteOf line 2
+addressOf line = 256 * lineByte line 1 + lineByte line 2
 
 abbrev pub typeOf : List ℕ → ℕ
-typeOf line = byteOf line 3
+typeOf line = lineByte line 3
 
 abbrev pub dataOf : List ℕ → List ℕ
 dataOf line = bytesFrom line 4 (countOf line)

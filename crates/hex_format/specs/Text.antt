@@ -36,9 +36,9 @@ dataLines zero address bytes = []
 dataLines (suc records) address bytes = recordLine 0 address (take 16 bytes) ++ dataLines records (address + 16) (drop 16 bytes)
 
 -- how many records of 16 bytes hold so many, the last perhaps in part
-abbrev pub recordsOf : ℕ → ℕ
-recordsOf count = (count + 15) / 16
+abbrev pub recordCount : ℕ → ℕ
+recordCount count = (count + 15) / 16
 
 -- the whole text
 unfoldable pub hexOf : List ℕ → List ℕ
-hexOf bytes = dataLines (recordsOf (length bytes)) 0 bytes ++ recordLine 1 0 []
+hexOf bytes = dataLines (recordCount (length bytes)) 0 bytes ++ recordLine 1 0 []

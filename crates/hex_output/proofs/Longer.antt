@@ -12,7 +12,7 @@ use lib.Seq.{length-take-le}
 use Rattle.image.specs.declared.Verdict.the-variants.{Rejected}
 use Rattle.image.specs.declared.Refusal.the-variants.{BadLength}
 use Rattle.image.specs.Image.{imageVerdict}
-use Rattle.hex_format.specs.Lines.{before, linesOf}
+use Rattle.hex_format.specs.Lines.{before, textLines}
 use Rattle.hex_format.specs.Record.{bytesFrom, countOf, dataOf}
 use Rattle.hex_format.specs.Reading.{malformed, saidBy}
 use Rattle.hex.specs.Answers.{ReadsAs, hexWritten}
@@ -43,19 +43,19 @@ one-more c [] = omega arith
 one-more c (line ∷ lines) = omega arith
 
 -- a text has no more, and one less where it begins with LF
-spread-most : (text : List ℕ) → (length text ≤ spread (linesOf text)) × (eqb (getD text 0 0) 10 ≡ true → length text + 1 ≤ spread (linesOf text))
-unfolding linesOf
+spread-most : (text : List ℕ) → (length text ≤ spread (textLines text)) × (eqb (getD text 0 0) 10 ≡ true → length text + 1 ≤ spread (textLines text))
+unfolding textLines
 spread-most [] = (omega arith, λ e. absurd (true≢false (sym e)))
 spread-most (c ∷ text) = go (spread-most text) (eqb c 10) (eqb c 13) (eqb (getD text 0 0) 10) refl
   where
-    go : (length text ≤ spread (linesOf text)) × (eqb (getD text 0 0) 10 ≡ true → length text + 1 ≤ spread (linesOf text))
+    go : (length text ≤ spread (textLines text)) × (eqb (getD text 0 0) 10 ≡ true → length text + 1 ≤ spread (textLines text))
         → (a b d : Bool) → eqb (getD text 0 0) 10 ≡ d
-        → (suc (length text) ≤ spread (cond a ([] ∷ linesOf text) (cond (b && d) (linesOf text) (before c (linesOf text)))))
-        × (a ≡ true → suc (length text) + 1 ≤ spread (cond a ([] ∷ linesOf text) (cond (b && d) (linesOf text) (before c (linesOf text)))))
+        → (suc (length text) ≤ spread (cond a ([] ∷ textLines text) (cond (b && d) (textLines text) (before c (textLines text)))))
+        × (a ≡ true → suc (length text) + 1 ≤ spread (cond a ([] ∷ textLines text) (cond (b && d) (textLines text) (before c (textLines text)))))
     go h true b d e = (omega (arith, h .0), λ p. omega (arith, h .0))
     go h false true true e = (omega (arith, h .1 e), λ p. absurd (true≢false (sym p)))
-    go h false true false e = (omega (arith, h .0, one-more c (linesOf text)), λ p. absurd (true≢false (sym p)))
-    go h false false d e = (omega (arith, h .0, one-more c (linesOf text)), λ p. absurd (true≢false (sym p)))
+    go h false true false e = (omega (arith, h .0, one-more c (textLines text)), λ p. absurd (true≢false (sym p)))
+    go h false false d e = (omega (arith, h .0, one-more c (textLines text)), λ p. absurd (true≢false (sym p)))
 
 bytes-size : (line : List ℕ) (k n : ℕ) → length (bytesFrom line k n) ≡ n
 unfolding bytesFrom
@@ -83,4 +83,4 @@ lines-most (line ∷ lines) h = go (lines-most lines) (good line lines h)
 
 pub longest-text : {text bytes : List ℕ} → ReadsAs text bytes → length text ≤ 983053
 longest-text {text} r =
-    omega (arith, spread-most text .0, lines-most (linesOf text) (r .lines), below-64K (linesOf text) 0 (r .lines) (r .span) (omega arith))
+    omega (arith, spread-most text .0, lines-most (textLines text) (r .lines), below-64K (textLines text) 0 (r .lines) (r .span) (omega arith))

@@ -10,7 +10,7 @@ use lib.ListN.{length, drop}
 use Rattle.text.specs.Buffer.{Put}
 use Rattle.hex.specs.declared.HexRead.{HexRead}
 use Rattle.hex.specs.declared.HexRead.the-variants.{Bytes, Malformed, BadChecksum, BadSpan, NoRoom as NoByteRoom}
-use Rattle.hex_format.specs.Lines.{linesOf}
+use Rattle.hex_format.specs.Lines.{textLines}
 use Rattle.hex_format.specs.Reading.{saidBy}
 use Rattle.hex.specs.Answers.{numberOfHexRead, bytesIn, verdictOf, within, hexRead, bytesAfter, HexReads}
 use Rattle.hex.proofs.Canonical.{below-64K}
@@ -50,13 +50,13 @@ module _ {text before mid : List ℕ} {answer : HexRead} (w : HexReads text befo
   pub reads-bytes : number ≡ 0 → {count : ℕ} → count ≡ bytesIn answer → ReadsOutput text before mid count
   unfolding hexRead
   reads-bytes none {count} e =
-      let all : answer ≡ Bytes (length (saidBy (linesOf text))) = w .number0 .0 (sym is ∙ none) in
-      let size : count ≡ length (saidBy (linesOf text)) = e ∙ ap bytesIn all in
-      let fit = read-fits (verdictOf (linesOf text)) (length before) (length (saidBy (linesOf text))) (sym (w .answered) ∙ all) in
-      let bytes : mid ≡ saidBy (linesOf text) ++ drop count before = w .bytes ∙ rw (all, size) in
+      let all : answer ≡ Bytes (length (saidBy (textLines text))) = w .number0 .0 (sym is ∙ none) in
+      let size : count ≡ length (saidBy (textLines text)) = e ∙ ap bytesIn all in
+      let fit = read-fits (verdictOf (textLines text)) (length before) (length (saidBy (textLines text))) (sym (w .answered) ∙ all) in
+      let bytes : mid ≡ saidBy (textLines text) ++ drop count before = w .bytes ∙ rw (all, size) in
       record {
-        put = rw (told, none) (laid (saidBy (linesOf text)) count size (omega arith) bytes);
-        most = let t = w .reads (length (saidBy (linesOf text))) all in omega (arith, below-64K (linesOf text) 0 (t .lines) (t .span) (omega arith));
+        put = rw (told, none) (laid (saidBy (textLines text)) count size (omega arith) bytes);
+        most = let t = w .reads (length (saidBy (textLines text))) all in omega (arith, below-64K (textLines text) 0 (t .lines) (t .span) (omega arith));
         room = λ h p. omega (arith, told);
       }
 
@@ -64,9 +64,9 @@ module _ {text before mid : List ℕ} {answer : HexRead} (w : HexReads text befo
   reads-refused some {after} {count} p =
       let same : mid ≡ before = w .bytes ∙ nothing-read answer text before (λ z. some (is ∙ z)) in
       record {
-        put = rw (told, refused-for number (saidBy (linesOf text)) some, ← same) p;
+        put = rw (told, refused-for number (saidBy (textLines text)) some, ← same) p;
         most = omega (arith, p .position, few-refused number (omega (arith, two-digits answer)));
         room = λ h q.
             let t = w .number25 .0 (sym is ∙ sym told ∙ q) in
-            omega (arith, t .1, below-64K (linesOf text) 0 (t .0 .lines) (t .0 .span) (omega arith));
+            omega (arith, t .1, below-64K (textLines text) 0 (t .0 .lines) (t .0 .span) (omega arith));
       }

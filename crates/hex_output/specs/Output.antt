@@ -6,7 +6,7 @@ use lib.ListN.{length}
 use Rattle.text.specs.Text.{ascii, spaced}
 use Rattle.text.specs.Buffer.{Put}
 use Rattle.hex_format.specs.Text.{hexOf}
-use Rattle.hex_format.specs.Lines.{linesOf}
+use Rattle.hex_format.specs.Lines.{textLines}
 use Rattle.hex_format.specs.Reading.{saidBy}
 use Rattle.hex.specs.Answers.{numberOfHexWritten, hexWritten, numberOfHexRead, hexRead}
 
@@ -25,7 +25,7 @@ writeOutput image output = outputFor (numberOfHexWritten (hexWritten image outpu
 
 -- the bytes that a text's records say, or the number that it is refused by: 27, 28, 29, and 25, last
 abbrev pub readOutput : List ℕ → List ℕ → List ℕ
-readOutput text output = outputFor (numberOfHexRead (hexRead text output)) (saidBy (linesOf text))
+readOutput text output = outputFor (numberOfHexRead (hexRead text output)) (saidBy (textLines text))
 
 -- what `write_output` gives. The longest image has 4,096 bytes, and its text 256 lines of 44 characters and one of 12.
 pub record WritesOutput (image before after : List ℕ) (count : ℕ) : Type 0 where

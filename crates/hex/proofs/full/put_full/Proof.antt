@@ -4,14 +4,14 @@ use Prim.Native.Nat.{_+_, _-_, _≤_}
 use native.Mathlib.Omega.{arith}
 use lib.ListN.{length, take}
 use lib.Seq.{take-all}
-use Rattle.hex.specs.Found.{Puts}
+use Rattle.hex.specs.Found.{PutsText}
 use Rattle.hex.proofs.Storing.{puts-none, puts-size, puts-same, one-more-stored}
 use Rattle.hex.proofs.Said.{pairs-size}
 use Rattle.hex.proofs.full.put_full.Statement.{statement}
 use Rattle.hex.proofs.full.put_full.Tie as tie
 
 abbrev Inv-loop : tie.InvT-loop
-Inv-loop text from bytes₀ at part i₀ bytes i = (i ≤ 16) × (length part ≡ 16) × Puts (take i part) bytes₀ at bytes
+Inv-loop text from bytes₀ at part i₀ bytes i = (i ≤ 16) × (length part ≡ 16) × PutsText (take i part) bytes₀ at bytes
 
 abbrev μ-loop : tie.MeasureT-loop
 μ-loop text from bytes₀ at part i₀ bytes i = 16 - i

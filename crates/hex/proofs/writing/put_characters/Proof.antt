@@ -4,12 +4,12 @@ use native.Mathlib.Omega.{arith}
 use lib.ListN.{length, take}
 use lib.Seq.{take-all}
 use Rattle.hex.proofs.Storing.{one-more-stored, puts-none, puts-size, puts-same, still-long}
-use Rattle.hex.specs.Found.{Puts}
+use Rattle.hex.specs.Found.{PutsText}
 use Rattle.hex.proofs.writing.put_characters.Statement.{statement}
 use Rattle.hex.proofs.writing.put_characters.Tie as tie
 
 abbrev Inv-loop : tie.InvT-loop
-Inv-loop text₀ at characters i₀ text i = (i ≤ length characters) × Puts (take i characters) text₀ at text
+Inv-loop text₀ at characters i₀ text i = (i ≤ length characters) × PutsText (take i characters) text₀ at text
 
 abbrev μ-loop : tie.MeasureT-loop
 μ-loop text₀ at characters i₀ text i = length characters - i

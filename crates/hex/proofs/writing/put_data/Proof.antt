@@ -5,14 +5,14 @@ use native.Mathlib.Omega.{arith}
 use lib.ListN.{length, take}
 use lib.Seq.{take-all}
 use Rattle.hex_format.specs.Text.{pairsOf, total}
-use Rattle.hex.specs.Found.{Puts}
+use Rattle.hex.specs.Found.{PutsText}
 use Rattle.hex.proofs.Storing.{still-long, puts-size, puts-none, puts-same}
 use Rattle.hex.proofs.TextLaws.{one-more-pair, one-more-summed}
 use Rattle.hex.proofs.writing.put_data.Statement.{statement}
 use Rattle.hex.proofs.writing.put_data.Tie as tie
 
 abbrev Inv-loop : tie.InvT-loop
-Inv-loop pairs bytes text₀ at sum₀ i₀ text sum i = (i ≤ length bytes) × Puts (pairsOf (take i bytes)) text₀ at text × (sum ≡ total (take i bytes) % 256)
+Inv-loop pairs bytes text₀ at sum₀ i₀ text sum i = (i ≤ length bytes) × PutsText (pairsOf (take i bytes)) text₀ at text × (sum ≡ total (take i bytes) % 256)
 
 abbrev μ-loop : tie.MeasureT-loop
 μ-loop pairs bytes text₀ at sum₀ i₀ text sum i = length bytes - i

@@ -7,7 +7,7 @@ use lib.ListN.{length, take}
 use lib.Seq.{take-all}
 use Rattle.hex_format.specs.Digits.{capital}
 use Rattle.hex_format.specs.Text.{pairsOf}
-use Rattle.hex.specs.Found.{Puts}
+use Rattle.hex.specs.Found.{PutsText}
 use Rattle.hex.proofs.Storing.{puts-none, puts-size, puts-same, still-long, one-more-stored}
 use Rattle.hex.proofs.TextLaws.{pairs-length}
 use Rattle.hex.proofs.FullLaws.{evens, odds}
@@ -16,7 +16,7 @@ use Rattle.hex.proofs.writing.put_full.Statement.{statement}
 use Rattle.hex.proofs.writing.put_full.Tie as tie
 
 abbrev Inv-loop : tie.InvT-loop
-Inv-loop bytes text₀ at twice even odd sum₀ i₀ text sum i = (i ≤ 32) × Puts (take i (pairsOf bytes)) text₀ at text × (sum ≡ pairSum bytes i % 256)
+Inv-loop bytes text₀ at twice even odd sum₀ i₀ text sum i = (i ≤ 32) × PutsText (take i (pairsOf bytes)) text₀ at text × (sum ≡ pairSum bytes i % 256)
 
 abbrev μ-loop : tie.MeasureT-loop
 μ-loop bytes text₀ at twice even odd sum₀ i₀ text sum i = 32 - i
