@@ -1,13 +1,21 @@
 //! Links the binaries that call the proved crates with the archives in `target/staticlib`, which `rt staticlib` writes.
 use std::path::Path;
 
+const RUNS: [&str; 3] = ["abi", "abi_serial", "abi_scheduler"];
+const HEX: &str = "abi_hex";
+
+fn link(program: &str, part: &str) {
+    let path = Path::new(env!("CARGO_MANIFEST_DIR")).join(format!("../target/staticlib/lib{part}.a"));
+    println!("cargo:rerun-if-changed={}", path.display());
+    println!("cargo:rustc-link-arg-bin={program}={}", path.display());
+}
+
 fn main() {
-    let folder = Path::new(env!("CARGO_MANIFEST_DIR")).join("../target/staticlib");
-    let scheduler = folder.join("libabi_scheduler.a");
-    for part in [&folder.join("libabi.a"), &folder.join("libabi_serial.a"), &scheduler] {
-        println!("cargo:rerun-if-changed={}", part.display());
-        for name in ["differ", "measure"] {
-            println!("cargo:rustc-link-arg-bin={name}={}", part.display());
-        }
+    for part in RUNS {
+        link("differ", part);
+        link("measure", part);
+    }
+    for program in ["hexes", "tools", "measure"] {
+        link(program, HEX);
     }
 }

@@ -2,6 +2,8 @@
 # Over the static library of the proved crates:
 #   bench/run.sh                       differential tests against the second implementation
 #   bench/run.sh test [CASES] [SEED]   the same, so many cases from a seed
+#   bench/run.sh hex [CASES] [SEED]    those of images as Intel HEX alone, which `test` makes too
+#   bench/run.sh tools [SEED]          Intel HEX against objcopy and srec_cat, where they are installed
 #   bench/run.sh print [CASES] [SEED]  the print program on random inputs against the second implementation's lines
 #   bench/run.sh measure               benchmarks; writes docs/BENCHMARKS.md and docs/benchmarks.svg
 #   bench/run.sh wrong [PATTERN..]     wrong versions of the code and of the rules (bench/wrong), each of which a check must refuse
@@ -16,6 +18,7 @@ libraries() {
     rt staticlib abi
     rt staticlib abi_scheduler
     rt staticlib abi_serial
+    rt staticlib abi_hex
 }
 
 build() {
@@ -27,7 +30,19 @@ test)
     libraries
     build
     cargo test --release --lib --offline --quiet --manifest-path bench/Cargo.toml
-    exec bench/target/release/differ "$@"
+    bench/target/release/differ "$@"
+    exec bench/target/release/hexes "$@"
+    ;;
+hex)
+    rt staticlib abi_hex
+    build --bin hexes
+    cargo test --release --lib --offline --quiet --manifest-path bench/Cargo.toml hex
+    exec bench/target/release/hexes "$@"
+    ;;
+tools)
+    rt staticlib abi_hex
+    build --bin tools
+    exec bench/target/release/tools "$@"
     ;;
 print)
     rt check print
@@ -47,7 +62,7 @@ mutants)
     exec bench/target/release/mutants . "$@"
     ;;
 *)
-    echo "usage: bench/run.sh [test [CASES] [SEED] | print [CASES] [SEED] | measure | wrong [PATTERN..] | mutants [NAME..]]" >&2
+    echo "usage: bench/run.sh [test [CASES] [SEED] | hex [CASES] [SEED] | tools [SEED] | print [CASES] [SEED] | measure | wrong [PATTERN..] | mutants [NAME..]]" >&2
     exit 2
     ;;
 esac

@@ -473,13 +473,18 @@ fn runs_on(case: &Case) -> bool {
     matches!(plain(fed, &mut case.memory.clone()), PlainAnswer::Stopped { number: 22, .. })
 }
 
-/// An image with something wrong in it, or not.
-pub fn damaged_image(random: &mut Random) -> Vec<u8> {
-    let mut bytes = match random.below(3) {
+/// An image that is accepted.
+pub fn good_image(random: &mut Random) -> Vec<u8> {
+    match random.below(3) {
         0 => wild(random).0,
         1 => tree(random, 9),
         _ => many(random),
-    };
+    }
+}
+
+/// An image with something wrong in it, or not.
+pub fn damaged_image(random: &mut Random) -> Vec<u8> {
+    let mut bytes = good_image(random);
     for _ in 0..random.pick(&[1, 1, 1, 2, 5]) {
         if bytes.is_empty() {
             break;

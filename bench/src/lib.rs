@@ -5,5 +5,6 @@ pub mod mutation;
 pub mod peer;
 pub mod random;
 pub mod text;
+pub mod texts;
 pub mod witness;
 pub mod workload;

@@ -1,4 +1,6 @@
 //! The proved crates, called through the static libraries (`crates/abi*`). This is the only module of the tests with `unsafe` in it.
+//! A program that includes it calls some of them and links only those.
+#![allow(dead_code)]
 
 use bench::peer::house::Housed;
 use bench::peer::run::{Fed, Ran};
@@ -54,6 +56,8 @@ extern "C" {
         counts: *mut [usize; 6],
         statuses: *mut [u8; 32],
     ) -> usize;
+    fn hofnulda_hex_write(image: *const u8, image_length: usize, text: *mut u8, text_length: usize, answer: *mut [usize; 2]);
+    fn hofnulda_hex_read(text: *const u8, text_length: usize, bytes: *mut u8, bytes_length: usize, answer: *mut [usize; 2]);
 }
 
 pub fn check(image: &[u8]) -> u8 {
@@ -147,4 +151,29 @@ pub fn scheduled(fed: Fed, memory: &mut [u32], buffer: &mut [u8]) -> Housed {
         )
     };
     Housed { ran: told(answer, counts, statuses), used }
+}
+
+fn counted(answer: [usize; 2]) -> Result<usize, u8> {
+    match answer {
+        [1, count] => Ok(count),
+        [_, number] => Err(number as u8),
+    }
+}
+
+/// An image's Intel HEX text; the number of its characters.
+pub fn hex_write(image: &[u8], text: &mut [u8]) -> Result<usize, u8> {
+    let mut answer = [0; 2];
+    unsafe {
+        hofnulda_hex_write(image.as_ptr(), image.len(), text.as_mut_ptr(), text.len(), &mut answer);
+    }
+    counted(answer)
+}
+
+/// An Intel HEX text's bytes; their number.
+pub fn hex_read(text: &[u8], bytes: &mut [u8]) -> Result<usize, u8> {
+    let mut answer = [0; 2];
+    unsafe {
+        hofnulda_hex_read(text.as_ptr(), text.len(), bytes.as_mut_ptr(), bytes.len(), &mut answer);
+    }
+    counted(answer)
 }

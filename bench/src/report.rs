@@ -57,7 +57,7 @@ fn sizes() -> (usize, usize) {
 /// What the static libraries leave to be linked: the only functions outside them that they can call.
 pub fn undefined() -> Vec<String> {
     let folder = concat!(env!("CARGO_MANIFEST_DIR"), "/../target/staticlib/");
-    let archives = ["libabi.a", "libabi_scheduler.a", "libabi_serial.a"].map(|name| format!("{folder}{name}"));
+    let archives = ["libabi.a", "libabi_scheduler.a", "libabi_serial.a", "libabi_hex.a"].map(|name| format!("{folder}{name}"));
     let said = Command::new("nm").arg("-u").args(archives).output().map(|out| out.stdout).unwrap_or_default();
     let said = String::from_utf8_lossy(&said);
     let mut names: Vec<String> =
@@ -153,7 +153,8 @@ const HEAD: &str = "# Benchmarks
 Written by `bench/run.sh measure`, which proves and builds the static libraries (`crates/abi*`), builds `bench/` and measures both
 implementations in one run, on the same machine and input, batch by batch in turn; each time is the least mean of 40 batches. The second
 implementation (`bench/src/peer`) is Rust with `&mut` state, no `unsafe` and nothing allocated, and steps one core's commands in bursts.
-Times are of whole calls, those of runs with the image check, divided by the entries, commands or bytes; the aims are for their ratio.
+Times are of whole calls, those of runs and of hex write with the image check, divided by the entries, commands or bytes; the aims are for
+their ratio.
 
 Instructions are of one such call alone, counted by valgrind's callgrind in the function that is called and in all that it calls, and divided
 as the times are. They repeat, whatever else the machine does. Copies and fills are counted as loops of vector instructions (`GLIBC_TUNABLES`),

@@ -32,14 +32,19 @@ impl Side {
     }
 }
 
-/// What a row calls: a run by schedule, the built-in scheduler, the serial run or the image check.
+/// What a row calls: a run by schedule, the built-in scheduler, the serial run, the image check, or Intel HEX written or read.
 #[derive(Clone, Copy)]
 pub enum Call {
     Run,
     Scheduled,
     Serial,
     Check,
+    HexWrite,
+    HexRead,
 }
+
+/// Intel HEX written or read: the input, the output's buffer, and the count or the number.
+type HexCall = fn(&[u8], &mut [u8]) -> Result<usize, u8>;
 
 pub struct Row {
     /// its name on the command line
@@ -47,6 +52,7 @@ pub struct Row {
     pub what: String,
     pub call: Call,
     pub case: Case,
+    /// the schedule, or the text that is read
     pub schedule: Vec<u8>,
     /// what its figures are told for, and how many of these a call has
     pub each: &'static str,
@@ -54,7 +60,7 @@ pub struct Row {
     pub aim: f64,
 }
 
-/// What a side's calls write: the memory words, and the log or the scheduler's buffer.
+/// What a side's calls write: the memory words, and the log, the scheduler's buffer, the text or its bytes.
 #[derive(PartialEq)]
 pub struct Written {
     memory: Vec<u32>,
@@ -69,6 +75,8 @@ impl Row {
             Call::Scheduled => "scheduled",
             Call::Serial => "serial",
             Call::Check => "check",
+            Call::HexWrite => "hex_write",
+            Call::HexRead => "hex_read",
         };
         match side {
             Side::Second => format!("second_{call}"),
@@ -109,6 +117,22 @@ impl Row {
             (Call::Check, Side::Proved) => Box::new(move || {
                 black_box(library::check(black_box(&case.image)));
             }),
+            (Call::HexWrite | Call::HexRead, _) => {
+                let (call, input) = self.hex_call(side);
+                Box::new(move || {
+                    let _ = black_box(call(black_box(input), bytes));
+                })
+            }
+        }
+    }
+
+    /// Intel HEX by one side, and its input.
+    fn hex_call(&self, side: Side) -> (HexCall, &[u8]) {
+        match (self.call, side) {
+            (Call::HexRead, Side::Second) => (second_hex_read, &self.schedule),
+            (Call::HexRead, Side::Proved) => (library::hex_read, &self.schedule),
+            (_, Side::Second) => (second_hex_write, &self.case.image),
+            (_, Side::Proved) => (library::hex_write, &self.case.image),
         }
     }
 }
@@ -139,6 +163,18 @@ fn second_check(image: &[u8]) -> u8 {
     peer::image::number(image)
 }
 
+#[no_mangle]
+#[inline(never)]
+fn second_hex_write(image: &[u8], text: &mut [u8]) -> Result<usize, u8> {
+    peer::hex::write(image, text)
+}
+
+#[no_mangle]
+#[inline(never)]
+fn second_hex_read(text: &[u8], bytes: &mut [u8]) -> Result<usize, u8> {
+    peer::hex::read(text, bytes)
+}
+
 fn entries(schedule: &[u8]) -> usize {
     peer::run::entries(schedule).expect("a schedule")
 }
@@ -163,6 +199,13 @@ pub fn serial(name: &'static str, what: &str, case: Case) -> Row {
 fn check(name: &'static str, what: &str, image: Vec<u8>, each: &'static str, count: usize) -> Row {
     let case = Case { image, ..workload::hot() };
     Row { name, what: what.to_string(), call: Call::Check, case, schedule: vec![], each, count, aim: PLAIN }
+}
+
+/// Intel HEX of an image, told for a byte of it.
+fn hex(name: &'static str, what: &str, call: Call) -> Row {
+    let case = Case { image: workload::mixed(), ..workload::hot() };
+    let (schedule, count) = (peer::hex::text_of(&case.image), case.image.len());
+    Row { name, what: what.to_string(), call, case, schedule, each: "a byte", count, aim: PLAIN }
 }
 
 /// A run by an empty schedule.
@@ -203,6 +246,8 @@ pub fn rows() -> Vec<Row> {
         check("check-smallest", "smallest image", workload::smallest(), "an image", 1),
         start_up("start-smallest", "start-up, smallest image, no entry", workload::smallest()),
         start_up("start-large", "start-up, image of 4,096 bytes", workload::large(ADD)),
+        hex("hex-write", "hex write of a 4,096-byte image", Call::HexWrite),
+        hex("hex-read", "hex read of a 4,096-byte image", Call::HexRead),
     ]);
     rows
 }

@@ -16,7 +16,7 @@ pub struct Witness {
     rows: Modules,
 }
 
-pub const WITNESSES: [Witness; 5] = [
+pub const WITNESSES: [Witness; 6] = [
     Witness {
         name: "rules",
         over: "rules",
@@ -67,6 +67,13 @@ pub const WITNESSES: [Witness; 5] = [
         proof: "Cases",
         definitions: &[("reading", &["Reading"]), ("text", &["Text"]), ("transcript", &["LastLine", "Job", "Transcript"])],
         rows: &[("transcript", &["Cases"])],
+    },
+    Witness {
+        name: "hex",
+        over: "hex_format",
+        proof: "Cases",
+        definitions: &[("hex_format", &["Digits", "Text", "Lines", "Record", "Reading"])],
+        rows: &[("hex_format", &["Cases"])],
     },
 ];
 

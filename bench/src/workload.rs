@@ -251,6 +251,36 @@ pub fn large(kind: u8) -> Vec<u8> {
     image(&[Routine { slots: 16, arguments: 0, code: code.bytes }])
 }
 
+/// An image of 4,096 bytes with every command in turn.
+pub fn mixed() -> Vec<u8> {
+    let mut code = Code::default();
+    let length = 4096 - 5;
+    code.set(0, 32);
+    let mut round = 0;
+    while code.here() + 48 <= length {
+        let again = code.here();
+        code.set(1, 1000 + 77 * round);
+        code.add(2, 2, 1);
+        code.subtract(3, 2, 1);
+        code.load(4, 0);
+        code.store(0, 3);
+        let out = code.if_zero(1);
+        code.fork(LFORK, 0, 5, 0, 0);
+        code.fork(FORK, 0, 6, 0, 0);
+        code.join();
+        code.yields();
+        code.go(again);
+        code.land(out);
+        code.suspend();
+        round += 1;
+    }
+    while code.here() + 2 < length {
+        code.join();
+    }
+    code.returns(2);
+    image(&[Routine { slots: 16, arguments: 0, code: code.bytes }])
+}
+
 /// Document 01's smallest example: one return.
 pub fn smallest() -> Vec<u8> {
     image(&[Routine { slots: 1, arguments: 0, code: vec![RETURN, 0] }])

@@ -1,6 +1,6 @@
 //! Small changes of the definitions, tried on their worked rows alone: which do the rows let pass?
 //!
-//!     mutants ROOT [WITNESS..]       ROOT is the repository; WITNESS: rules, scheduler, serial, image, print
+//!     mutants ROOT [WITNESS..]       ROOT is the repository; WITNESS: rules, scheduler, serial, image, print, hex
 //!
 //! A change that passes is a place to look and no verdict: it may change nothing that a run can show, or break another promise. `rt check` comes
 //! first, since the crates below count as proved as far as they are.

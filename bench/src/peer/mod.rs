@@ -1,14 +1,17 @@
-//! A second implementation of document 01, written from the document alone and sharing nothing with the proved crates. It is what the
-//! differential tests compare with and what the benchmarks measure against: compact records, state behind `&mut`, nothing allocated,
-//! no `unsafe`.
+//! A second implementation of document 01 and of what document 02 adds, written from the documents alone and sharing nothing with the proved
+//! crates. It is what the differential tests compare with and what the benchmarks measure against: compact records, state behind `&mut`,
+//! nothing allocated, no `unsafe`.
 #![forbid(unsafe_code)]
 
 pub mod command;
+pub mod hex;
 pub mod house;
 pub mod image;
 pub mod machine;
 pub mod plain;
 pub mod run;
+#[cfg(test)]
+mod hex_tests;
 #[cfg(test)]
 mod tests;
 
