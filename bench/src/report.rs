@@ -154,7 +154,7 @@ Written by `bench/run.sh measure`, which proves and builds the static libraries 
 implementations in one run, on the same machine and input, batch by batch in turn; each time is the least mean of 40 batches. The second
 implementation (`bench/src/peer`) is Rust with `&mut` state, no `unsafe` and nothing allocated, and steps one core's commands in bursts.
 Times are of whole calls, those of runs and of hex write with the image check, divided by the entries, commands or bytes; the aims are for
-their ratio.
+their ratio, but for hex write and read for the ratio of instructions.
 
 Instructions are of one such call alone, counted by valgrind's callgrind in the function that is called and in all that it calls, and divided
 as the times are. They repeat, whatever else the machine does. Copies and fills are counted as loops of vector instructions (`GLIBC_TUNABLES`),
