@@ -119,6 +119,12 @@ malformedLines =
     -- LF CR
     ∷ refusedText 27 ":01000000AB54\n\r:00000001FF\n"
     ∷ refusedText 27 ":00000001FF\n\r"
+    -- another control character is no line end, alone or before an LF
+    ∷ refusedText 27 ":00000001FF\t"
+    ∷ refusedText 27 ":00000001FF\t\n"
+    -- the characters before `0` and before the colon, in the first places
+    ∷ refusedText 27 ":/0000001FF\n"
+    ∷ refusedText 27 "900000001FF\n"
     ∷ []
 
 -- 27: a record that is not allowed, each with a right checksum
