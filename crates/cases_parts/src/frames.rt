@@ -1,5 +1,5 @@
 // Stacklets, over 1,024 words that are 7 at first: `frame new` has no frame; `frame arguments S SIZE ARGUMENTS` and `frame push S SIZE FROM
-// COUNT` push a frame on stacklet S, `frame drop BASE` pops it, and `frame set BASE K VALUE` sets a slot. `frame top S`, `frame fits S SIZE`
+// COUNT` push a frame on stacklet S, `frame drop BASE SIZE` gives it back, and `frame set BASE K VALUE` sets a slot. `frame top S`, `frame fits S SIZE`
 // and `frame words BASE` print the words behind the first, and the answer; of words, five from a base on. `frame highest BASE SIZE` prints
 // whether a frame is the topmost.
 use stacklets::Stacklets;
@@ -71,12 +71,12 @@ fn print_case(key: u8, line: &[u8], s: Stacklets, words: &[u32; 1024]) {
 }
 
 pub fn case(line: &[u8], s: Stacklets, words: &mut [u32; 1024]) -> Stacklets {
-    let key = cases::key(line, b"n0a*p4d1s3t1f2h2w1");
+    let key = cases::key(line, b"n0a*p4d2s3t1f2h2w1");
     match key {
         b'n' => Stacklets::new(),
         b'a' => push_arguments(line, s, words),
         b'p' => push(line, s, words),
-        b'd' => s.pop(base(line, 1)),
+        b'd' => s.pop(words, base(line, 1), byte(line, 2)),
         b's' => {
             set_slot(line, words);
             s

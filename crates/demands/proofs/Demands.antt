@@ -25,7 +25,7 @@ use Rattle.soundness.proofs.Queues.{every-map, every-member}
 use Rattle.soundness.proofs.Kept.{run-sound, entry-sound}
 use Rattle.soundness.proofs.KeepSized.{keep-count}
 use Rattle.soundness.proofs.StartSound.{start-sound}
-use Rattle.soundness.proofs.Finished.{finished-free, finished-numbers, finished-all}
+use Rattle.soundness.proofs.Finished.{finished-free, finished-numbers, finished-all, finished-words}
 use Rattle.soundness.proofs.KeepStacklets.{finished-stacklets}
 use Rattle.soundness.proofs.Jam.{jam}
 use Rattle.soundness.proofs.Numbers.{numbers}
@@ -93,6 +93,7 @@ module _ (i : Input) (k : Takes i) where
       };
       tops = λ x h. every-member (λ y. (y < 16) × (topAt (end .store .tops) y ≡ 0) × Unused end y) (end .queues .freeStacklets) (sound .freeStacklets .free) x
           (finished-stacklets (jobIn i) end sound v over .1 x h) .1;
+      words = finished-words (jobIn i) end sound v over;
     }
 
     unfinished : (n u : ℕ) (m : List ℕ) → serialIn i ≡ stopped n m u → (v : ℕ) → end .outcome ≡ finished v → ⊥
@@ -117,7 +118,7 @@ module _ (i : Input) (k : Takes i) where
         (jam (jobIn i) end sound (λ c h. stuck c (rw count-kept at h)))
 
     at-end : Demand3 i end
-    at-end = record { agrees = agree; free = free; unfinished = unfinished; unfaulted = unfaulted; jam = never-jams }
+    at-end = record { agrees = agree; free = free; freeWords = sound .freeWords; unfinished = unfinished; unfaulted = unfaulted; jam = never-jams }
 
 pub demand-3 : (i : Input) → Takes i → (es : List Entry) → Demand3 i (runFrom (jobIn i) (startIn i) es)
 demand-3 i k es = at-end i k es

@@ -4,7 +4,7 @@ use mathlib.Core.List.{List, [], _∷_, _++_}
 use mathlib.Core.Logic.{_⊎_}
 use mathlib.Core.Path.{_≡_}
 use Prim.Native.Nat.{ℕ, _≤_, _<_}
-use lib.ListN.{length, getD, take, drop}
+use lib.ListN.{length, getD, take, drop, replicate}
 use Rattle.command.specs.declared.Command.{Command}
 use Rattle.command.specs.declared.CommandRead.the-variants.{Found}
 use Rattle.command.specs.Command.{commandAt, bytesOfCommand}
@@ -21,6 +21,7 @@ use Rattle.rules.specs.State.{State, finished, faulted, isOver}
 use Rattle.rules.specs.Statuses.{IsFree, IsSuspended}
 use Rattle.rules.specs.Rules.{stepOf, takeOf, entryOf}
 use Rattle.rules.specs.Runs.{runFrom}
+use Rattle.rules.specs.Sound.{FreeWords}
 use Rattle.serial.specs.Serial.{Ended, done, stopped, serialOf}
 use Rattle.soundness.specs.Numbers.{Numbers}
 use Rattle.demands.specs.declared.RunAnswer.{RunAnswer}
@@ -94,6 +95,8 @@ pub record AllFree (s : State) : Type 0 where
   pub stackletsOnce : EachOnce 16 (s .queues .freeStacklets)
   -- no word of a stacklet is in use
   pub tops : (x : ℕ) → x < 16 → topAt (s .store .tops) x ≡ 0
+  -- T-02: "A finished run then leaves all 1,024 stacklet words zero, as part of the final state promised"
+  pub words : s .store .words ≡ replicate 1024 0
 
 -- "some such step would be refused by 20, 21 or 22"
 abbrev pub IsTight : ℕ → Type 0
@@ -105,6 +108,8 @@ pub record Demand3 (i : Input) (end : State) : Type 0 where
   pub agrees : (v : ℕ) → end .outcome ≡ finished v → serialIn i ≡ done v (end .store .memory) (end .units)
   -- "and all 32 threads and 16 stacklets are free"
   pub free : (v : ℕ) → end .outcome ≡ finished v → AllFree end
+  -- T-02: "in a run a free word is always zero", whether the machine has finished, has faulted or is open
+  pub freeWords : FreeWords (jobIn i) end
   -- "If the plain run faults or stops at its allowance or depth, the machine has not finished"
   pub unfinished : (n u : ℕ) (m : List ℕ) → serialIn i ≡ stopped n m u → (v : ℕ) → end .outcome ≡ finished v → ⊥
   -- "if it finishes, the machine has not faulted"

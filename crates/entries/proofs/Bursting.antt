@@ -27,7 +27,7 @@ use Rattle.image.specs.Layout.{argumentsOf}
 use Rattle.rules.specs.Turn.{Turn, offsetOf, byteOf, completed}
 use Rattle.entries.specs.Given.{Seated, Leaving, Carrying, recordIn, turnWith, turnIn}
 use Rattle.dispatch.specs.Orderly.{after}
-use Rattle.entries.proofs.Meeting.{place-low, next-low, known-byte, tested, wide, few, based, carrying}
+use Rattle.entries.proofs.Meeting.{place-low, next-low, known-byte, tested, wide, few, based, not-own-parent, carrying}
 use Rattle.dispatch.proofs.Able.{linked-below, free-first, stacklet-first}
 use Rattle.entries.specs.declared.own.Own.the-variants.{Moved}
 use Rattle.entries.specs.Own.{IsOther, OwnAs, withBoth}
@@ -295,7 +295,8 @@ module _ {image starts parameters : List ℕ} {allowance : ℕ} {xs ws₀ ms₀ 
                 base = rw same (based j (held p left ws ms) sound t (movedTo p th₀) met used);
               } in
               carrying (argumentsOf image) (slotOf ws (th₀ .origin .base)) (isPending (th₀ .family .pending)) (th₀ .family .window) ys c t weight
-              (sym (ap (λ (h : Thread). h .family .window) same)) seated (linked-below j (meaning ys ws ms) ok t) (rw same (few j (held p left ws ms) sound t (movedTo p th₀) met used))
+              (sym (ap (λ (h : Thread). h .family .window) same)) seated (linked-below j (meaning ys ws ms) ok t)
+              (rw same (not-own-parent j (held p left ws ms) sound t (movedTo p th₀) met used (busy .number))) (rw same (few j (held p left ws ms) sound t (movedTo p th₀) met used))
               (free-first j (meaning ys ws ms) ok) (stacklet-first j (meaning ys ws ms) ok) e (guarded e is) other
 
           pub ends-rest : (more : ℕ) (r : Carried) (zs vs : List ℕ) → k ≤ more → r .again ≡ k

@@ -1,7 +1,8 @@
 -- What a sound state gives of the command that a thread in use meets. Assumes nothing.
 use mathlib.Core.Bool.{Bool, true}
 use mathlib.Core.List.{List, []}
-use mathlib.Core.Path.{_≡_, refl}
+use mathlib.Core.Logic.{⊎-elim}
+use mathlib.Core.Path.{_≡_, refl, sym, ap, _∙_}
 use Prim.Native.Nat.{ℕ, _+_, _%_, _<_, _^_}
 use native.Mathlib.Nat.{mod-eq-of-lt}
 use native.Mathlib.Omega.{arith}
@@ -56,6 +57,12 @@ module _ (j : Job) (s : State) (ok : Sound j s) (t : ℕ) (th : Thread) (met : t
   pub based : th .origin .base < 1024
   based = rw met (ok .frames .bounded t used)
 
+  pub not-own-parent : t < 32 → th .origin .parent ≡ t → ⊥
+  not-own-parent low e = ⊎-elim (λ z. let y = z .1 in let x = same in omega arith) (λ z. let y = ap (ok .tree .rank) same in let x = z .2 in omega arith) (ok .tree .tree t used)
+    where
+      same : threadAt s t .origin .parent ≡ t
+      same = ap (λ (h : Thread). h .origin .parent) (sym met) ∙ e
+
 small : (x : ℕ) → x < 65536 → x % 2 ^ 16 ≡ x
 small x h = mod-eq-of-lt h
 
@@ -93,7 +100,8 @@ module _ (arguments slot : ℕ → ℕ) (pending : ℕ → Bool) (w : Window) wh
   stored (Returns v) g = tt
 
   module _ (xs : List ℕ) (c t weight : ℕ) (is-window : w ≡ recordIn xs t .family .window) (seated : Seated xs c t weight)
-      (linked : recordIn xs t .connected ≡ true → recordIn xs t .origin .parent < 32) (fewer : recordIn xs t .family .children < 255)
+      (linked : recordIn xs t .connected ≡ true → recordIn xs t .origin .parent < 32) (other : recordIn xs t .origin .parent ≡ t → ⊥)
+      (fewer : recordIn xs t .family .children < 255)
       (numbers : HeadBelow 32 (meaning xs [] [] .queues .freeThreads)) (stacklets : HeadBelow 16 (meaning xs [] [] .queues .freeStacklets)) where
     pub carrying : (e : Effect) → Guarded arguments (contextOf slot pending w) e → IsOther e → Carrying xs c t weight e
     carrying (Faults n) g o = seated .sized
@@ -123,4 +131,4 @@ module _ (arguments slot : ℕ → ℕ) (pending : ℕ → Bool) (w : Window) wh
     carrying Joins g o = seated
     carrying Suspends g o = record { seated = seated; linked = linked }
     carrying Yields g o = record { seated = seated; linked = linked }
-    carrying (Returns v) g o = seated
+    carrying (Returns v) g o = record { seated = seated; other = other }

@@ -55,6 +55,11 @@ pub record Seated (xs : List ℕ) (c t weight : ℕ) : Type 0 where
   pub units : meaning xs [] [] .units + weight < 2 ^ 32
   pub base : recordIn xs t .origin .base < 1024
 
+-- a return: the thread is not its own parent
+pub record Returning (xs : List ℕ) (c t weight : ℕ) : Type 0 where
+  pub seated : Seated xs c t weight
+  pub other : recordIn xs t .origin .parent ≡ t → ⊥
+
 -- a fork with its result slot and its cut
 pub record Forking (xs : List ℕ) (c t weight d e : ℕ) : Type 0 where
   pub seated : Seated xs c t weight
@@ -146,7 +151,7 @@ Carrying xs c t weight (Forks r d a e) = Forking xs c t weight d e
 Carrying xs c t weight Joins = Seated xs c t weight
 Carrying xs c t weight Suspends = Stands xs c t weight
 Carrying xs c t weight Yields = Stands xs c t weight
-Carrying xs c t weight (Returns v) = Seated xs c t weight
+Carrying xs c t weight (Returns v) = Returning xs c t weight
 
 -- a join passes
 abbrev pub passes : Turn → State → State

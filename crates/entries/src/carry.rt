@@ -97,7 +97,7 @@ pub fn carry_other(
             0
         }
         Effect::Returns(v) => {
-            return_value(tables, words, c, t, weight, v);
+            return_value(tables, words, c, t, weight, v, image);
             0
         }
         Effect::Faults(n) => {

@@ -33,7 +33,7 @@ carriedOf j s o (Forks r d a e) = forkOf j s Queued o (asked r d a e)
 carriedOf j s o Joins = accepted (completed o (joinedAt (o .next) (o .thread)) s)
 carriedOf j s o Suspends = accepted (leaves (o .core) (o .number) Suspended (goesOn o s))
 carriedOf j s o Yields = accepted (enqueueReady (o .number) (leaves (o .core) (o .number) Ready (goesOn o s)))
-carriedOf j s o (Returns v) = accepted (returnOf s o v)
+carriedOf j s o (Returns v) = accepted (returnOf j s o v)
 
 -- the next command of thread t, on core c: "Otherwise the thread waits, nothing is charged, and the join is met again later"
 unfoldable pub turnOf : Job → State → ℕ → ℕ → After

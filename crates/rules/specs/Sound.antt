@@ -5,7 +5,7 @@ use mathlib.Core.Logic.{_⊎_}
 use mathlib.Core.Path.{_≡_}
 use Prim.Native.Nat.{ℕ, zero, suc, _+_, _/_, _%_, _≤_, _<_}
 use lib.Dec.{eqb}
-use lib.ListN.{length}
+use lib.ListN.{length, getD}
 use Rattle.image.specs.Layout.{routineCount, slotsOf, codeOf}
 use Rattle.image.specs.Code.{commandsOf, isStart}
 use Rattle.window.specs.declared.Window.{Window}
@@ -126,6 +126,16 @@ pub record Frames (j : Job) (s : State) : Type 0 where
   pub apart : (t u : ℕ) → Used s t → Used s u → (t ≡ u → ⊥) → Apart (baseAt s t) (sizeAt j s t) (baseAt s u) (sizeAt j s u)
   pub stacked : (t : ℕ) → Used s t → (baseAt s t % 64 ≡ 0)
       ⊎ (Used s (parentAt s t) × (baseAt s (parentAt s t) + sizeAt j s (parentAt s t) ≡ baseAt s t))
+  -- an unended child's result slot is a slot of its parent's frame
+  pub result : (t : ℕ) → Used s t → (t ≡ 0 → ⊥) → threadAt s t .origin .result < sizeAt j s (parentAt s t)
+
+-- word i of the stacklets is free: it lies in no frame of a thread in use
+abbrev pub IsFreeWord : Job → State → ℕ → Type 0
+IsFreeWord j s i = (t : ℕ) → Used s t → (i < baseAt s t) ⊎ (baseAt s t + sizeAt j s t ≤ i)
+
+-- "stacklet words outside the frames are zero"; T-02: "in a run a free word is always zero"
+pub record FreeWords (j : Job) (s : State) : Type 0 where
+  pub zero : (i : ℕ) → IsFreeWord j s i → getD (s .store .words) i 0 ≡ 0
 
 -- no thread's frame is on stacklet x
 abbrev pub Unused : State → ℕ → Type 0
@@ -151,3 +161,4 @@ pub record Sound (j : Job) (s : State) : Type 0 where
   pub freeThreads : FreeThreads s
   pub frames : Frames j s
   pub freeStacklets : FreeStacklets s
+  pub freeWords : FreeWords j s

@@ -2,7 +2,7 @@
 use mathlib.Core.List.{List}
 use mathlib.Core.Path.{_≡_, sym, _∙_, subst, ap}
 use Prim.Native.Nat.{ℕ, _<_, _+_, _≤_}
-use lib.ListN.{length, getD, drop, length-append, length-drop}
+use lib.ListN.{length, getD, drop, length-append, length-drop, replicate}
 use native.Mathlib.Decide.{ℕ-discrete}
 use native.Mathlib.Omega.{arith}
 use Rattle.schedule.specs.declared.Entry.{Entry}
@@ -89,6 +89,21 @@ module _ (i : Input) (schedule log : List ℕ) (bytes : (k : ℕ) → getD (i .i
       go (yes passes) = plain-played passes v u e
       go (no some) = let q = runs .refused some .answer in let z : _≡_ {A = ℕ} 0 1 = cc in absurd (omega arith)
 
+  -- the words that are given of a finished run
+  words-played : refusalOf i schedule log ≡ 0 → (v u : ℕ) → r .answer ≡ Finished v u → r .words ≡ replicate 1024 0
+  words-played passes v u e =
+      let (es, q, p) = runs .played passes in
+      let end : State = runFrom (jobIn i) (startIn i) es in
+      let (over, units) = finished-by (end .outcome) (end .units) v u (sym (p .answer) ∙ e) in
+      p .machine .words ∙ demand-3 i (takes i schedule log passes bytes) es .free v over .words
+
+  words-run : (v u : ℕ) → r .answer ≡ Finished v u → r .words ≡ replicate 1024 0
+  words-run v u e = go (ℕ-discrete (refusalOf i schedule log) 0)
+    where
+      go : Dec (refusalOf i schedule log ≡ 0) → r .words ≡ replicate 1024 0
+      go (yes passes) = words-played passes v u e
+      go (no some) = let q = runs .refused some .answer in let z : _≡_ {A = ℕ} 0 1 = cc in absurd (omega arith)
+
   pub promised : RunPromise i schedule log r memoryAfter logAfter
   promised = record {
     runs = runs;
@@ -97,5 +112,6 @@ module _ (i : Input) (schedule log : List ℕ) (bytes : (k : ℕ) → getD (i .i
     demand2 = at-each;
     demand3 = λ passes es. demand-3 i (takes i schedule log passes bytes) es;
     plain = plain-run;
+    words = words-run;
     plainNumbers = serial-numbers i;
   }

@@ -2,6 +2,7 @@
 use mathlib.Core.List.{List}
 use mathlib.Core.Path.{_≡_}
 use Prim.Native.Nat.{ℕ}
+use lib.ListN.{replicate}
 use Rattle.schedule.specs.declared.Entry.{Entry}
 use Rattle.schedule.specs.Meaning.{entries, scheduleOf}
 use Rattle.serial.specs.Serial.{done}
@@ -23,5 +24,7 @@ pub record RunPromise (i : Input) (schedule log : List ℕ) (r : Ran) (memoryAft
   pub demand3 : refusalOf i schedule log ≡ 0 → (es : List Entry) → Demand3 i (stateAfter i es)
   -- "result, units and every memory word equal the plain run's": of the answer, and of the memory as it now is
   pub plain : (v u : ℕ) → r .answer ≡ Finished v u → serialIn i ≡ done v memoryAfter u
+  -- T-02: "A finished run then leaves all 1,024 stacklet words zero": of the words that are given
+  pub words : (v u : ℕ) → r .answer ≡ Finished v u → r .words ≡ replicate 1024 0
   -- and the plain run's own whole-run numbers
   pub plainNumbers : SerialNumbers i

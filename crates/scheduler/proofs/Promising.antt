@@ -46,6 +46,7 @@ module _ (i : Input) (b : Begun) (xs ys ws vs : List ℕ) (begun : Begins i [] [
     ends = λ z. absurd (some (begun .number ∙ z));
     numbers = scheduler-numbers i;
     plain = λ v u e. let z : _≡_ {A = ℕ} 0 1 = cc in absurd (omega arith);
+    words = λ v u e. let z : _≡_ {A = ℕ} 0 1 = cc in absurd (omega arith);
   }
 
   module _ (none : b .number ≡ 0) (bytes : (k : ℕ) → getD (i .image) k 0 < 256) where
@@ -82,4 +83,7 @@ module _ (i : Input) (b : Begun) (xs ys ws vs : List ℕ) (begun : Begins i [] [
           plain = λ v u e.
               let (over, units) = finished-by (end .outcome) (end .units) v u (sym answer ∙ e) in
               equals i (length before) passes bytes .demand .agrees v over ∙ (λ ι. done v (sym memory ι) (units ι));
+          words = λ v u e.
+              let (over, units) = finished-by (end .outcome) (end .units) v u (sym answer ∙ e) in
+              ap (λ (s : State). s .store .words) (p .state) ∙ equals i (length before) passes bytes .demand .free v over .words;
         }

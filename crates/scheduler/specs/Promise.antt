@@ -4,7 +4,7 @@ use mathlib.Core.List.{List, []}
 use mathlib.Core.Logic.{_⊎_}
 use mathlib.Core.Path.{_≡_}
 use Prim.Native.Nat.{ℕ, _+_, _≤_, _<_}
-use lib.ListN.{length}
+use lib.ListN.{length, replicate}
 use Rattle.schedule.specs.Meaning.{entries, scheduleOf}
 use Rattle.schedule.specs.Format.{bytesOfEntries}
 use Rattle.rules.specs.State.{isOver}
@@ -70,3 +70,5 @@ pub record SchedulerPromise (i : Input) (before : List ℕ) (r : Scheduled) (mem
   pub numbers : SchedulerNumbers i
   -- "result, units and every memory word equal the plain run's": of the answer, and of the memory as it now is
   pub plain : (v u : ℕ) → r .answer ≡ Finished v u → serialIn i ≡ done v memoryAfter u
+  -- T-02: "A finished run then leaves all 1,024 stacklet words zero": of the words that are given
+  pub words : (v u : ℕ) → r .answer ≡ Finished v u → r .words ≡ replicate 1024 0

@@ -30,10 +30,8 @@ use Rattle.soundness.proofs.StartSound.{start-sound}
 use Rattle.soundness.proofs.Kept.{entry-sound, run-sound}
 use Rattle.simulation.proofs.JobCode.{weightIn, codeOf}
 use Rattle.simulation.proofs.StatePool.{poolOf, cell-free}
-use Rattle.simulation.proofs.ReturnStep.{ResultsInFrame}
 use Rattle.simulation.proofs.EntryMoves.{Moves, refuses, rests, steps, finishes, faults-by, entry-moves}
-use Rattle.simulation.proofs.ResultSlots.{results-kept}
-use Rattle.simulation.proofs.StartPool.{rootSlots, start-pool, start-results}
+use Rattle.simulation.proofs.StartPool.{rootSlots, start-pool}
 
 -- thread numbers above 31 are free
 limited : (j : Job) (s : State) → Sound j s → (t : ℕ) → 31 < t → poolOf j s .cell t ≡ free
@@ -121,11 +119,11 @@ module _ (j : Job) (good : GoodJob j) (arguments memory : List ℕ) where
     halts = m .halts;
   })
 
-  entries-reached : (es : List Entry) (s : State) → Sound j s → ResultsInFrame j s → Reached s → Reached (runFrom j s es)
+  entries-reached : (es : List Entry) (s : State) → Sound j s → Reached s → Reached (runFrom j s es)
   unfolding runFrom
-  entries-reached [] s ok results r = r
-  entries-reached (e ∷ es) s ok results r = entries-reached es (entryOf j s e .state) (entry-sound j s ok e) (results-kept j good s ok results e)
-      (entry-reached s (entryOf j s e) (entry-sound j s ok e) r (entry-moves j good s ok results e))
+  entries-reached [] s ok r = r
+  entries-reached (e ∷ es) s ok r = entries-reached es (entryOf j s e .state) (entry-sound j s ok e)
+      (entry-reached s (entryOf j s e) (entry-sound j s ok e) r (entry-moves j good s ok e))
 
   module _ (count : ℕ) (some : 1 ≤ count) (most : count ≤ 4) (few : length arguments ≡ argumentsOf (j .image) 0) (all : length memory ≡ 992) where
     -- the state after some entries from Start
@@ -139,7 +137,7 @@ module _ (j : Job) (good : GoodJob j) (arguments memory : List ℕ) where
     -- every state that entries lead to is reached by a run of the pool
     pub reached : (es : List Entry) → Reached (endOf es)
     reached es = entries-reached es (startState j count arguments memory) (start-sound j count arguments memory good some most all)
-        (start-results j count arguments memory) (still-open start-open (subst Reaches (start-pool j good count arguments memory few) rest))
+        (still-open start-open (subst Reaches (start-pool j good count arguments memory few) rest))
 
     -- a finished machine's result, memory words and units are the serial run's
     pub entries-agree : (es : List Entry) (v : ℕ) → endOf es .outcome ≡ finished v

@@ -40,7 +40,7 @@ use Rattle.simulation.proofs.StatePool.{linkOf, poolOf}
 use Rattle.simulation.proofs.OwnSteps.{here, cell-here, units-here, effect-met, effect-slots, sets-goes, loads-goes, stores-goes, goes-goes, continues-goes, suspends-goes, yields-goes}
 use Rattle.simulation.proofs.JoinStep.{joins-goes}
 use Rattle.simulation.proofs.ForkStep.{Room, room-above, room-free, lforks-goes, forks-goes}
-use Rattle.simulation.proofs.ReturnStep.{ResultsInFrame, returns, root-cell, returns-goes}
+use Rattle.simulation.proofs.ReturnStep.{returns, root-cell, returns-goes}
 use Rattle.simulation.proofs.SamePool.{runs-pool, leaves-pool, enable-pool}
 use Rattle.simulation.proofs.UsedThreads.{ready-used, moved-used, moved-parent}
 
@@ -138,11 +138,11 @@ born-outcome j s Called o f n ns x xs = refl
 born-outcome j s Queued o f n ns x xs = refl
 born-outcome j s Stolen o f n ns x xs = refl
 
-return-outcome : (s : State) (o : Turn) (v : ℕ) → isRoot (o .thread) ≡ false → returnOf s o v .outcome ≡ s .outcome
+return-outcome : (j : Job) (s : State) (o : Turn) (v : ℕ) → isRoot (o .thread) ≡ false → returnOf j s o v .outcome ≡ s .outcome
 unfolding returnOf returnToParent
-return-outcome s o v h = rw h
+return-outcome j s o v h = rw h
 
-module _ (j : Job) (good : GoodJob j) (s : State) (ok : Sound j s) (results : ResultsInFrame j s) where
+module _ (j : Job) (good : GoodJob j) (s : State) (ok : Sound j s) where
   step-of : (t : ℕ) (s' : State) → s .outcome ≡ going → s' .outcome ≡ s .outcome
       → ThreadStep windows window-tests (codeOf j good) t (poolOf j s) (poolOf j s') → Moves j good s (accepted s')
   step-of t s' o e step = steps o (record { log = refl; ongoing = e ∙ o; thread = t; step = step })
@@ -201,7 +201,7 @@ module _ (j : Job) (good : GoodJob j) (s : State) (ok : Sound j s) (results : Re
       step-of t (born j s kind (turnAt j s c t) (asked r d a e) (handed n ns x xs)) o (born-outcome j s kind (turnAt j s c t) (asked r d a e) n ns x xs)
       (forks-goes j good s ok c t u kind r d a e n ns x xs (room kind (threadAt s t) r n ns x xs f (range .routine)) range met)
 
-  return-moves : (c t : ℕ) → Stepped j s c t → (v : ℕ) → effectAt j s (threadAt s t) ≡ Returns v → Moves j good s (accepted (returnOf s (turnAt j s c t) v))
+  return-moves : (c t : ℕ) → Stepped j s c t → (v : ℕ) → effectAt j s (threadAt s t) ≡ Returns v → Moves j good s (accepted (returnOf j s (turnAt j s c t) v))
   unfolding returnOf
   return-moves c t k v met = go (isRoot (threadAt s t)) refl
     where
@@ -211,21 +211,21 @@ module _ (j : Job) (good : GoodJob j) (s : State) (ok : Sound j s) (results : Re
       root-units : s .units + turnAt j s c t .weight ≡ s .units + weightIn j (threadAt s t .origin .routine) (threadAt s t .position)
       root-units = sym (units-here j good s ok c t u)
 
-      go : (b : Bool) → isRoot (threadAt s t) ≡ b → Moves j good s (accepted (returnOf s (turnAt j s c t) v))
+      go : (b : Bool) → isRoot (threadAt s t) ≡ b → Moves j good s (accepted (returnOf j s (turnAt j s c t) v))
       go true is = rw is (finishes (k .ongoing) (record {
         log = refl;
         thread = t;
         result = v;
         over = refl;
         last = here j good s ok c t u;
-        is-root = root-cell j good s ok results c t u v met is;
-        returns = returns j good s ok results c t u v met;
+        is-root = root-cell j good s ok c t u v met is;
+        returns = returns j good s ok c t u v met;
         memory = refl;
         units = root-units;
         paid = let p = k .paid in let q = ok .sized .units in omega arith;
       }))
-      go false is = step-of t (returnOf s (turnAt j s c t) v) (k .ongoing) (return-outcome s (turnAt j s c t) v is)
-          (returns-goes j good s ok results c t u v met is)
+      go false is = step-of t (returnOf j s (turnAt j s c t) v) (k .ongoing) (return-outcome j s (turnAt j s c t) v is)
+          (returns-goes j good s ok c t u v met is)
 
   cases : Cases (Moves j good s) j s
   cases = record {

@@ -12,7 +12,6 @@ pub mod ReturnStep
 pub mod SamePool
 pub mod UsedThreads
 pub mod EntryMoves
-pub mod ResultSlots
 pub mod StartPool
 pub mod EntriesRun
 pub mod Example

@@ -3,7 +3,7 @@
 use mathlib.Core.Bool.{true}
 use mathlib.Core.List.{List}
 use mathlib.Core.Logic.{ite}
-use mathlib.Core.Path.{_≡_, refl, sym, _∙_, ap, fun-ext}
+use mathlib.Core.Path.{_≡_, sym, _∙_, ap, fun-ext}
 use Prim.Native.Nat.{ℕ, zero, suc, _+_, _<_}
 use native.Mathlib.Decide.{decLt}
 use native.Mathlib.Omega.{arith}
@@ -27,8 +27,7 @@ use Rattle.rules.specs.Start.{startState}
 use Rattle.rules.specs.Sound.{GoodJob}
 use Rattle.simulation.proofs.JobCode.{codeOf}
 use Rattle.simulation.proofs.PendingSlots.{none-pending}
-use Rattle.simulation.proofs.StatePool.{cellOf, cellsOf, poolOf, InUse}
-use Rattle.simulation.proofs.ReturnStep.{ResultsInFrame}
+use Rattle.simulation.proofs.StatePool.{cellOf, cellsOf, poolOf}
 
 -- the root's first slots: the arguments, then zeros
 abbrev pub rootSlots : List ℕ → ℕ → ℕ
@@ -47,12 +46,6 @@ other-thread t = getD-set-other (replicate 32 blankThread) 0 (suc t) rootThread 
     go : Dec (suc t < 32) → getD (replicate 32 blankThread) (suc t) blankThread ≡ blankThread
     go (yes l) = getD-replicate 32 (suc t) blankThread blankThread l
     go (no l) = List·getD-eq-default (replicate 32 blankThread) blankThread {n = suc t} (omega (arith, length-replicate 32 blankThread))
-
--- only the root is in use
-pub start-results : (j : Job) (count : ℕ) (arguments memory : List ℕ) → ResultsInFrame j (startState j count arguments memory)
-unfolding startState
-start-results j count arguments memory zero u first = absurd (first refl)
-start-results j count arguments memory (suc t) u first = absurd (let z : InUse blankThread = rw (other-thread t) at u in omega arith)
 
 module _ (j : Job) (good : GoodJob j) (count : ℕ) (arguments memory : List ℕ) (few : length arguments ≡ argumentsOf (j .image) 0) where
   abbrev size : ℕ

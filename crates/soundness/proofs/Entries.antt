@@ -51,7 +51,7 @@ pub record Kept (P : State → Type 0) (j : Job) (s : State) : Type 0 where
   pub yields : (c t : ℕ) → Stepped j s c t → effectAt j s (threadAt s t) ≡ Yields
       → P (enqueueReady t (leaves c t Ready (goesOn (turnAt j s c t) s)))
   pub returns : (c t : ℕ) → Stepped j s c t → (v : ℕ) → effectAt j s (threadAt s t) ≡ Returns v
-      → P (returnOf s (turnAt j s c t) v)
+      → P (returnOf j s (turnAt j s c t) v)
   pub takes : (c t : ℕ) (ts : List ℕ) → Taken s c t ts → P (runs c t (setReady ts s))
   -- an lfork or a fork as a seed
   pub steals : (c t : ℕ) → Seeded j s c t → (r d a e : ℕ)

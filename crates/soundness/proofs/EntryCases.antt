@@ -90,7 +90,7 @@ pub record Cases (P : After → Type 0) (j : Job) (s : State) : Type 0 where
   pub yields : (c t : ℕ) → Stepped j s c t → effectAt j s (threadAt s t) ≡ Yields
       → P (accepted (enqueueReady t (leaves c t Ready (goesOn (turnAt j s c t) s))))
   pub returns : (c t : ℕ) → Stepped j s c t → (v : ℕ) → effectAt j s (threadAt s t) ≡ Returns v
-      → P (accepted (returnOf s (turnAt j s c t) v))
+      → P (accepted (returnOf j s (turnAt j s c t) v))
   pub takes : (c t : ℕ) (ts : List ℕ) → Taken s c t ts → P (accepted (runs c t (setReady ts s)))
   -- an lfork or a fork as a seed
   pub steals : (c t : ℕ) → Seeded j s c t → (r d a e : ℕ)

@@ -1,9 +1,9 @@
 -- Every entry, whatever its log byte, changes frames and windows in one of three ways (`entry-change`). Assumes nothing.
 use mathlib.Core.Bool.{Bool, true, false, cond, _&&_}
 use mathlib.Core.List.{List, _∷_}
-use mathlib.Core.Logic.{_⊎_, inl, inr}
+use mathlib.Core.Logic.{_⊎_, inl, inr, ⊎-elim}
 use mathlib.Core.Path.{_≡_, refl, sym, _∙_, ap}
-use Prim.Native.Nat.{ℕ, _-_, _/_, _<_}
+use Prim.Native.Nat.{ℕ, _+_, _-_, _/_, _≤_, _<_}
 use native.Mathlib.Decide.{ℕ-discrete}
 use native.Mathlib.Omega.{arith}
 use lib.ListN.{getD, set, length, length-set}
@@ -15,11 +15,12 @@ use Rattle.image.proofs.Laws.{slots-most}
 use Rattle.schedule.specs.declared.Entry.{Entry}
 use Rattle.window.specs.Rights.{childOf, restOf}
 use Rattle.stacklets.specs.Tops.{topAt, baseOn, fitsOn, isTopmost, pushedTops}
+use Rattle.stacklets.specs.Frames.{wiped, pushedWords}
 use Rattle.stacklets.proofs.Places.{fits-yes, topmost-base}
 use Rattle.thread.specs.declared.Thread.{Thread}
 use Rattle.thread.specs.declared.Status.{Status}
 use Rattle.thread.specs.declared.Status.the-variants.{Running, Ready, Suspended, Waiting}
-use Rattle.thread.specs.declared.Effect.the-variants.{Lforks, Forks, Joins, Returns}
+use Rattle.thread.specs.declared.Effect.the-variants.{Sets, Loads, Lforks, Forks, Joins, Returns}
 use Rattle.thread.specs.Thread.{statusNumber, blankThread, originOf, newThread, withStatus, disconnected, movedTo, joinedAt, behindFork, withoutChild, isRoot, none, _is_}
 use Rattle.rules.proofs.Laws.{child-in-use, parent-in-use}
 use Rattle.rules.specs.declared.ForkKind.{ForkKind}
@@ -32,24 +33,26 @@ use Rattle.rules.specs.Fork.{born, goesAbove, isConnected, childStatus, parentS
 use Rattle.rules.specs.Return.{freed, wakes, statusAfter, returnToParent, returnOf}
 use Rattle.rules.specs.Rules.{entryOf}
 use Rattle.rules.specs.Lists.{Every}
-use Rattle.rules.specs.Sound.{Sound, Used, Unused, statusAt, sizeAt}
+use Rattle.rules.specs.Sound.{Sound, Used, Unused, statusAt, sizeAt, IsFreeWord}
 use Rattle.soundness.proofs.Entries.{Kept, Stepped, Forked, Chosen, above, onFree, entry-by}
 use Rattle.soundness.proofs.Changes.{used-below}
 use Rattle.soundness.proofs.CommandMet.{MetAt}
 use Rattle.soundness.proofs.FrameChanges.{Stays, Like, stays-refl, like-same, like-trans, like-used, like-replaced, NewPlace, aboveParent, onNew, Change, steady, birth, ending}
 use Rattle.soundness.proofs.ForkTree.{Childless}
 use Rattle.soundness.proofs.Parts.{return-childless, join-childless}
-use Rattle.soundness.proofs.ThreadsMet.{runner, waiter-used, taken-used, lent-used, parent-used, linked-parent, step-met, seed-met}
+use Rattle.soundness.proofs.ThreadsMet.{runner, waiter-used, taken-used, lent-used, parent-used, child-not-first, linked-parent, step-met, seed-met}
 
 -- CHANGES OF STATUS AND PLACE: threads that leave a core, run, or go on
-liking : (j : Job) (s s' : State) → ((u : ℕ) → Like (threadAt s u) (threadAt s' u)) → s' .store .tops ≡ s .store .tops → s' .queues .freeStacklets ≡ s .queues .freeStacklets → Change j s s'
-liking j s s' like tops free = steady (record {
+liking : (j : Job) (s s' : State) → ((u : ℕ) → Like (threadAt s u) (threadAt s' u)) → s' .store .tops ≡ s .store .tops → s' .queues .freeStacklets ≡ s .queues .freeStacklets
+    → ((i : ℕ) → IsFreeWord j s i → getD (s' .store .words) i 0 ≡ getD (s .store .words) i 0) → Change j s s'
+liking j s s' like tops free words = steady (record {
   stays = λ u. like u .stays;
   lo = λ u. ap (λ w. w .lo) (like u .window);
   hi = λ u. ap (λ w. w .hi) (like u .window);
   mark = λ u. inl (ap (λ w. w .mark) (like u .window));
   tops = tops;
   free = free;
+  words = words;
 })
 
 like-status : (s : State) (t : ℕ) (status : Status) → Used s t → 0 < statusNumber status
@@ -72,13 +75,19 @@ like-leaves s c t status h k p u = go (threadAt s t .connected) p
     go true p = like-trans (off u) (like-status s1 (threadAt s t .origin .parent) Running (off (threadAt s t .origin .parent) .stays .still (p refl)) (omega arith) u)
     go false p = off u
 
-leaves-tops : (c t : ℕ) (status : Status) (s : State) → leaves c t status s .store .tops ≡ s .store .tops
+leaves-store : (c t : ℕ) (status : Status) (s : State) → leaves c t status s .store ≡ s .store
 unfolding leaves
-leaves-tops c t status s = go (threadAt s t .connected)
+leaves-store c t status s = go (threadAt s t .connected)
   where
-    go : (b : Bool) → cond b (runs c (threadAt s t .origin .parent) (setThread t (disconnected status (threadAt s t)) s)) (setCore c none (setThread t (disconnected status (threadAt s t)) s)) .store .tops ≡ s .store .tops
+    go : (b : Bool) → cond b (runs c (threadAt s t .origin .parent) (setThread t (disconnected status (threadAt s t)) s)) (setCore c none (setThread t (disconnected status (threadAt s t)) s)) .store ≡ s .store
     go true = refl
     go false = refl
+
+leaves-tops : (c t : ℕ) (status : Status) (s : State) → leaves c t status s .store .tops ≡ s .store .tops
+leaves-tops c t status s = ap (λ x. x .tops) (leaves-store c t status s)
+
+leaves-word : (c t : ℕ) (status : Status) (s : State) (i : ℕ) → getD (leaves c t status s .store .words) i 0 ≡ getD (s .store .words) i 0
+leaves-word c t status s i = ap (λ x. getD (x .words) i 0) (leaves-store c t status s)
 
 leaves-free : (c t : ℕ) (status : Status) (s : State) → leaves c t status s .queues .freeStacklets ≡ s .queues .freeStacklets
 unfolding leaves
@@ -121,6 +130,7 @@ module _ (j : Job) (s : State) (ok : Sound j s) where
     mark = λ u. view u (ℕ-discrete u t) .3;
     tops = refl;
     free = refl;
+    words = λ i w. refl;
   })
     where
       h : Thread
@@ -150,18 +160,22 @@ module _ (j : Job) (s : State) (ok : Sound j s) where
       → MetAt j s t (Lforks r d a e) → Forked j s kind (threadAt s t) r n ns x xs
       → s' .threads ≡ set (set (s .threads) t (behindFork (parentStatus kind) (turnAt j s c t .next) d (restOf (threadAt s t .family .window) e) (threadAt s t)))
       n (newThread (originOf r t d (baseOn (s .store .tops) x)) (childStatus kind) (isConnected kind) (childOf (threadAt s t .family .window) e))
-      → s' .store .tops ≡ pushedTops (s .store .tops) x (slotsOf (j .image) r) → s' .queues .freeStacklets ≡ xs → Change j s s'
-  fork-change kind c t r d a e n ns x xs s' ongoing h m f threads tops free = birth t n r d x e (record {
+      → s' .store .tops ≡ pushedTops (s .store .tops) x (slotsOf (j .image) r) → s' .queues .freeStacklets ≡ xs
+      → (vs : List ℕ) → s' .store .words ≡ pushedWords (s .store .tops) (s .store .words) x (slotsOf (j .image) r) vs → Change j s s'
+  fork-change kind c t r d a e n ns x xs s' ongoing h m f threads tops free vs words = birth t n r d x e (record {
     parent-used = h;
     number = number;
     unused = unused;
     not-root = λ z. let y = ok .tree .root (λ v q. unfinished v (sym ongoing ∙ q)) in let w : statusAt s 0 ≡ 0 = rw z at unused in omega arith;
     routine = m .0 .routine;
+    slot = m .0 .result;
     low = m .0 .low;
     high = m .0 .high;
     fit = spot .0;
     place = spot .1;
     tops = tops;
+    arguments = vs;
+    words = words;
     status = childStatus kind;
     connected = isConnected kind;
     used = child-in-use kind;
@@ -222,7 +236,7 @@ module _ (j : Job) (s : State) (ok : Sound j s) where
       go false = h
 
   -- a return: to the parent, or the root's
-  return-change : (c t v : ℕ) → Stepped j s c t → effectAt j s (threadAt s t) ≡ Returns v → Change j s (returnOf s (turnAt j s c t) v)
+  return-change : (c t v : ℕ) → Stepped j s c t → effectAt j s (threadAt s t) ≡ Returns v → Change j s (returnOf j s (turnAt j s c t) v)
   unfolding returnOf returnToParent
   return-change c t v k e = go (isRoot (threadAt s t)) refl
     where
@@ -244,6 +258,10 @@ module _ (j : Job) (s : State) (ok : Sound j s) where
       q' : Thread
       q' = withoutChild (statusAfter (threadAt s t .connected) q) q
 
+      -- the words once the frame is cleared
+      ws : List ℕ
+      ws = wiped (s .store .words) (threadAt s t .origin .base) (sizeAt j s t)
+
       other : Used s p → (u : ℕ) → (u ≡ t → ⊥) → Dec (u ≡ p) → Like (threadAt s u) (getD (set (set (s .threads) t blankThread) p q') u blankThread)
       other w u n (yes z) = rw (
         z,
@@ -253,8 +271,21 @@ module _ (j : Job) (s : State) (ok : Sound j s) where
           (like-used w (after-used (threadAt s t .connected) q w) refl refl refl refl refl)
       other w u n (no z) = like-same (getD-set-other (set (s .threads) t blankThread) p u q' blankThread z ∙ getD-set-other (s .threads) t u blankThread blankThread n)
 
+      -- the value goes to a slot of the parent's frame, which is no free word
+      delivered : isRoot (threadAt s t) ≡ false → (i : ℕ)
+          → (0 < statusNumber (getD (set (set (s .threads) t blankThread) p q') p blankThread .status)
+          → (i < getD (set (set (s .threads) t blankThread) p q') p blankThread .origin .base)
+          ⊎ (getD (set (set (s .threads) t blankThread) p q') p blankThread .origin .base
+          + slotsOf (j .image) (getD (set (set (s .threads) t blankThread) p q') p blankThread .origin .routine) ≤ i))
+          → getD (set ws (q .origin .base + threadAt s t .origin .result) v) i 0 ≡ getD ws i 0
+      delivered r i w =
+          let a = other (parent-used j s ok t h r) p (alone t h) (yes refl) .stays in
+          let l = ok .frames .result t h (child-not-first j s ok t h r) in
+          let y : (i < q .origin .base) ⊎ (q .origin .base + sizeAt j s p ≤ i) = rw (a .base, a .routine) at (w (a .still (parent-used j s ok t h r))) in
+          getD-set-other ws (q .origin .base + threadAt s t .origin .result) i v 0 (λ e. ⊎-elim (λ z. omega arith) (λ z. omega arith) y)
+
       go : (b : Bool) → isRoot (threadAt s t) ≡ b
-          → Change j s (cond b (setOutcome (finished v) (setCore c none (freed (turnAt j s c t) s))) (returnToParent s (turnAt j s c t) (threadAt s t .origin .parent) (threadAt s (threadAt s t .origin .parent)) v))
+          → Change j s (cond b (setOutcome (finished v) (setCore c none (freed j (turnAt j s c t) s))) (returnToParent j s (turnAt j s c t) (threadAt s t .origin .parent) (threadAt s (threadAt s t .origin .parent)) v))
       go true r = ending t (record {
         used = h;
         childless = alone;
@@ -262,6 +293,7 @@ module _ (j : Job) (s : State) (ok : Sound j s) where
         others = λ u n. like-same (getD-set-other (s .threads) t u blankThread blankThread n);
         tops = refl;
         free = refl;
+        words = λ i w. refl;
       })
       go false r = ending t (record {
         used = h;
@@ -271,43 +303,51 @@ module _ (j : Job) (s : State) (ok : Sound j s) where
         others = λ u n. other (parent-used j s ok t h r) u n (ℕ-discrete u p);
         tops = refl;
         free = refl;
+        words = λ i w. delivered r i (w p);
       })
 
-  same-change : (s' : State) → s' .threads ≡ s .threads → s' .store .tops ≡ s .store .tops → s' .queues .freeStacklets ≡ s .queues .freeStacklets → Change j s s'
-  same-change s' threads tops free = liking j s s' (λ u. like-same (ap (λ ts. getD ts u blankThread) threads)) tops free
+  same-change : (s' : State) → s' .threads ≡ s .threads → s' .store .tops ≡ s .store .tops → s' .queues .freeStacklets ≡ s .queues .freeStacklets → s' .store .words ≡ s .store .words → Change j s s'
+  same-change s' threads tops free words = liking j s s' (λ u. like-same (ap (λ ts. getD ts u blankThread) threads)) tops free (λ i w. ap (λ ws. getD ws i 0) words)
 
   -- a thread that stands somewhere else
-  moved-change : (t p : ℕ) (s' : State) → s' .threads ≡ set (s .threads) t (movedTo p (threadAt s t)) → s' .store .tops ≡ s .store .tops → s' .queues .freeStacklets ≡ s .queues .freeStacklets → Change j s s'
-  moved-change t p s' threads tops free = liking j s s' (λ u. rw threads (like-moved t p u)) tops free
+  moved-change : (t p : ℕ) (s' : State) → s' .threads ≡ set (s .threads) t (movedTo p (threadAt s t)) → s' .store .tops ≡ s .store .tops → s' .queues .freeStacklets ≡ s .queues .freeStacklets
+      → ((i : ℕ) → IsFreeWord j s i → getD (s' .store .words) i 0 ≡ getD (s .store .words) i 0) → Change j s s'
+  moved-change t p s' threads tops free words = liking j s s' (λ u. rw threads (like-moved t p u)) tops free words
+
+  -- a slot that is written is no free word
+  slot-change : (c t d v : ℕ) → Stepped j s c t → d < sizeAt j s t → (i : ℕ) → IsFreeWord j s i
+      → getD (set (s .store .words) (threadAt s t .origin .base + d) v) i 0 ≡ getD (s .store .words) i 0
+  slot-change c t d v k l i w = getD-set-other (s .store .words) (threadAt s t .origin .base + d) i v 0
+      (λ e. ⊎-elim (λ a. omega arith) (λ a. omega arith) (w t (runner j s ok c t k)))
 
   status-change : (t : ℕ) (status : Status) (s' : State) → Used s t → 0 < statusNumber status → s' .threads ≡ set (s .threads) t (withStatus status (threadAt s t))
-      → s' .store .tops ≡ s .store .tops → s' .queues .freeStacklets ≡ s .queues .freeStacklets → Change j s s'
-  status-change t status s' h k threads tops free = liking j s s' (λ u. rw threads (like-status s t status h k u)) tops free
+      → s' .store .tops ≡ s .store .tops → s' .queues .freeStacklets ≡ s .queues .freeStacklets → s' .store .words ≡ s .store .words → Change j s s'
+  status-change t status s' h k threads tops free words = liking j s s' (λ u. rw threads (like-status s t status h k u)) tops free (λ i w. ap (λ ws. getD ws i 0) words)
 
   -- ALL CHANGES
   changes : Kept (Change j s) j s
   unfolding born
   changes = record {
-    unchanged = same-change s refl refl refl;
-    fault = λ t n g l e. same-change _ refl refl refl;
-    waiting = λ c t k. liking j s _ (like-leaves s c t Waiting (waiter-used j s ok c t k) (omega arith) (linked-parent j s ok t)) (leaves-tops c t Waiting s) (leaves-free c t Waiting s);
-    sets = λ c t k d v e. moved-change t _ _ refl refl refl;
-    loads = λ c t k d a e. moved-change t _ _ refl refl refl;
-    stores = λ c t k a v e. moved-change t _ _ refl refl refl;
-    goes = λ c t k p e. moved-change t _ _ refl refl refl;
-    continues = λ c t k e. moved-change t _ _ refl refl refl;
+    unchanged = same-change s refl refl refl refl;
+    fault = λ t n g l e. same-change _ refl refl refl refl;
+    waiting = λ c t k. liking j s _ (like-leaves s c t Waiting (waiter-used j s ok c t k) (omega arith) (linked-parent j s ok t)) (leaves-tops c t Waiting s) (leaves-free c t Waiting s) (λ i w. leaves-word c t Waiting s i);
+    sets = λ c t k d v e. moved-change t _ _ refl refl refl (slot-change c t d v k (step-met j s ok c t k (Sets d v) e .0));
+    loads = λ c t k d a e. moved-change t _ _ refl refl refl (slot-change c t d _ k (step-met j s ok c t k (Loads d a) e .0));
+    stores = λ c t k a v e. moved-change t _ _ refl refl refl (λ i w. refl);
+    goes = λ c t k p e. moved-change t _ _ refl refl refl (λ i w. refl);
+    continues = λ c t k e. moved-change t _ _ refl refl refl (λ i w. refl);
     lforks = λ c t k r d a e q n ns x xs f.
-        fork-change Called c t r d a e n ns x xs _ (k .ongoing) (runner j s ok c t k) (step-met j s ok c t k (Lforks r d a e) q) f refl refl refl;
+        fork-change Called c t r d a e n ns x xs _ (k .ongoing) (runner j s ok c t k) (step-met j s ok c t k (Lforks r d a e) q) f refl refl refl _ refl;
     forks = λ c t k r d a e q n ns x xs f.
-        fork-change Queued c t r d a e n ns x xs _ (k .ongoing) (runner j s ok c t k) (step-met j s ok c t k (Forks r d a e) q) f refl refl refl;
+        fork-change Queued c t r d a e n ns x xs _ (k .ongoing) (runner j s ok c t k) (step-met j s ok c t k (Forks r d a e) q) f refl refl refl _ refl;
     joins = join-change;
-    suspends = λ c t k e. liking j s _ (done-leaves c t Suspended k (omega arith)) (leaves-tops c t Suspended _) (leaves-free c t Suspended _);
-    yields = λ c t k e. liking j s _ (done-leaves c t Ready k (omega arith)) (leaves-tops c t Ready _) (leaves-free c t Ready _);
+    suspends = λ c t k e. liking j s _ (done-leaves c t Suspended k (omega arith)) (leaves-tops c t Suspended _) (leaves-free c t Suspended _) (λ i w. leaves-word c t Suspended (goesOn (turnAt j s c t) s) i);
+    yields = λ c t k e. liking j s _ (done-leaves c t Ready k (omega arith)) (leaves-tops c t Ready _) (leaves-free c t Ready _) (λ i w. leaves-word c t Ready (goesOn (turnAt j s c t) s) i);
     returns = λ c t k v e. return-change c t v k e;
-    takes = λ c t ts k. status-change t Running _ (taken-used j s ok c t ts k) (omega arith) refl refl refl;
+    takes = λ c t ts k. status-change t Running _ (taken-used j s ok c t ts k) (omega arith) refl refl refl refl;
     steals = λ c t k r d a e q n ns x xs f.
-        fork-change Stolen c t r d a e n ns x xs _ (k .ongoing) (lent-used j s ok c t k) (seed-met j s ok c t k r d a e q) f refl refl refl;
-    enables = λ t k. status-change t Ready _ (let z = k .suspended in omega arith) (omega arith) refl refl refl;
+        fork-change Stolen c t r d a e n ns x xs _ (k .ongoing) (lent-used j s ok c t k) (seed-met j s ok c t k r d a e q) f refl refl refl _ refl;
+    enables = λ t k. status-change t Ready _ (let z = k .suspended in omega arith) (omega arith) refl refl refl refl;
   }
 
   pub entry-change : (e : Entry) → Change j s (entryOf j s e .state)

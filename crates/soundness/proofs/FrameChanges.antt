@@ -12,12 +12,13 @@ use lib.Seq.{getD-set-same, getD-set-other, set-out}
 use Rattle.image.specs.Layout.{routineCount, slotsOf}
 use Rattle.window.specs.Rights.{childOf, restOf}
 use Rattle.stacklets.specs.Tops.{topAt, baseOn, fitsOn, pushedTops, poppedTops}
+use Rattle.stacklets.specs.Frames.{wiped, pushedWords}
 use Rattle.thread.specs.declared.Thread.{Thread}
 use Rattle.thread.specs.declared.Status.{Status}
 use Rattle.thread.specs.Thread.{statusNumber, blankThread, originOf, newThread, _is_}
 use Rattle.rules.specs.State.{Job, State, threadAt}
 use Rattle.rules.specs.Return.{stackletsWithout}
-use Rattle.rules.specs.Sound.{Used, statusAt, sizeAt}
+use Rattle.rules.specs.Sound.{Used, statusAt, sizeAt, IsFreeWord}
 use Rattle.soundness.proofs.ForkTree.{Childless}
 
 -- a record in the place of another: the same frame and place in the fork tree, in use just if that was
@@ -67,14 +68,15 @@ like-replaced ts t h l u = go (ℕ-discrete u t) (decLt t (length ts))
     go (yes e) (no b) = like-same (rw (set-out ts t h (omega arith)))
     go (no n) _ = like-same (getD-set-other ts t u h blankThread n)
 
--- NO FRAME comes or goes, and no window changes but by a join, which puts the mark back to lo
-pub record Steady (s s' : State) : Type 0 where
+-- NO FRAME comes or goes, no word changes outside the frames, and no window changes but by a join, which puts the mark back to lo
+pub record Steady (j : Job) (s s' : State) : Type 0 where
   pub stays : (u : ℕ) → Stays (threadAt s u) (threadAt s' u)
   pub lo : (u : ℕ) → threadAt s' u .family .window .lo ≡ threadAt s u .family .window .lo
   pub hi : (u : ℕ) → threadAt s' u .family .window .hi ≡ threadAt s u .family .window .hi
   pub mark : (u : ℕ) → (threadAt s' u .family .window .mark ≡ threadAt s u .family .window .mark) ⊎ ((threadAt s' u .family .window .mark ≡ threadAt s u .family .window .lo) × Childless s u)
   pub tops : s' .store .tops ≡ s .store .tops
   pub free : s' .queues .freeStacklets ≡ s .queues .freeStacklets
+  pub words : (i : ℕ) → IsFreeWord j s i → getD (s' .store .words) i 0 ≡ getD (s .store .words) i 0
 
 -- where the new frame of routine r goes: above the parent's frame, or at the first word of a free stacklet
 pub data NewPlace (j : Job) (s s' : State) (t x : ℕ) : Type 0 where
@@ -88,11 +90,14 @@ pub record Birth (j : Job) (s s' : State) (t n r d x cut : ℕ) : Type 0 where
   pub unused : statusAt s n ≡ 0
   pub not-root : n ≡ 0 → ⊥
   pub routine : r < routineCount (j .image)
+  pub slot : d < sizeAt j s t
   pub low : threadAt s t .family .window .mark ≤ cut
   pub high : cut ≤ threadAt s t .family .window .hi
   pub fit : fitsOn (s .store .tops) x (slotsOf (j .image) r) ≡ true
   pub place : NewPlace j s s' t x
   pub tops : s' .store .tops ≡ pushedTops (s .store .tops) x (slotsOf (j .image) r)
+  pub arguments : List ℕ
+  pub words : s' .store .words ≡ pushedWords (s .store .tops) (s .store .words) x (slotsOf (j .image) r) arguments
   pub status : Status
   pub connected : Bool
   pub used : 0 < statusNumber status
@@ -101,19 +106,20 @@ pub record Birth (j : Job) (s s' : State) (t n r d x cut : ℕ) : Type 0 where
   pub rest : threadAt s' t .family .window ≡ restOf (threadAt s t .family .window) cut
   pub others : (u : ℕ) → (u ≡ t → ⊥) → (u ≡ n → ⊥) → threadAt s' u ≡ threadAt s u
 
--- A RETURN of thread t, which has no children
-pub record Ending (s s' : State) (t : ℕ) : Type 0 where
+-- A RETURN of thread t, which has no children; of the other frames a word may change
+pub record Ending (j : Job) (s s' : State) (t : ℕ) : Type 0 where
   pub used : Used s t
   pub childless : Childless s t
   pub gone : threadAt s' t ≡ blankThread
   pub others : (u : ℕ) → (u ≡ t → ⊥) → Like (threadAt s u) (threadAt s' u)
   pub tops : s' .store .tops ≡ poppedTops (s .store .tops) (threadAt s t .origin .base)
   pub free : s' .queues .freeStacklets ≡ stackletsWithout (threadAt s t .origin .base) (s .queues .freeStacklets)
+  pub words : (i : ℕ) → IsFreeWord j s' i → getD (s' .store .words) i 0 ≡ getD (wiped (s .store .words) (threadAt s t .origin .base) (sizeAt j s t)) i 0
 
 pub data Change (j : Job) (s s' : State) : Type 0 where
-  steady : Steady s s' → Change j s s'
+  steady : Steady j s s' → Change j s s'
   birth : (t n r d x cut : ℕ) → Birth j s s' t n r d x cut → Change j s s'
-  ending : (t : ℕ) → Ending s s' t → Change j s s'
+  ending : (t : ℕ) → Ending j s s' t → Change j s s'
 
 -- after a fork a thread is the child, or one that stays
 pub data Family (s s' : State) (n : ℕ) (child : Thread) (u : ℕ) : Type 0 where
@@ -144,7 +150,7 @@ module _ {j : Job} {s s' : State} {t n r d x cut : ℕ} (b : Birth j s s' t n r 
       go (elder _ k) = k
 
 -- after a return a thread in use is another one, and was in use
-pub survivor : (s s' : State) (t : ℕ) → Ending s s' t → (u : ℕ) → Used s' u → (u ≡ t → ⊥) × Like (threadAt s u) (threadAt s' u)
+pub survivor : {j : Job} (s s' : State) (t : ℕ) → Ending j s s' t → (u : ℕ) → Used s' u → (u ≡ t → ⊥) × Like (threadAt s u) (threadAt s' u)
 survivor s s' t f u h = go (ℕ-discrete u t)
   where
     go : Dec (u ≡ t) → (u ≡ t → ⊥) × Like (threadAt s u) (threadAt s' u)

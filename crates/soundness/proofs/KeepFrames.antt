@@ -1,4 +1,5 @@
--- Every entry keeps frames as they are to be: within their stacklets, below the tops, apart, and each above the lowest on its parent's.
+-- Every entry keeps frames as they are to be: within their stacklets, below the tops, apart, each above the lowest on its parent's, and a
+-- child's result slot in its parent's.
 -- Assumes nothing.
 use mathlib.Core.Logic.{_⊎_, inl, inr, ⊎-elim}
 use mathlib.Core.Path.{_≡_, sym, _∙_}
@@ -18,6 +19,7 @@ use Rattle.rules.specs.Rules.{entryOf}
 use Rattle.rules.specs.Sound.{Sound, Frames, Used, sizeAt}
 use Rattle.soundness.proofs.ForkTree.{Childless}
 use Rattle.soundness.proofs.FrameChanges.{Like, Steady, NewPlace, aboveParent, onNew, Birth, Ending, Change, steady, birth, ending, Family, newborn, elder, childOfBirth, family, elder-stays, survivor}
+use Rattle.soundness.proofs.ThreadsMet.{parent-of}
 use Rattle.soundness.proofs.EntryChanges.{entry-change}
 
 module _ (j : Job) (s : State) (ok : Sound j s) where
@@ -52,7 +54,7 @@ module _ (j : Job) (s : State) (ok : Sound j s) where
           omega arith
 
   -- no frame comes or goes
-  steady-frames : (s' : State) → Steady s s' → Frames j s'
+  steady-frames : (s' : State) → Steady j s s' → Frames j s'
   steady-frames s' f = record {
     bounded = λ t u. rw (f .stays t .base) (ok .frames .bounded t (f .stays t .was u));
     most = λ x. rw (f .tops) (ok .frames .most x);
@@ -63,6 +65,7 @@ module _ (j : Job) (s : State) (ok : Sound j s) where
       f .stays (threadAt s t .origin .parent) .still (z .0),
       rw (f .stays (threadAt s t .origin .parent) .base, f .stays (threadAt s t .origin .parent) .routine) (z .1),
     )) (ok .frames .stacked t (f .stays t .was u)));
+    result = λ t u n. rw (f .stays t .result, f .stays t .parent, f .stays (threadAt s t .origin .parent) .routine) (ok .frames .result t (f .stays t .was u) n);
   }
 
   -- a fork
@@ -89,6 +92,7 @@ module _ (j : Job) (s : State) (ok : Sound j s) where
       under = λ u h. rw (b .tops) (under u h (family b u));
       apart = λ u v h k m. apart u v h k m (family b u) (family b v);
       stacked = λ u h. stacked u h (family b u);
+      result = λ u h m. result u h m (family b u);
     }
       where
         bounded : (u : ℕ) → Used s' u → Family s s' n (childOfBirth b) u → threadAt s' u .origin .base < 1024
@@ -122,8 +126,14 @@ module _ (j : Job) (s : State) (ok : Sound j s) where
             (λ z. inr (elder-stays b _ (z .0) .still (z .0), rw (elder-stays b (threadAt s u .origin .parent) (z .0) .base, elder-stays b (threadAt s u .origin .parent) (z .0) .routine) (z .1)))
             (ok .frames .stacked u (k .was h)))
 
+        result : (u : ℕ) → Used s' u → (u ≡ 0 → ⊥) → Family s s' n (childOfBirth b) u → threadAt s' u .origin .result < sizeAt j s' (threadAt s' u .origin .parent)
+        result u h m (newborn _ e) = rw (e, b .parent .routine) (b .slot)
+        result u h m (elder _ k) =
+            let p = elder-stays b (threadAt s u .origin .parent) (parent-of j s ok u (k .was h) m) in
+            rw (k .result, k .parent, p .routine) (ok .frames .result u (k .was h) m)
+
   -- a return
-  module _ (s' : State) (t : ℕ) (f : Ending s s' t) where
+  module _ (s' : State) (t : ℕ) (f : Ending j s s' t) where
     low-here : topAt (poppedTops (s .store .tops) (threadAt s t .origin .base)) (threadAt s t .origin .base / 64) ≡ threadAt s t .origin .base % 64
     low-here = popped-top (s .store .tops) (threadAt s t .origin .base) (let z = ok .frames .bounded t (f .used) in let y = ok .sized .tops in omega arith)
 
@@ -146,6 +156,8 @@ module _ (j : Job) (s : State) (ok : Sound j s) where
           rw (w .base, w .routine, y .base, y .routine) (ok .frames .apart u v (w .was h) (y .was k) n);
       stacked = λ u h. let w = survivor s s' t f u h .1 .stays in rw (w .base, w .parent) (⊎-elim (λ z. inl z)
           (λ z. let p = parent-stays u (w .was h) .stays in inr (p .still (z .0), rw (p .base, p .routine) (z .1))) (ok .frames .stacked u (w .was h)));
+      result = λ u h n. let w = survivor s s' t f u h .1 .stays in let p = parent-stays u (w .was h) .stays in
+          rw (w .result, w .parent, p .routine) (ok .frames .result u (w .was h) n);
     }
 
   change-frames : (s' : State) → Change j s s' → Frames j s'

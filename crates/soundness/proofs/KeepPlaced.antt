@@ -217,7 +217,7 @@ module _ (j : Job) (s : State) (ok : Sound j s) where
       go true = with-status Running (λ z. absurd (omega arith))
       go false = woken (wakes false q)
 
-  return-placed : (c t v : ℕ) → Stepped j s c t → Positioned j (returnOf s (turnAt j s c t) v)
+  return-placed : (c t v : ℕ) → Stepped j s c t → Positioned j (returnOf j s (turnAt j s c t) v)
   unfolding returnOf returnToParent
   return-placed c t v k = go (isRoot (threadAt s t)) refl
     where
@@ -234,7 +234,7 @@ module _ (j : Job) (s : State) (ok : Sound j s) where
       freed-good = good-replaced j (s .threads) all t blankThread (λ z. absurd (omega arith))
 
       go : (b : Bool) → isRoot (threadAt s t) ≡ b
-          → Positioned j (cond b (setOutcome (finished v) (setCore c none (freed (turnAt j s c t) s))) (returnToParent s (turnAt j s c t) (threadAt s t .origin .parent) (threadAt s (threadAt s t .origin .parent)) v))
+          → Positioned j (cond b (setOutcome (finished v) (setCore c none (freed j (turnAt j s c t) s))) (returnToParent j s (turnAt j s c t) (threadAt s t .origin .parent) (threadAt s (threadAt s t .origin .parent)) v))
       go true r = good-placed j _ freed-good
       go false r = good-placed j _ (good-replaced j (set (s .threads) t blankThread) freed-good p (withoutChild (statusAfter (threadAt s t .connected) q) q)
           (good-parent (threadAt s t .connected) q (all p) (parent-used j s ok t h r)))

@@ -1,6 +1,6 @@
 -- Every entry keeps the tables at their sizes, the count of cores, and the units at most the allowance. Assumes nothing.
 use mathlib.Core.Bool.{Bool, true, false, cond}
-use mathlib.Core.List.{List}
+use mathlib.Core.List.{List, []}
 use mathlib.Core.Path.{_≡_, refl, _∙_}
 use Prim.Native.Nat.{ℕ, _+_, _-_, _≤_}
 use native.Mathlib.Omega.{arith}
@@ -8,9 +8,9 @@ use lib.ListN.{length, length-set}
 use Rattle.image.specs.Layout.{slotsOf, argumentsOf}
 use Rattle.schedule.specs.declared.Entry.{Entry}
 use Rattle.stacklets.specs.Tops.{pushedTops}
-use Rattle.stacklets.specs.Frames.{argumentsAt, pushedWords}
+use Rattle.stacklets.specs.Frames.{argumentsAt, wiped, pushedWords}
 use Rattle.stacklets.proofs.Places.{pushed-length, popped-length}
-use Rattle.stacklets.proofs.Words.{length-pushed}
+use Rattle.stacklets.proofs.Words.{length-framed, length-pushed}
 use Rattle.thread.specs.declared.Thread.{Thread}
 use Rattle.thread.specs.declared.Status.{Status}
 use Rattle.thread.specs.declared.Status.the-variants.{Ready, Suspended, Waiting}
@@ -91,17 +91,23 @@ born-sizes j s kind o f n ns x xs = go kind
     go Queued = (record { threads = simp length-set; cores = refl; tops = tops; words = words; memory = refl; count = refl }, refl)
     go Stolen = (record { threads = simp length-set; cores = simp length-set; tops = tops; words = words; memory = refl; count = refl }, refl)
 
-return-sizes : (s : State) (o : Turn) (v : ℕ) → SameSizes s (returnOf s o v) × (returnOf s o v .units ≡ s .units + o .weight)
+return-sizes : (j : Job) (s : State) (o : Turn) (v : ℕ) → SameSizes s (returnOf j s o v) × (returnOf j s o v .units ≡ s .units + o .weight)
 unfolding returnOf returnToParent
-return-sizes s o v = go (isRoot (o .thread))
+return-sizes j s o v = go (isRoot (o .thread))
   where
     p : ℕ
     p = o .thread .origin .parent
 
-    go : (b : Bool) → SameSizes s (cond b (setOutcome (finished v) (setCore (o .core) none (freed o s))) (returnToParent s o p (threadAt s p) v))
-        × (cond b (setOutcome (finished v) (setCore (o .core) none (freed o s))) (returnToParent s o p (threadAt s p) v) .units ≡ s .units + o .weight)
-    go true = (record { threads = simp length-set; cores = simp length-set; tops = popped-length (s .store .tops) (o .thread .origin .base); words = refl; memory = refl; count = refl }, refl)
-    go false = (record { threads = simp length-set; cores = simp length-set; tops = popped-length (s .store .tops) (o .thread .origin .base); words = simp length-set; memory = refl; count = refl }, refl)
+    size : ℕ
+    size = slotsOf (j .image) (o .thread .origin .routine)
+
+    words : length (wiped (s .store .words) (o .thread .origin .base) size) ≡ length (s .store .words)
+    words = length-framed (s .store .words) (o .thread .origin .base) size []
+
+    go : (b : Bool) → SameSizes s (cond b (setOutcome (finished v) (setCore (o .core) none (freed j o s))) (returnToParent j s o p (threadAt s p) v))
+        × (cond b (setOutcome (finished v) (setCore (o .core) none (freed j o s))) (returnToParent j s o p (threadAt s p) v) .units ≡ s .units + o .weight)
+    go true = (record { threads = simp length-set; cores = simp length-set; tops = popped-length (s .store .tops) (o .thread .origin .base); words = words; memory = refl; count = refl }, refl)
+    go false = (record { threads = simp length-set; cores = simp length-set; tops = popped-length (s .store .tops) (o .thread .origin .base); words = length-set (wiped (s .store .words) (o .thread .origin .base) size) (threadAt s p .origin .base + o .thread .origin .result) v ∙ words; memory = refl; count = refl }, refl)
 
 module _ (j : Job) (s : State) (ok : Sound j s) where
   -- nothing is charged, or a weight that the allowance has room for
@@ -131,7 +137,7 @@ module _ (j : Job) (s : State) (ok : Sound j s) where
     joins = λ c t k e. charged c t _ (k .paid) (record { threads = simp length-set; cores = refl; tops = refl; words = refl; memory = refl; count = refl }) refl;
     suspends = λ c t k e. let z = leaves-sizes c t Suspended (goesOn (turnAt j s c t) s) in charged c t _ (k .paid) (sizes-trans s (goesOn (turnAt j s c t) s) _ (gone-on c t) (z .0)) (z .1);
     yields = λ c t k e. charged c t _ (k .paid) (yielded c t) (leaves-sizes c t Ready (goesOn (turnAt j s c t) s) .1);
-    returns = λ c t k v e. let z = return-sizes s (turnAt j s c t) v in charged c t _ (k .paid) (z .0) (z .1);
+    returns = λ c t k v e. let z = return-sizes j s (turnAt j s c t) v in charged c t _ (k .paid) (z .0) (z .1);
     takes = λ c t ts k. free-of-charge _ (record { threads = simp length-set; cores = simp length-set; tops = refl; words = refl; memory = refl; count = refl }) refl;
     steals = λ c t k r d a e q n ns x xs f. let z = born-sizes j s Stolen (turnAt j s c t) (asked r d a e) n ns x xs in charged c t _ (k .paid) (z .0) (z .1);
     enables = λ t k. free-of-charge _ (record { threads = simp length-set; cores = refl; tops = refl; words = refl; memory = refl; count = refl }) refl;

@@ -36,7 +36,7 @@ module _ (j : Job) (s : State) (ok : Sound j s) where
   not-free : (t : ℕ) → Used s t → Member (threadAt s t .origin .base / 64) (s .queues .freeStacklets) → ⊥
   not-free t h m = every-member (Vacant s) (s .queues .freeStacklets) (ok .freeStacklets .free) (threadAt s t .origin .base / 64) m .2 t h refl
 
-  steady-stacklets : (s' : State) → Steady s s' → FreeStacklets s'
+  steady-stacklets : (s' : State) → Steady j s s' → FreeStacklets s'
   steady-stacklets s' f = record {
     free = rw (f .free) (every-map (λ x h. (h .0, rw (f .tops) (h .1), λ t u e. h .2 t (f .stays t .was u) (sym (ap (λ b. b / 64) (f .stays t .base)) ∙ e)))
         (s .queues .freeStacklets) (ok .freeStacklets .free));
@@ -96,7 +96,7 @@ module _ (j : Job) (s : State) (ok : Sound j s) where
             stands y l f (inr m) = m
 
   -- a return
-  module _ (s' : State) (t : ℕ) (f : Ending s s' t) where
+  module _ (s' : State) (t : ℕ) (f : Ending j s s' t) where
     below : threadAt s t .origin .base / 64 < 16
     below = let z = ok .frames .bounded t (f .used) in omega arith
 

@@ -22,7 +22,7 @@ same-ends w w' l h (inl e) f = record { memory = omega arith; behind = omega ari
 same-ends w w' l h (inr e) f = record { memory = omega arith; behind = omega arith; before = omega arith; within = omega arith }
 
 module _ (j : Job) (s : State) (ok : Sound j s) where
-  steady-windows : (s' : State) → Steady s s' → Windows s'
+  steady-windows : (s' : State) → Steady j s s' → Windows s'
   steady-windows s' f = record {
     fits = λ t u. same-ends (threadAt s t .family .window) (threadAt s' t .family .window) (f .lo t) (f .hi t) (⊎-elim (λ z. inl z) (λ z. inr (z .0)) (f .mark t))
         (ok .windows .fits t (f .stays t .was u));
@@ -104,7 +104,7 @@ module _ (j : Job) (s : State) (ok : Sound j s) where
             rw (w .0, w .1, y .0, y .1) (ok .windows .apart u v (f .was h) (g .was k) m (sym (f .parent) ∙ q ∙ g .parent))
 
   -- a return
-  ending-windows : (s' : State) (t : ℕ) → Ending s s' t → Windows s'
+  ending-windows : (s' : State) (t : ℕ) → Ending j s s' t → Windows s'
   ending-windows s' t f = record {
     fits = λ u h. let w = survivor s s' t f u h .1 in rw (w .window) (ok .windows .fits u (w .stays .was h));
     root = λ h. let w = survivor s s' t f 0 h .1 in rw (w .window) (ok .windows .root (w .stays .was h));

@@ -214,19 +214,19 @@ module _ (s s' : State) (ok : Held s) (c v : ℕ) (l : c < s .count) (seat : onC
 
 -- THE RULE
 pub held-returns : (j : Job) (s : State) → Held s → (c t v : ℕ) → c < s .count → onCore s c ≡ t → t < 32 → Unfinished s → Childless s t
-    → Held (returnOf s (turnAt j s c t) v)
+    → Held (returnOf j s (turnAt j s c t) v)
 unfolding returnOf returnToParent statusAfter readyAfter wakes
 held-returns j s ok c t v l seat low over childless = ⊎-elim at-root inside (ok .tree .tree t used-t)
   where
     used-t : Used s t
     used-t = let z : statusAt s t ≡ 1 = rw seat at (ok .seats .runs c l (rw seat low)) in omega arith
 
-    at-root : (t ≡ 0) × (parentAt s t ≡ none) → Held (returnOf s (turnAt j s c t) v)
+    at-root : (t ≡ 0) × (parentAt s t ≡ none) → Held (returnOf j s (turnAt j s c t) v)
     at-root z =
         let g : leb none (parentAt s t) ≡ true = le-leb none (parentAt s t) (let y = z .1 in omega arith) in
         held-finished s _ ok c v l (seat ∙ z .0) (λ u h e. childless u h (e ∙ sym (z .0))) (rw g) (rw g) (rw (g, z .0)) (rw (g, z .0)) (rw g) (rw g)
 
-    inside : (¬ (t ≡ 0)) × Used s (parentAt s t) × (ok .tree .rank (parentAt s t) < ok .tree .rank t) → Held (returnOf s (turnAt j s c t) v)
+    inside : (¬ (t ≡ 0)) × Used s (parentAt s t) × (ok .tree .rank (parentAt s t) < ok .tree .rank t) → Held (returnOf j s (turnAt j s c t) v)
     inside z = rw outside (go (connectedAt s t) refl (woken (threadAt s (parentAt s t))) refl)
       where
         outside : leb none (parentAt s t) ≡ false
@@ -243,7 +243,7 @@ held-returns j s ok c t v l seat low over childless = ⊎-elim at-root inside (o
             → Held (setCore c (cond b (parentAt s t) none) (setReady (cond (not b && w) (appended capacity (s .queues .ready) (parentAt s t)) (s .queues .ready))
             (setThread (parentAt s t) (withoutChild (cond b Running (cond (not b && w) Ready (threadAt s (parentAt s t) .status)))
             (threadAt s (parentAt s t)))
-            (setSlot (threadAt s (parentAt s t)) (threadAt s t .origin .result) v (freed (turnAt j s c t) s)))))
+            (setSlot (threadAt s (parentAt s t)) (threadAt s t .origin .result) v (freed j (turnAt j s c t) s)))))
         go true e w f = held-back s _ ok c t (parentAt s t) Running l seat low refl (z .1) childless over over refl refl refl (omega arith)
             (λ x. absurd (omega arith)) e refl refl refl
         go false e true f =

@@ -16,6 +16,7 @@ use Rattle.soundness.proofs.KeepPlaced.{keep-placed}
 use Rattle.soundness.proofs.KeepWindows.{keep-windows}
 use Rattle.soundness.proofs.KeepFrames.{keep-frames}
 use Rattle.soundness.proofs.KeepStacklets.{keep-free-stacklets}
+use Rattle.soundness.proofs.KeepWords.{keep-words}
 use Rattle.soundness.proofs.StartSound.{start-sound}
 
 -- one entry
@@ -33,6 +34,7 @@ entry-sound j s ok e = record {
   freeThreads = freeThreads-kept j s ok e;
   frames = keep-frames j s ok e;
   freeStacklets = keep-free-stacklets j s ok e;
+  freeWords = keep-words j s ok e;
 }
 
 -- any list of entries

@@ -28,6 +28,7 @@ pub mod FrameChanges
 pub mod EntryChanges
 pub mod KeepFrames
 pub mod KeepStacklets
+pub mod KeepWords
 pub mod KeepWindows
 pub mod KeepPlaced
 pub mod KeepSized

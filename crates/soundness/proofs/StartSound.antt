@@ -14,11 +14,12 @@ use Rattle.image.proofs.Laws.{slots-some, slots-most, start-good}
 use Rattle.window.proofs.Laws.{root-fits}
 use Rattle.stacklets.specs.Tops.{topAt, fitsOn}
 use Rattle.stacklets.proofs.Places.{fits-yes, pushed-length, pushed-top, pushed-other, pushed-most}
-use Rattle.stacklets.proofs.Words.{length-pushed}
+use Rattle.stacklets.specs.Frames.{pushedWords}
+use Rattle.stacklets.proofs.Words.{length-pushed, framed-out}
 use Rattle.thread.specs.Thread.{blankThread, rootThread, none}
 use Rattle.rules.specs.State.{Job, State, threadAt, onCore}
 use Rattle.rules.specs.Start.{startState}
-use Rattle.rules.specs.Sound.{GoodJob, Sized, Positioned, Seats, Links, Turns, Tree, childrenAmong, Results, Windows, FreeThreads, Frames, FreeStacklets, Sound, Used, Unused, statusAt}
+use Rattle.rules.specs.Sound.{GoodJob, Sized, Positioned, Seats, Links, Turns, Tree, childrenAmong, Results, Windows, FreeThreads, Frames, FreeStacklets, FreeWords, Sound, Used, Unused, statusAt}
 use Rattle.soundness.proofs.AscendingNumbers.{ascending-every, ascending-distinct, ascending-stands}
 
 -- a table of equal records reads the same everywhere
@@ -182,6 +183,14 @@ module _ (j : Job) (count : ℕ) (arguments memory : List ℕ) where
       under = λ t u. rw (used-root t u, pushed-top (replicate 16 0) 0 size fit (slots-some (j .image) a 0 (a .some)) (omega arith)) (omega arith);
       apart = λ t u h k n. absurd (n (used-root t h ∙ sym (used-root u k)));
       stacked = λ t u. rw (used-root t u) (inl refl);
+      result = λ t u n. absurd (n (used-root t u));
+    }
+
+    -- all words are zero but routine 0's arguments, which its frame holds
+    start-free-words : FreeWords j start
+    unfolding startState pushedWords
+    start-free-words = record {
+      zero = λ i h. rw fit (framed-out (replicate 1024 0) 0 size arguments i (h 0 (omega arith)) ∙ alike {A = ℕ} 1024 i 0);
     }
 
     start-free-stacklets : FreeStacklets start
@@ -217,4 +226,5 @@ start-sound j count arguments memory g some most words = record {
   freeThreads = start-free-threads j count arguments memory;
   frames = start-frames j count arguments memory g;
   freeStacklets = start-free-stacklets j count arguments memory g;
+  freeWords = start-free-words j count arguments memory g;
 }

@@ -1,4 +1,5 @@
 pub mod Words
 pub mod Places
 pub mod Laying
+pub mod Wiping
 pub mod Pushing

@@ -1,6 +1,6 @@
--- The words of the stacklets, as a list: slots of a frame, and a new frame. Document 01, "Tables".
+-- The words of the stacklets, as a list: slots of a frame, a new frame, and one that is given back. Document 01, "Tables".
 use mathlib.Core.Bool.{cond}
-use mathlib.Core.List.{List}
+use mathlib.Core.List.{List, []}
 use Prim.Native.Nat.{ℕ, zero, suc, _+_}
 use lib.ListN.{getD, set, take, drop}
 use Rattle.stacklets.specs.Tops.{fitsOn, baseOn}
@@ -21,6 +21,10 @@ argumentsAt words from given = take given (drop from words)
 unfoldable pub framed : List ℕ → ℕ → ℕ → List ℕ → List ℕ
 framed words base zero arguments = words
 framed words base (suc n) arguments = set (framed words base n arguments) (base + n) (getD arguments n 0)
+
+-- T-02: "clears a frame's words as it gives them back": as many words as the frame has, from its base on, become 0; no other word changes
+abbrev pub wiped : List ℕ → ℕ → ℕ → List ℕ
+wiped words base size = framed words base size []
 
 -- a new frame above the top of stacklet x; nothing changes where it does not fit
 unfoldable pub pushedWords : List ℕ → List ℕ → ℕ → ℕ → List ℕ → List ℕ

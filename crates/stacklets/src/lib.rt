@@ -1,11 +1,12 @@
 // The stacklet store: 16 stacklets of 64 words. Frames are pushed above a stacklet's top and popped off it, and their slots are read and
 // written. The 1,024 words are lent by the caller; the tops are a small struct by value. A frame is known by its base, its first word's
 // number among all words, so that its stacklet is base / 64.
+ghost use mathlib.Core.Logic.{_⊎_};
 ghost use mathlib.Core.Path.{_≡_};
 ghost use Prim.Native.Nat.{_%_, _<_, _≤_};
 ghost use lib.ListN.{getD, set, replicate};
 ghost use Rattle.stacklets.specs.Tops.{topsOf, stackletsOf, topAt, fitsOn, isTopmost, baseOn, pushedTops, poppedTops};
-ghost use Rattle.stacklets.specs.Frames.{slotOf, withSlot, argumentsAt, framed, pushedWords};
+ghost use Rattle.stacklets.specs.Frames.{slotOf, withSlot, argumentsAt, framed, wiped, pushedWords};
 
 // How many words of each stacklet its frames take. A stacklet with top 0 has no frame. The tops are public, since any of them may be: the
 // machine's tables hold them as bytes.
@@ -112,10 +113,12 @@ impl Stacklets {
         self
     }
 
-    // The frame at a base goes, with all above it.
-    pub fn pop(mut self, base: u16) -> Stacklets
-        ensures { λ r. ⌜ topsOf r ≡ poppedTops (topsOf self) base ⌝ }
+    // The frame at a base, of so many words, is given back: its words are cleared, and it goes with all above it.
+    pub fn pop(mut self, words: &mut [u32], base: u16, size: u8) -> Stacklets
+        ensures tops { λ r. ⌜ topsOf r ≡ poppedTops (topsOf self) base ⌝ }
+        ensures words { λ r. ⌜ now (words .exit) ≡ wiped (now (words .entry)) base size ⌝ }
     {
+        wipe_frame(words, base, size);
         let x = (base / 64) as usize;
         if x < 16 {
             self.tops[x] = (base % 64) as u8;
@@ -159,6 +162,13 @@ pub fn lay_frame(words: &mut [u32], base: u16, size: u8, from: u16, given: u8)
     );
 }
 
+// The words of the frame at a base are cleared.
+pub fn wipe_frame(words: &mut [u32], base: u16, size: u8)
+    ensures { λ r. ⌜ now (words .exit) ≡ wiped (now (words .entry)) base size ⌝ }
+{
+    wipe(words, base as usize, size as usize);
+}
+
 // A slot of a frame: the word so many behind its base, 0 where there is none.
 pub fn slot(words: &[u32], base: u16, k: u8) -> u32
     ensures { λ r. ⌜ r ≡ slotOf (now (words .entry)) base k ⌝ }
@@ -198,6 +208,29 @@ fn lay(words: &mut [u32], base: usize, n: usize, arguments: &[u32])
     while i < n {
         let v = word(arguments, i);
         put(words, base + i, v);
+        i = i + 1;
+    }
+}
+
+// The lesser of two numbers.
+fn lesser(a: usize, b: usize) -> usize
+    ensures { λ r. ⌜ (r ≤ a) × (r ≤ b) × ((r ≡ a) ⊎ (r ≡ b)) ⌝ }
+{
+    if a < b {
+        return a;
+    }
+    b
+}
+
+// n words at a base become 0, as far as there are words. One test before the loop stands for one at each word.
+fn wipe(words: &mut [u32], base: usize, n: usize)
+    requires { ⌜ (base ≤ 65535) × (n ≤ 255) ⌝ }
+    ensures { λ r. ⌜ now (words .exit) ≡ wiped (now (words .entry)) base n ⌝ }
+{
+    let end = lesser(base + n, words.len());
+    let mut i = base;
+    while i < end {
+        words[i] = 0;
         i = i + 1;
     }
 }

@@ -3,10 +3,12 @@ use crate::SIZE;
 use crate::lines::put_top;
 use crate::lines::top_at;
 use stacklets::lay_frame;
+use stacklets::wipe_frame;
 ghost use mathlib.Core.Bool.{false};
+ghost use mathlib.Core.Path.{_≡_};
 ghost use Prim.Native.Nat.{_%_};
 ghost use Rattle.stacklets.specs.Tops.{baseOn, fitsOn, isTopmost};
-ghost use Rattle.stacklets.specs.Frames.{argumentsAt};
+ghost use Rattle.stacklets.specs.Frames.{argumentsAt, wiped};
 ghost use Rattle.tables.specs.Change.{Reads, Becomes, Pushes, pushes, pops};
 
 // Where the next frame on a stacklet starts.
@@ -56,9 +58,12 @@ pub fn push_frame(tables: &mut [u8], words: &mut [u32], x: u8, slots: u8, from: 
     }
 }
 
-// The frame at a base goes, with all above it.
-pub fn pop_frame(tables: &mut [u8], base: u16)
-    ensures { λ _. ⌜ Becomes (now (tables .entry)) (now (tables .exit)) (pops (base % 1024)) ⌝ }
+// The frame at a base, of so many words, is given back: its words are cleared, and it goes with all above it. The top of its stacklet is that
+// of the base's remainder.
+pub fn pop_frame(tables: &mut [u8], words: &mut [u32], base: u16, slots: u8)
+    ensures tops { λ _. ⌜ Becomes (now (tables .entry)) (now (tables .exit)) (pops (base % 1024)) ⌝ }
+    ensures words { λ _. ⌜ now (words .exit) ≡ wiped (now (words .entry)) base slots ⌝ }
 {
+    wipe_frame(words, base, slots);
     put_top(tables, (base % 1024 / 64) as u8, (base % 64) as u8);
 }

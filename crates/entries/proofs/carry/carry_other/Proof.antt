@@ -167,7 +167,7 @@ returns-6 : tie.Need-returns-6
 unfolding carriedOf
 returns-6 c =
     let args' = c .before .before .before .before .before .before .before .before .before .before .before .before .before .before .before .args in
-    λ starts parameters memory allowance. rw (c .before .before .before .before .before .before .before .before .done3 .given .1) (ap accepted (c .before .before .before .before .return-value .ensures memory _ (args' .place)))
+    λ starts parameters memory allowance. rw (c .before .before .before .before .before .before .before .before .done3 .given .1) (ap accepted (c .before .before .before .before .return-value .ensures starts parameters memory allowance _ (args' .place)))
 
 same-length-10 : tie.Need-same-length-10
 same-length-10 c = search needs

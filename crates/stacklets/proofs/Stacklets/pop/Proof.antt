@@ -14,6 +14,9 @@ outside : (s : Stacklets) (base : ℕ) → length (s .tops) ≡ 16 → 16 ≤ ba
 unfolding topsOf
 outside s base e h = sym (set-out (s .tops) (base / 64) (base % 64) (omega arith))
 
+wipe-frame-requires : tie.Need-wipe-frame-requires
+wipe-frame-requires c κs = search needs
+
 cast-x : tie.Need-cast-x
 cast-x c = search needs
 
@@ -23,12 +26,18 @@ cast-self c = search needs
 element-write-self : tie.Need-element-write-self
 element-write-self c = search needs
 
+same-length : tie.Need-same-length
+same-length c = search needs
+
 returns : tie.Need-returns
 unfolding topsOf
-returns c = refl
+returns c = (refl, c .before .before .before .wipe-frame .ensures)
+
+same-length-2 : tie.Need-same-length-2
+same-length-2 c = search needs
 
 returns-2 : tie.Need-returns-2
-returns-2 c = outside (c .before .args .t1) (c .before .args .base) (search needs) (c .if1 .left)
+returns-2 c = (outside (c .before .before .before .before .before .before .args .t1) (c .before .before .before .before .before .before .args .base) (search needs) (c .if1 .left), c .before .before .before .wipe-frame .ensures)
 
 pub pop-spec : {M : Type 1} → statement M
-pop-spec = tie.close (tie.spec cast-x cast-self element-write-self returns returns-2)
+pop-spec = tie.close (tie.spec wipe-frame-requires cast-x cast-self element-write-self same-length returns same-length-2 returns-2)
