@@ -7,10 +7,12 @@ use Rattle.run.specs.declared.Ran.{Ran}
 use Rattle.run.specs.Promise.{RunPromise}
 use Rattle.abi.specs.Words.{answerWords, countWords, Written}
 
--- there is what `run` gives, which keeps its promise, and the words tell its answer, its counts and its threads' statuses
+-- there is what `run` gives, which keeps its promise, and the words tell its answer, its counts, its threads' statuses and the words of its
+-- stacklets
 pub record RunTold (i : Input) (schedule log memoryAfter logAfter : List ℕ) (w : Written) : Type 0 where
   pub ran : Ran
   pub promise : RunPromise i schedule log ran memoryAfter logAfter
   pub answered : w .answer ≡ answerWords (ran .answer)
   pub counted : w .counts ≡ countWords (ran .counts)
   pub states : w .statuses ≡ ran .statuses
+  pub words : w .stacklets ≡ ran .words

@@ -16,11 +16,13 @@ answerWords (Open units) = 3 ∷ units ∷ 0 ∷ 0 ∷ []
 abbrev pub countWords : Census → List ℕ
 countWords c = c .free ∷ c .running ∷ c .ready ∷ c .suspended ∷ c .waiting ∷ c .lent ∷ []
 
--- the words that a call has written: the answer's, the counts' and the statuses'
+-- the words that a call has written: the answer's, the counts', the statuses' and the stacklets'
 pub record Written : Type 0 where
   pub answer : List ℕ
   pub counts : List ℕ
   pub statuses : List ℕ
+  -- the words of the stacklets
+  pub stacklets : List ℕ
 
-abbrev pub written : List ℕ → List ℕ → List ℕ → Written
-written answer counts statuses = record { answer = answer; counts = counts; statuses = statuses }
+abbrev pub written : List ℕ → List ℕ → List ℕ → List ℕ → Written
+written answer counts statuses stacklets = record { answer = answer; counts = counts; statuses = statuses; stacklets = stacklets }

@@ -24,7 +24,8 @@ pub extern "C" fn hofnulda_check(image: &[u8]) -> u8
 
 // A run by a schedule. The answer's words: 0 and the number of a refused run; 1, result and units; 2, number, thread and offset;
 // or 3 and the units. The thread records are counted by their states: free, running, ready, suspended, waiting, lent. The status of each is
-// told by its number, its place among these.
+// told by its number, its place among these. Last come the 1,024 words of the stacklets, as the run left them. Of a refused run all but the
+// answer is Start's.
 #[no_mangle]
 pub extern "C" fn hofnulda_run(
     image: &[u8],
@@ -38,8 +39,9 @@ pub extern "C" fn hofnulda_run(
     answer: &mut [u32; 4],
     counts: &mut [usize; 6],
     statuses: &mut [u8; 32],
+    words: &mut [u32; 1024],
 )
-    ensures { λ _. ⌜ RunTold (inputOf (now (image .entry)) cores (now (arguments .entry)) (now (parameters .entry)) (now (memory .entry)) allowance) (now (schedule .entry)) (now (log .entry)) (now (memory .exit)) (now (log .exit)) (written (now (answer .exit)) (now (counts .exit)) (now (statuses .exit))) ⌝ }
+    ensures { λ _. ⌜ RunTold (inputOf (now (image .entry)) cores (now (arguments .entry)) (now (parameters .entry)) (now (memory .entry)) allowance) (now (schedule .entry)) (now (log .entry)) (now (memory .exit)) (now (log .exit)) (written (now (answer .exit)) (now (counts .exit)) (now (statuses .exit)) (now (words .exit))) ⌝ }
 {
     let ran = run::run(
         image,
@@ -57,4 +59,6 @@ pub extern "C" fn hofnulda_run(
     *counts = count_words(counted);
     let states = ran.statuses;
     *statuses = states;
+    let stacklets = ran.words;
+    *words = stacklets;
 }

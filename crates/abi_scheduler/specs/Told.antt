@@ -14,4 +14,5 @@ pub record ScheduledTold (i : Input) (before memoryAfter after : List ℕ) (w : 
   pub answered : w .answer ≡ answerWords (ran .answer)
   pub counted : w .counts ≡ countWords (ran .counts)
   pub states : w .statuses ≡ ran .statuses
+  pub words : w .stacklets ≡ ran .words
   pub taken : used ≡ ran .used

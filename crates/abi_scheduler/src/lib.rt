@@ -19,8 +19,9 @@ pub extern "C" fn hofnulda_scheduled(
     answer: &mut [u32; 4],
     counts: &mut [usize; 6],
     statuses: &mut [u8; 32],
+    words: &mut [u32; 1024],
 ) -> usize
-    ensures { λ used. ⌜ ScheduledTold (inputOf (now (image .entry)) cores (now (arguments .entry)) (now (parameters .entry)) (now (memory .entry)) allowance) (now (buffer .entry)) (now (memory .exit)) (now (buffer .exit)) (written (now (answer .exit)) (now (counts .exit)) (now (statuses .exit))) used ⌝ }
+    ensures { λ used. ⌜ ScheduledTold (inputOf (now (image .entry)) cores (now (arguments .entry)) (now (parameters .entry)) (now (memory .entry)) allowance) (now (buffer .entry)) (now (memory .exit)) (now (buffer .exit)) (written (now (answer .exit)) (now (counts .exit)) (now (statuses .exit)) (now (words .exit))) used ⌝ }
 {
     let ran = scheduler::run(
         image,
@@ -37,5 +38,7 @@ pub extern "C" fn hofnulda_scheduled(
     *counts = count_words(counted);
     let states = ran.statuses;
     *statuses = states;
+    let stacklets = ran.words;
+    *words = stacklets;
     ran.used
 }
