@@ -38,6 +38,7 @@ extern "C" {
         answer: *mut [u32; 4],
         counts: *mut [usize; 6],
         statuses: *mut [u8; 32],
+        words: *mut [u32; 1024],
     );
     fn hofnulda_scheduled(
         image: *const u8,
@@ -55,6 +56,7 @@ extern "C" {
         answer: *mut [u32; 4],
         counts: *mut [usize; 6],
         statuses: *mut [u8; 32],
+        words: *mut [u32; 1024],
     ) -> usize;
     fn hofnulda_hex_write(image: *const u8, image_length: usize, text: *mut u8, text_length: usize, answer: *mut [usize; 2]);
     fn hofnulda_hex_read(text: *const u8, text_length: usize, bytes: *mut u8, bytes_length: usize, answer: *mut [usize; 2]);
@@ -86,22 +88,35 @@ pub fn serial(fed: Fed, memory: &mut [u32]) -> PlainAnswer {
     }
 }
 
-fn told(answer: [u32; 4], counts: [usize; 6], statuses: [u8; 32]) -> Ran {
-    let answer = match answer {
-        [0, number, _, _] => return Ran::refused(number as u8),
+/// What the answer's words say.
+fn answered(answer: [u32; 4]) -> Answer {
+    match answer {
+        [0, number, _, _] => Answer::Refused(number as u8),
         [1, result, units, _] => Answer::Finished { result, units },
         [2, number, thread, offset] => {
             Answer::Faulted { number: number as u8, thread: thread as u8, offset: offset as u16 }
         }
         [_, units, _, _] => Answer::Open { units },
-    };
-    Ran { answer, counts, statuses }
+    }
+}
+
+/// Outputs before a call: no run ends with these, so that one that is not written shows.
+fn unwritten() -> Ran {
+    Ran { answer: Answer::Refused(0), counts: [33; 6], statuses: [u8::MAX; 32], words: [u32::MAX; 1024] }
+}
+
+/// A run's outputs with its answer; of a refused run the answer alone.
+fn told(answer: [u32; 4], mut ran: Ran) -> Ran {
+    ran.answer = answered(answer);
+    if let Answer::Refused(number) = ran.answer {
+        return Ran::refused(number);
+    }
+    ran
 }
 
 pub fn run(fed: Fed, memory: &mut [u32], schedule: &[u8], log: &mut [u8]) -> Ran {
     let mut answer = [0; 4];
-    let mut counts = [0; 6];
-    let mut statuses = [0; 32];
+    let mut ran = unwritten();
     unsafe {
         hofnulda_run(
             fed.image.as_ptr(),
@@ -119,18 +134,18 @@ pub fn run(fed: Fed, memory: &mut [u32], schedule: &[u8], log: &mut [u8]) -> Ran
             log.as_mut_ptr(),
             log.len(),
             &mut answer,
-            &mut counts,
-            &mut statuses,
+            &mut ran.counts,
+            &mut ran.statuses,
+            &mut ran.words,
         );
     }
-    told(answer, counts, statuses)
+    told(answer, ran)
 }
 
 /// The built-in scheduler, with the bytes of its buffer that it used.
 pub fn scheduled(fed: Fed, memory: &mut [u32], buffer: &mut [u8]) -> Housed {
     let mut answer = [0; 4];
-    let mut counts = [0; 6];
-    let mut statuses = [0; 32];
+    let mut ran = unwritten();
     let used = unsafe {
         hofnulda_scheduled(
             fed.image.as_ptr(),
@@ -146,11 +161,12 @@ pub fn scheduled(fed: Fed, memory: &mut [u32], buffer: &mut [u8]) -> Housed {
             buffer.as_mut_ptr(),
             buffer.len(),
             &mut answer,
-            &mut counts,
-            &mut statuses,
+            &mut ran.counts,
+            &mut ran.statuses,
+            &mut ran.words,
         )
     };
-    Housed { ran: told(answer, counts, statuses), used }
+    Housed { ran: told(answer, ran), used }
 }
 
 fn counted(answer: [usize; 2]) -> Result<usize, u8> {

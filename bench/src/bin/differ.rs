@@ -2,6 +2,10 @@
 //!
 //!     differ [CASES] [SEED]
 //!
+//! After each run by schedule and each run by the built-in scheduler these are compared: the answer, the number of records in each state, the
+//! state of each record, all 1,024 words of the stacklets, the memory, and the log or the entries written. Besides, so that what both have wrong
+//! alike is found too, a finished run of the proved crates must end as the serial run does and leave every word of the stacklets zero.
+//!
 //! It ends with a table of how often each number was met, and with status 1 at a difference or where a number was never met.
 #[path = "../library.rs"]
 mod library;
@@ -26,6 +30,9 @@ struct Tally {
     serial: u64,
     images: u64,
     scheduled: u64,
+    /// runs of either kind whose end has all words of the stacklets zero, and those that leave some
+    wiped: u64,
+    kept: u64,
 }
 
 fn digits(bytes: &[u8]) -> String {
@@ -41,6 +48,27 @@ fn differs(what: &str, case: &Case, bytes: &[u8], peer: String, library: String)
     println!("parameters {:?}\nmemory {:?}", case.parameters, case.memory);
     println!("second implementation: {peer}\nproved crates:         {library}");
     std::process::exit(1);
+}
+
+/// What a run gives, of the stacklets' words those that are not zero.
+fn said(ran: &Ran) -> String {
+    let words: Vec<(usize, u32)> = ran.words.iter().copied().enumerate().filter(|(_, word)| *word != 0).collect();
+    format!("{:?}, counts {:?}, statuses {:?}, stacklet words {words:?}", ran.answer, ran.counts, ran.statuses)
+}
+
+/// The first place at which two lists differ.
+fn place<T: PartialEq>(one: &[T], other: &[T]) -> Option<usize> {
+    one.iter().zip(other).position(|(x, y)| x != y)
+}
+
+/// The words of the stacklets at the end of a run by the proved crates.
+fn check_words(tally: &mut Tally, case: &Case, bytes: &[u8], ours: &Ran) {
+    let all_zero = ours.words == [0; 1024];
+    if matches!(ours.answer, Answer::Finished { .. }) && !all_zero {
+        differs("the stacklets of a finished run", case, bytes, "the same, and not all words zero".to_string(), said(ours));
+    }
+    tally.wiped += all_zero as u64;
+    tally.kept += !all_zero as u64;
 }
 
 fn compare_images(tally: &mut Tally, image: &[u8]) {
@@ -97,43 +125,55 @@ fn compare_runs(tally: &mut Tally, case: &Case, schedule: &[u8], log: &[u8], ser
     let peer = run(case.fed(), &mut a, schedule, &mut c);
     let ours = library::run(case.fed(), &mut b, schedule, &mut d);
     if peer != ours || a != b || c != d {
-        let place = c.iter().zip(&d).position(|(x, y)| x != y);
-        let say = format!("{ours:?}, memory equal: {}, first log byte that differs: {place:?}", a == b);
-        differs("a run", case, shortest(case, schedule, log), format!("{peer:?}"), say);
+        let say = format!(
+            "{}, memory equal: {}, first log byte that differs: {:?}, first stacklet word that differs: {:?}",
+            said(&ours),
+            a == b,
+            place(&c, &d),
+            place(&peer.words, &ours.words)
+        );
+        differs("a run", case, shortest(case, schedule, log), said(&peer), say);
     }
     tally.runs += 1;
-    match peer.answer {
-        Answer::Refused(number) => {
-            tally.met[number as usize] += 1;
-            if a != case.memory || c != log {
-                differs("buffers of a refused run", case, schedule, String::new(), String::new());
-            }
-            return peer;
+    if let Answer::Refused(number) = ours.answer {
+        tally.met[number as usize] += 1;
+        if b != case.memory || d != log {
+            differs("buffers of a refused run", case, schedule, String::new(), String::new());
         }
-        Answer::Finished { result, units } => {
-            tally.finished += 1;
-            // demand 3, as far as a test can show it
-            let mut memory = case.memory.clone();
-            plain(case.fed(), &mut memory);
-            if serial != (PlainAnswer::Finished { result, units }) || memory != a || peer.counts[0] != 32 {
-                differs("demand 3", case, schedule, format!("{serial:?}"), format!("{peer:?}"));
-            }
-        }
-        Answer::Faulted { .. } => {
-            tally.faulted += 1;
-            if matches!(serial, PlainAnswer::Finished { .. }) {
-                differs("demand 3", case, schedule, format!("{serial:?}"), format!("{peer:?}"));
-            }
-        }
-        Answer::Open { .. } => tally.open += 1,
+        return ours;
     }
+    check_words(tally, case, schedule, &ours);
+    check_end(tally, case, schedule, &ours, &b, serial);
     let count = entries(schedule).unwrap_or(0);
     tally.entries += count as u64;
-    for byte in &c[..count] {
+    for byte in &d[..count] {
         tally.met[*byte as usize] += 1;
         tally.accepted += (*byte == 0) as u64;
     }
-    peer
+    ours
+}
+
+/// Demand 3, as far as a test can show it, of a run's end by the proved crates.
+fn check_end(tally: &mut Tally, case: &Case, schedule: &[u8], ours: &Ran, after: &[u32], serial: PlainAnswer) {
+    let holds = match ours.answer {
+        Answer::Finished { result, units } => {
+            tally.finished += 1;
+            let mut memory = case.memory.clone();
+            plain(case.fed(), &mut memory);
+            serial == (PlainAnswer::Finished { result, units }) && memory == after && ours.counts[0] == 32
+        }
+        Answer::Faulted { .. } => {
+            tally.faulted += 1;
+            !matches!(serial, PlainAnswer::Finished { .. })
+        }
+        _ => {
+            tally.open += 1;
+            true
+        }
+    };
+    if !holds {
+        differs("demand 3", case, schedule, format!("{serial:?}"), said(ours));
+    }
 }
 
 fn compare_scheduled(tally: &mut Tally, random: &mut Random, case: &Case) {
@@ -145,22 +185,30 @@ fn compare_scheduled(tally: &mut Tally, random: &mut Random, case: &Case) {
     let peer = house(case.fed(), &mut a, &mut c);
     let ours = library::scheduled(case.fed(), &mut b, &mut d);
     if peer != ours || a != b || c != d {
-        let place = c.iter().zip(&d).position(|(x, y)| x != y);
-        let say = format!("{ours:?}, memory equal: {}, first byte that differs: {place:?} of {length}", a == b);
-        differs("a run by the built-in scheduler", case, &c[..peer.used], format!("{peer:?}"), say);
+        let say = format!(
+            "{}, bytes used {}, memory equal: {}, first byte that differs: {:?} of {length}, first stacklet word that differs: {:?}",
+            said(&ours.ran),
+            ours.used,
+            a == b,
+            place(&c, &d),
+            place(&peer.ran.words, &ours.ran.words)
+        );
+        let also = format!("{}, bytes used {}", said(&peer.ran), peer.used);
+        differs("a run by the built-in scheduler", case, &c[..peer.used], also, say);
     }
     tally.scheduled += 1;
-    if let Answer::Refused(number) = peer.ran.answer {
+    if let Answer::Refused(number) = ours.ran.answer {
         tally.met[number as usize] += 1;
         return;
     }
+    let entries = d[..ours.used].to_vec();
+    check_words(tally, case, &entries, &ours.ran);
     // "it writes the accepted or faulting entries it uses, and equals the run by them"
-    let entries = c[..peer.used].to_vec();
     let serial = plain(case.fed(), &mut case.memory.clone());
     let log = vec![0xAA; entries.len()];
     let by_entries = compare_runs(tally, case, &entries, &log, serial);
-    if by_entries != peer.ran {
-        differs("a run by the entries written", case, &entries, format!("{peer:?}"), format!("{by_entries:?}"));
+    if by_entries != ours.ran {
+        differs("a run by the entries written", case, &entries, said(&by_entries), said(&ours.ran));
     }
 }
 
@@ -203,6 +251,7 @@ fn main() {
     println!("images {}, serial runs {}, runs by schedule {}", tally.images, tally.serial, tally.runs);
     println!("runs by the built-in scheduler {}", tally.scheduled);
     println!("finished {}, faulted {}, open {}", tally.finished, tally.faulted, tally.open);
+    println!("stacklets: runs that end with all 1,024 words zero {}, with words left {}", tally.wiped, tally.kept);
     println!("entries {}, accepted {}", tally.entries, tally.accepted);
     let mut never = false;
     for (number, count) in tally.met.iter().enumerate().skip(1) {

@@ -260,7 +260,7 @@ impl Machine {
                     return self.fault(12, t);
                 }
                 self.left -= weight;
-                self.give_back(core, t, thread, self.slot(thread.base, word.byte(1)));
+                self.give_back(job, core, t, thread, self.slot(thread.base, word.byte(1)));
             }
         }
         0
@@ -277,9 +277,10 @@ impl Machine {
         }
     }
 
-    /// A return with a value.
+    /// A return with a value, which was read before its frame is wiped.
     #[inline]
-    fn give_back(&mut self, core: u8, t: u8, thread: Thread, value: u32) {
+    fn give_back(&mut self, job: &Job, core: u8, t: u8, thread: Thread, value: u32) {
+        self.wipe(job.program.row(thread.routine), thread.base);
         let stacklet = (thread.base / 64) as usize & 15;
         let low = (thread.base % 64) as u8;
         self.tops[stacklet] = low;
@@ -392,6 +393,16 @@ impl Machine {
         }
     }
 
+    /// A frame's words are cleared. The loop goes over sixteen words whatever the frame's size, so that it has no branch.
+    #[inline]
+    fn wipe(&mut self, row: Row, base: u16) {
+        for (i, word) in slots(&mut self.words, base).iter_mut().enumerate() {
+            if i < row.slots as usize {
+                *word = 0;
+            }
+        }
+    }
+
     /// An entry `02 c`.
     pub fn take(&mut self, core: u8) -> u8 {
         if self.over {
@@ -455,7 +466,7 @@ impl Machine {
 
     /// What a run tells of it.
     pub fn ran(&self) -> Ran {
-        Ran { answer: self.answer(), counts: self.counts(), statuses: self.statuses() }
+        Ran { answer: self.answer(), counts: self.counts(), statuses: self.statuses(), words: self.stacklets() }
     }
 
     /// The records in each state; those that are free, mostly the most, apart.
@@ -470,6 +481,11 @@ impl Machine {
         }
         counts[0] = free;
         counts
+    }
+
+    /// The words of the stacklets.
+    fn stacklets(&self) -> [u32; 1024] {
+        *self.words.first_chunk().expect("there are 1,024")
     }
 
     /// The state of each record.

@@ -13,6 +13,8 @@ pub mod run;
 #[cfg(test)]
 mod hex_tests;
 #[cfg(test)]
+mod stacklet_tests;
+#[cfg(test)]
 mod tests;
 
 /// How a run by schedule or a house run ended.

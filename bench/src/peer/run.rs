@@ -6,18 +6,19 @@ use super::Answer;
 
 pub const LONGEST: usize = 32_768;
 
-/// The answer, the number of records in each of document 01's states, and the state of each record: its place among these, free being 0.
-/// Those of a refused run say nothing.
+/// The answer, the number of records in each of document 01's states, the state of each record (its place among these, free being 0), and the
+/// words of the stacklets. All but the answer of a refused run say nothing.
 #[derive(Clone, Copy, Debug, PartialEq, Eq)]
 pub struct Ran {
     pub answer: Answer,
     pub counts: [usize; 6],
     pub statuses: [u8; 32],
+    pub words: [u32; 1024],
 }
 
 impl Ran {
     pub fn refused(number: u8) -> Ran {
-        Ran { answer: Answer::Refused(number), counts: [0; 6], statuses: [0; 32] }
+        Ran { answer: Answer::Refused(number), counts: [0; 6], statuses: [0; 32], words: [0; 1024] }
     }
 }
 

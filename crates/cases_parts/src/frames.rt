@@ -1,7 +1,7 @@
 // Stacklets, over 1,024 words that are 7 at first: `frame new` has no frame; `frame arguments S SIZE ARGUMENTS` and `frame push S SIZE FROM
-// COUNT` push a frame on stacklet S, `frame drop BASE SIZE` gives it back, and `frame set BASE K VALUE` sets a slot. `frame top S`, `frame fits S SIZE`
-// and `frame words BASE` print the words behind the first, and the answer; of words, five from a base on. `frame highest BASE SIZE` prints
-// whether a frame is the topmost.
+// COUNT` push a frame on stacklet S, `frame drop BASE SIZE` pops it, and `frame set BASE K VALUE` sets a slot. `frame top S`, `frame fits S
+// SIZE` and `frame words BASE` print the words behind the first, and the answer; of words, five from a base on. `frame highest BASE SIZE`
+// prints whether a frame is the topmost.
 use stacklets::Stacklets;
 
 const NUMBER: usize = 2;

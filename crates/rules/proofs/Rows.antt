@@ -18,6 +18,8 @@ use Rattle.rules.specs.Runs.{runFrom, logsFrom}
 use Rattle.rules.specs.Row.{each, toldByRules, toldByHand}
 use Rattle.rules.specs.Rows.{rows}
 use Rattle.rules.specs.RowsFree.{eachFree, freeRows}
+use Rattle.rules.specs.WordsRow.{eachWords}
+use Rattle.rules.specs.RowsWords.{wordsRows}
 
 pub rows-hold : each toldByRules rows ≡ each toldByHand rows
 unfolding decoded startOf rowsOf startsUpTo appended fitsOn pushedTops argumentsAt framed pushedWords run anyPending unlessPending provided forking effectOf isPending withPending mayStore mayLoad cutAt startState effectAt leaves goesAbove placeOf born forkOn forkWith forkOf stackletsWithout wakes statusAfter readyAfter returnToParent returnOf carriedOf turnOf stepOf takeInto takeOf isSeed stolenOf stealOf enableOf entryOf runFrom logsFrom
@@ -26,3 +28,7 @@ rows-hold = refl
 pub free-rows-hold : eachFree freeRows ≡ freeRows
 unfolding decoded startOf rowsOf startsUpTo appended fitsOn pushedTops argumentsAt framed pushedWords run anyPending unlessPending provided forking effectOf isPending withPending mayStore mayLoad cutAt startState effectAt leaves goesAbove placeOf born forkOn forkWith forkOf stackletsWithout wakes statusAfter readyAfter returnToParent returnOf carriedOf turnOf stepOf takeInto takeOf isSeed stolenOf stealOf enableOf entryOf runFrom logsFrom
 free-rows-hold = refl
+
+pub words-rows-hold : eachWords wordsRows ≡ wordsRows
+unfolding decoded startOf rowsOf startsUpTo appended fitsOn pushedTops argumentsAt framed pushedWords run anyPending unlessPending provided forking effectOf isPending withPending mayStore mayLoad cutAt startState effectAt leaves goesAbove placeOf born forkOn forkWith forkOf stackletsWithout wakes statusAfter readyAfter returnToParent returnOf carriedOf turnOf stepOf takeInto takeOf isSeed stolenOf stealOf enableOf entryOf runFrom logsFrom
+words-rows-hold = refl

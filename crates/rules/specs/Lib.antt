@@ -26,3 +26,6 @@ pub mod RowsCommands
 pub mod RowsPending
 pub mod Rows
 pub mod RowsFree
+-- The same of the stacklets' words, after each entry.
+pub mod WordsRow
+pub mod RowsWords
