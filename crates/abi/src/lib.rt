@@ -43,7 +43,7 @@ pub extern "C" fn hofnulda_run(
 )
     ensures { λ _. ⌜ RunTold (inputOf (now (image .entry)) cores (now (arguments .entry)) (now (parameters .entry)) (now (memory .entry)) allowance) (now (schedule .entry)) (now (log .entry)) (now (memory .exit)) (now (log .exit)) (written (now (answer .exit)) (now (counts .exit)) (now (statuses .exit)) (now (words .exit))) ⌝ }
 {
-    let ran = run::run(
+    let ran = run::run_into(
         image,
         cores,
         arguments,
@@ -52,6 +52,7 @@ pub extern "C" fn hofnulda_run(
         allowance,
         schedule,
         log,
+        words,
     );
     let told = ran.answer;
     *answer = answer_words(told);
@@ -59,6 +60,4 @@ pub extern "C" fn hofnulda_run(
     *counts = count_words(counted);
     let states = ran.statuses;
     *statuses = states;
-    let stacklets = ran.words;
-    *words = stacklets;
 }

@@ -23,7 +23,7 @@ pub extern "C" fn hofnulda_scheduled(
 ) -> usize
     ensures { λ used. ⌜ ScheduledTold (inputOf (now (image .entry)) cores (now (arguments .entry)) (now (parameters .entry)) (now (memory .entry)) allowance) (now (buffer .entry)) (now (memory .exit)) (now (buffer .exit)) (written (now (answer .exit)) (now (counts .exit)) (now (statuses .exit)) (now (words .exit))) used ⌝ }
 {
-    let ran = scheduler::run(
+    let ran = scheduler::run_into(
         image,
         cores,
         arguments,
@@ -31,6 +31,7 @@ pub extern "C" fn hofnulda_scheduled(
         memory,
         allowance,
         buffer,
+        words,
     );
     let told = ran.answer;
     *answer = answer_words(told);
@@ -38,7 +39,5 @@ pub extern "C" fn hofnulda_scheduled(
     *counts = count_words(counted);
     let states = ran.statuses;
     *statuses = states;
-    let stacklets = ran.words;
-    *words = stacklets;
     ran.used
 }

@@ -7,6 +7,8 @@ use Rattle.thread.specs.Thread.{statusNumber}
 use Rattle.census.specs.declared.Census.{Census}
 use Rattle.census.specs.Counted.{censusOf}
 use Rattle.rules.specs.State.{State}
+use Rattle.run.specs.declared.Shown.{Shown}
+use Rattle.run.specs.declared.Ran.{Ran}
 
 -- the number of each record's status
 unfoldable pub statusesOf : List Thread → List ℕ
@@ -20,3 +22,7 @@ pub record MachineIs (s : State) (census : Census) (numbers stacklets : List ℕ
   pub statuses : numbers ≡ statusesOf (s .threads)
   -- the words of the stacklets
   pub words : stacklets ≡ s .store .words
+
+-- what a run gives, where the words stand in an array of the caller's
+abbrev pub ranWith : Shown → List ℕ → Ran
+ranWith r words = record { answer = r .answer; counts = r .counts; statuses = r .statuses; words = words }

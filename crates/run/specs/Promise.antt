@@ -1,4 +1,4 @@
--- What `run` promises: what it gives, and the demands of it.
+-- What `run` and `run_into` promise: what they give, and the demands of it.
 use mathlib.Core.List.{List}
 use mathlib.Core.Path.{_≡_}
 use Prim.Native.Nat.{ℕ}

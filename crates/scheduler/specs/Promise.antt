@@ -1,4 +1,4 @@
--- What `run` promises.
+-- What `run` and `run_into` promise.
 use mathlib.Core.Bool.{true, false}
 use mathlib.Core.List.{List, []}
 use mathlib.Core.Logic.{_⊎_}
@@ -18,6 +18,7 @@ use Rattle.demands.specs.Demands.{Demand3, serialIn}
 use Rattle.demands.specs.WholeRun.{SchedulerNumbers}
 use Rattle.run.specs.Machine.{MachineIs}
 use Rattle.rounds.specs.Rounds.{Progress, isWritten, scheduledFrom, filled}
+use Rattle.scheduler.specs.declared.ScheduleShown.{ScheduleShown}
 use Rattle.scheduler.specs.declared.Scheduled.{Scheduled}
 
 -- 23, the image's, 24 and 25, this of the words only: the tests of a run by the empty schedule, which needs no log
@@ -60,6 +61,10 @@ pub record Ends (p : Progress) (used size : ℕ) : Type 0 where
       ⊎ (((p .moved ≡ false) × ((t : ℕ) → t < 32 → ¬ (IsSuspended (p .state) t))) ⊎ ((size < used + 3) ⊎ (32768 < used + 3)))
   pub within : used ≤ size
   pub most : used ≤ 32768
+
+-- what the scheduler gives, where the words stand in an array of the caller's
+abbrev pub scheduledWith : ScheduleShown → List ℕ → Scheduled
+scheduledWith r words = record { answer = r .answer; counts = r .counts; statuses = r .statuses; words = words; used = r .used }
 
 pub record SchedulerPromise (i : Input) (before : List ℕ) (r : Scheduled) (memoryAfter after : List ℕ) : Type 0 where
   pub refused : (refusalIn i ≡ 0 → ⊥) → IsRefusedSchedule i (refusalIn i) before r memoryAfter after

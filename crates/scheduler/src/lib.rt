@@ -12,9 +12,19 @@ ghost use Prim.Native.Nat.{ℕ};
 ghost use Rattle.start.specs.Start.{Starts};
 ghost use Rattle.begin.specs.Begins.{Begins};
 ghost use Rattle.demands.specs.Input.{inputOf};
-ghost use Rattle.scheduler.specs.Promise.{SchedulerPromise};
+ghost use Rattle.scheduler.specs.Promise.{SchedulerPromise, scheduledWith};
 
-// The answer, with the thread records in each state, as the run left them, and the words of its stacklets.
+// The answer, with the thread records in each state, as the run left them.
+pub struct ScheduleShown {
+    pub answer: RunAnswer,
+    pub counts: Census,
+    // the number of each record's status
+    pub statuses: [u8; 32],
+    // the bytes of the entries at the buffer's front
+    pub used: usize,
+}
+
+// The same, with the words of its stacklets.
 pub struct Scheduled {
     pub answer: RunAnswer,
     pub counts: Census,
@@ -52,8 +62,61 @@ fn begin_alone(
     )
 }
 
-// A run by the scheduler's own entries. It takes any input. Two of the wrong schedulers that its contract rules out: one that tries with 2
+// A run by the scheduler's own entries, whose stacklets' words at its end are written into an array of the caller's. It takes any input. Two of the wrong schedulers that its contract rules out: one that tries with 2
 // bytes left, and one that goes on to a second seed where the first is refused.
+pub fn run_into(
+    image: &[u8],
+    cores: u8,
+    arguments: &[u32],
+    parameters: &[u32],
+    memory: &mut [u32],
+    allowance: u32,
+    buffer: &mut [u8],
+    words: &mut [u32; 1024],
+) -> ScheduleShown
+    ensures { λ r. ⌜ SchedulerPromise (inputOf (now (image .entry)) cores (now (arguments .entry)) (now (parameters .entry)) (now (memory .entry)) allowance) (now (buffer .entry)) (scheduledWith r (now (words .exit))) (now (memory .exit)) (now (buffer .exit)) ⌝ }
+{
+    let mut tables = [0u8; 712];
+    let mut store = [0u32; 1024];
+    let begun = begin_alone(
+        image,
+        cores,
+        arguments,
+        parameters,
+        memory,
+        &mut tables,
+        &mut store,
+    );
+    if begun.number != 0 {
+        *words = store;
+        return ScheduleShown {
+            answer: RunAnswer::Refused(begun.number),
+            counts: counts(&tables),
+            statuses: statuses(&tables),
+            used: 0,
+        };
+    }
+    let starts = begun.starts;
+    let used = play_rounds(
+        image,
+        &starts,
+        parameters,
+        allowance,
+        &mut tables,
+        &mut store,
+        memory,
+        buffer,
+    );
+    *words = store;
+    ScheduleShown {
+        answer: answer(&tables),
+        counts: counts(&tables),
+        statuses: statuses(&tables),
+        used,
+    }
+}
+
+// The same with the words in what is given.
 pub fn run(
     image: &[u8],
     cores: u8,
@@ -65,42 +128,25 @@ pub fn run(
 ) -> Scheduled
     ensures { λ r. ⌜ SchedulerPromise (inputOf (now (image .entry)) cores (now (arguments .entry)) (now (parameters .entry)) (now (memory .entry)) allowance) (now (buffer .entry)) r (now (memory .exit)) (now (buffer .exit)) ⌝ }
 {
-    let mut tables = [0u8; 712];
     let mut words = [0u32; 1024];
-    let begun = begin_alone(
+    let shown = run_into(
         image,
         cores,
         arguments,
         parameters,
         memory,
-        &mut tables,
-        &mut words,
-    );
-    if begun.number != 0 {
-        return Scheduled {
-            answer: RunAnswer::Refused(begun.number),
-            counts: counts(&tables),
-            statuses: statuses(&tables),
-            words,
-            used: 0,
-        };
-    }
-    let starts = begun.starts;
-    let used = play_rounds(
-        image,
-        &starts,
-        parameters,
         allowance,
-        &mut tables,
-        &mut words,
-        memory,
         buffer,
+        &mut words,
     );
+    let told = shown.answer;
+    let counted = shown.counts;
+    let states = shown.statuses;
     Scheduled {
-        answer: answer(&tables),
-        counts: counts(&tables),
-        statuses: statuses(&tables),
+        answer: told,
+        counts: counted,
+        statuses: states,
         words,
-        used,
+        used: shown.used,
     }
 }

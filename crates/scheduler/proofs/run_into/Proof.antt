@@ -1,11 +1,11 @@
--- `scheduler::run` meets its contract. Assumes nothing.
+-- `scheduler::run_into` meets its contract. Assumes nothing.
 use native.Mathlib.Omega.{arith}
 use mathlib.Core.Path.{refl, _∙_}
 use Rattle.run.proofs.Telling.{shown}
 use Rattle.scheduler.proofs.Promising.{refuses, goes, schedules}
 use borrow.Author.Needs.{needs}
-use Rattle.scheduler.proofs.run.Statement.{statement}
-use Rattle.scheduler.proofs.run.Tie as tie
+use Rattle.scheduler.proofs.run_into.Statement.{statement}
+use Rattle.scheduler.proofs.run_into.Tie as tie
 
 slice-aggregate-begin-alone : tie.Need-slice-aggregate-begin-alone
 slice-aggregate-begin-alone c = search needs
@@ -84,8 +84,8 @@ returns-2 c =
     let sized = play-rounds' .kept .1 .1 .1 .1 .0 ∙ begin' .kept .1 .1 .1 .1 .1 .0 in
     schedules _ _ _ _ _ _ (begin' .ensures .0 _) (begin' .ensures .1) refl refl (if1' .left) (λ k. omega (arith, known' .given k)) _ _ _ _ _ (play-rounds' .ensures) (c .before .before .before .before .answer .ensures .means sized _ _) (shown _ _ _ _ _ sized (c .before .before .counts2 .ensures) (c .statuses2 .ensures))
 
-pub run-spec : {M : Type 1} → statement M
-run-spec =
+pub run-into-spec : {M : Type 1} → statement M
+run-into-spec =
     tie.close
     (tie.spec
     slice-aggregate-begin-alone

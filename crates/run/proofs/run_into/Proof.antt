@@ -1,12 +1,12 @@
--- `run::run` meets its contract. Assumes nothing.
+-- `run::run_into` meets its contract. Assumes nothing.
 use Rattle.run.proofs.Telling.{shown}
 use Rattle.run.proofs.Running.{refuses, ready, plays}
 use Rattle.run.proofs.RunDemand.{promised}
 use mathlib.Core.Path.{refl, _∙_}
 use native.Mathlib.Omega.{arith}
 use borrow.Author.Needs.{needs}
-use Rattle.run.proofs.run.Statement.{statement}
-use Rattle.run.proofs.run.Tie as tie
+use Rattle.run.proofs.run_into.Statement.{statement}
+use Rattle.run.proofs.run_into.Tie as tie
 
 slice-aggregate-begin : tie.Need-slice-aggregate-begin
 slice-aggregate-begin c = search needs
@@ -89,8 +89,8 @@ returns-2 c =
     let sized = play' .kept .1 .1 .1 .1 .1 .1 .0 ∙ begin' .kept .1 .1 .1 .1 .1 .1 .1 .0 in
     promised _ _ _ (λ k. omega (arith, known' .given k)) _ _ _ (plays _ _ _ _ _ _ _ _ (begin' .ensures .0 _) (begin' .ensures .1) refl refl (if1' .left) _ _ _ _ (play' .ensures) (c .before .before .before .before .answer .ensures .means sized _ _) (shown _ _ _ _ _ sized (c .before .before .counts2 .ensures) (c .statuses2 .ensures)))
 
-pub run-spec : {M : Type 1} → statement M
-run-spec =
+pub run-into-spec : {M : Type 1} → statement M
+run-into-spec =
     tie.close
     (tie.spec
     slice-aggregate-begin
