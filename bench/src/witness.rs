@@ -43,6 +43,8 @@ pub const WITNESSES: [Witness; 6] = [
                 "RowsPending",
                 "Rows",
                 "RowsFree",
+                "WordsRow",
+                "RowsWords",
             ],
         )],
     },

@@ -1,5 +1,7 @@
 // Runs, and what is printed of them.
+use crate::words;
 use run::Census;
+use run::Ran;
 use run::RunAnswer;
 use schedule::Counted;
 
@@ -34,7 +36,7 @@ fn print(format: usize, a: u32, b: u32, c: u32, d: u32) {
     print_wide(format, a as usize, b as usize, c as usize, d as usize);
 }
 
-fn print_answer(answer: RunAnswer) {
+pub fn print_answer(answer: RunAnswer) {
     match answer {
         RunAnswer::Refused(n) => print(REFUSED, n as u32, 0, 0, 0),
         RunAnswer::Finished { result, units } => print(FINISHED, result, units, 0, 0),
@@ -77,6 +79,30 @@ fn print_log(answer: RunAnswer, log: &[u8], schedule: &[u8]) {
     print_entries(log, schedule);
 }
 
+// A run on parameter words that are zero but for the last.
+pub fn run_on(
+    image: &[u8],
+    cores: u8,
+    arguments: &[u32],
+    memory: &mut [u32],
+    allowance: u32,
+    schedule: &[u8],
+    log: &mut [u8],
+) -> Ran {
+    let mut parameters = [0u32; 32];
+    parameters[31] = 131;
+    run::run(
+        image,
+        cores,
+        arguments,
+        &parameters,
+        memory,
+        allowance,
+        schedule,
+        log,
+    )
+}
+
 fn run_job(
     image: &[u8],
     cores: u8,
@@ -85,15 +111,12 @@ fn run_job(
     schedule: &[u8],
     counted: bool,
 ) {
-    let mut parameters = [0u32; 32];
-    parameters[31] = 131;
     let mut memory = [0u32; 992];
     let mut log = [0u8; 128];
-    let ran = run::run(
+    let ran = run_on(
         image,
         cores,
         arguments,
-        &parameters,
         &mut memory,
         allowance,
         schedule,
@@ -109,22 +132,33 @@ fn run_job(
     }
 }
 
-fn run_by(counted: bool, line: &[u8], image: &[u8], schedule: &[u8]) {
+fn run_by(key: u8, line: &[u8], image: &[u8], schedule: &[u8]) {
     let cores = cases::number(line, 1, 255) as u8;
     let allowance = cases::number(line, 2, 4294967295) as u32;
     let mut arguments = [0u32; 4];
     let n = cases::numbers(line, 3, &mut arguments);
-    run_job(image, cores, &arguments[..n], allowance, schedule, counted);
+    if key == b'w' {
+        words::walk(image, cores, &arguments[..n], allowance, schedule);
+        return;
+    }
+    run_job(
+        image,
+        cores,
+        &arguments[..n],
+        allowance,
+        schedule,
+        key == b'c',
+    );
 }
 
-fn run_image(counted: bool, line: &[u8], image: &[u8], schedule: &[u8]) {
+fn run_image(key: u8, line: &[u8], image: &[u8], schedule: &[u8]) {
     let mut buffer = io::buffer();
     let n = cases::bytes(schedule, 1, &mut buffer);
-    run_by(counted, line, image, &buffer[..n]);
+    run_by(key, line, image, &buffer[..n]);
 }
 
-pub fn run(counted: bool, line: &[u8], image: &[u8], schedule: &[u8]) {
+pub fn run(key: u8, line: &[u8], image: &[u8], schedule: &[u8]) {
     let mut buffer = io::buffer();
     let n = cases::bytes(image, 1, &mut buffer);
-    run_image(counted, line, &buffer[..n], schedule);
+    run_image(key, line, &buffer[..n], schedule);
 }
