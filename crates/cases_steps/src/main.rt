@@ -1,6 +1,7 @@
 // Runs by schedule. The expected lines were worked out by a second implementation, written from document 01 alone; document 01's own cases are
 // among them, with the lines that it gives. Those of the worked rows (crates/rules/specs/Rows.antt, RowsWords.antt) are the rows' own, worked out by
-// hand; those of the other `words` lines were worked out by a model of document 01 and T-02, written from the two alone.
+// hand; those of the other `words` lines were worked out by a model of document 01 and T-02, written from the two alone, and the second implementation
+// gives the same.
 //
 // The cases are the lines of standard input, in the form that the crate `cases` tells:
 //

@@ -3,7 +3,7 @@
 use mathlib.Core.List.{List, [], _∷_, _++_}
 use Prim.Native.Nat.{ℕ}
 use Rattle.schedule.specs.declared.Entry.the-variants.{Step, Take, Steal, Enable}
-use Rattle.rules.specs.Row.{nought, calls, forks, callsTwo, forksTwo, fromFifteen}
+use Rattle.rules.specs.Row.{five, nought, calls, forks, callsTwo, forksTwo, fromFifteen}
 use Rattle.rules.specs.WordsRow.{WordsRow, Passed, _holds_, _leaving_}
 
 -- of two slots: sets them to 5 and 6, and returns 6
@@ -43,8 +43,8 @@ valueIsReadBeforeTheFrameGoes = record {
 }
 
 -- "clears a frame's words as it gives them back": of three words, 0 to 2, the root calls a child of four, 3 to 6, and that a child of three, 7 to
--- 9, each "above its parent's frame" and on its parent's first slots. The last returns 5, to word 5: words 7 to 9 are cleared, and word 6 below
--- them stays. Then its parent does, to word 2: words 3 to 6, which are more than the root has. Then the root: words 0 to 2
+-- 9, each "above its parent's frame", its arguments its parent's first slots. The last returns 5, to word 5: words 7 to 9 are cleared, and word 6
+-- below them stays. Then its parent does, to word 2: words 3 to 6, which are more than the root has. Then the root: words 0 to 2
 abbrev pub callsGiveTheirFramesBack : WordsRow
 callsGiveTheirFramesBack = record {
   image =
@@ -93,16 +93,16 @@ stackletStaysInUse = record {
       ∷ [];
 }
 
--- "16 stacklets of 64 words": the root and four nested calls, of 16, 16, 16, 12 and 4 words, fill stacklet 0, and a 09's child has word 64, the
--- first of stacklet 1, which holds its argument 32. The last call's frame is words 60 to 63, and it sets word 63 to 5
+-- "16 stacklets of 64 words": the root and four nested calls, of 16, 16, 16, 15 words and one, fill stacklet 0, and a 09's child has word 64, the
+-- first of stacklet 1, which holds its argument 32. The last call's frame is word 63, and it sets it to 5
 abbrev fullStacklet : List ℕ
 fullStacklet =
     (0x06 ∷ 0x10 ∷ 0x00 ∷ 0x11 ∷ 0x00 ∷ 0x01 ∷ 0x01 ∷ 0x02 ∷ 0x00 ∷ 0x10 ∷ 0x00 ∷ 0x0C ∷ 0x00 ∷ [])
-    ++ (0x10 ∷ 0x00 ∷ 0x0C ∷ 0x00 ∷ 0x0C ∷ 0x00 ∷ 0x0C ∷ 0x00 ∷ 0x04 ∷ 0x00 ∷ 0x06 ∷ 0x00 ∷ [])
+    ++ (0x10 ∷ 0x00 ∷ 0x0C ∷ 0x00 ∷ 0x0F ∷ 0x00 ∷ 0x11 ∷ 0x00 ∷ 0x01 ∷ 0x00 ∷ 0x06 ∷ 0x00 ∷ [])
     ++ (0x01 ∷ 0x0F ∷ 0x20 ∷ 0x00 ∷ 0x09 ∷ 0x01 ∷ 0x00 ∷ 0x0F ∷ 0x0F ∷ 0x08 ∷ 0x02 ∷ 0x01 ∷ 0x00 ∷ 0x0F ∷ 0x0A ∷ 0x0D ∷ 0x00 ∷ [])
     ++ nought ++ fromFifteen 3 ++ fromFifteen 4
-    ++ (0x01 ∷ 0x0B ∷ 0x20 ∷ 0x00 ∷ 0x08 ∷ 0x05 ∷ 0x00 ∷ 0x00 ∷ 0x0B ∷ 0x0A ∷ 0x0D ∷ 0x00 ∷ [])
-    ++ (0x01 ∷ 0x03 ∷ 0x05 ∷ 0x00 ∷ 0x0D ∷ 0x03 ∷ [])
+    ++ (0x01 ∷ 0x0E ∷ 0x20 ∷ 0x00 ∷ 0x08 ∷ 0x05 ∷ 0x00 ∷ 0x00 ∷ 0x0E ∷ 0x08 ∷ 0x05 ∷ 0x01 ∷ 0x00 ∷ 0x0E ∷ 0x0A ∷ 0x0D ∷ 0x00 ∷ [])
+    ++ five
 
 abbrev filling : List Passed
 filling =
@@ -113,18 +113,23 @@ filling =
     ∷ Step 0 leaving (15 holds 32 ∷ 31 holds 32 ∷ 64 holds 32 ∷ [])
     ∷ Step 0 leaving (15 holds 32 ∷ 31 holds 32 ∷ 47 holds 32 ∷ 64 holds 32 ∷ [])
     ∷ Step 0 leaving (15 holds 32 ∷ 31 holds 32 ∷ 47 holds 32 ∷ 64 holds 32 ∷ [])
-    ∷ Step 0 leaving (15 holds 32 ∷ 31 holds 32 ∷ 47 holds 32 ∷ 59 holds 32 ∷ 64 holds 32 ∷ [])
-    ∷ Step 0 leaving (15 holds 32 ∷ 31 holds 32 ∷ 47 holds 32 ∷ 59 holds 32 ∷ 64 holds 32 ∷ [])
-    ∷ Step 0 leaving (15 holds 32 ∷ 31 holds 32 ∷ 47 holds 32 ∷ 59 holds 32 ∷ 63 holds 5 ∷ 64 holds 32 ∷ [])
+    ∷ Step 0 leaving (15 holds 32 ∷ 31 holds 32 ∷ 47 holds 32 ∷ 62 holds 32 ∷ 64 holds 32 ∷ [])
+    ∷ Step 0 leaving (15 holds 32 ∷ 31 holds 32 ∷ 47 holds 32 ∷ 62 holds 32 ∷ 64 holds 32 ∷ [])
+    ∷ Step 0 leaving (15 holds 32 ∷ 31 holds 32 ∷ 47 holds 32 ∷ 62 holds 32 ∷ 63 holds 5 ∷ 64 holds 32 ∷ [])
     ∷ []
 
--- the last call returns 5, to word 48: words 60 to 63 are cleared, and word 64 right above them stays
+-- the last call returns 5, to word 48: word 63 is cleared, and word 64 right above it stays. The next call has word 63 again
 abbrev pub wordAboveTheFrameStays : WordsRow
 wordAboveTheFrameStays = record {
   image = fullStacklet;
   cores = 2;
   allowance = 100;
-  passed = filling ++ (Step 0 leaving (15 holds 32 ∷ 31 holds 32 ∷ 47 holds 32 ∷ 48 holds 5 ∷ 59 holds 32 ∷ 64 holds 32 ∷ []) ∷ []);
+  passed =
+      filling
+      ++ (Step 0 leaving (15 holds 32 ∷ 31 holds 32 ∷ 47 holds 32 ∷ 48 holds 5 ∷ 62 holds 32 ∷ 64 holds 32 ∷ [])
+      ∷ Step 0 leaving (15 holds 32 ∷ 31 holds 32 ∷ 47 holds 32 ∷ 48 holds 5 ∷ 62 holds 32 ∷ 64 holds 32 ∷ [])
+      ∷ Step 0 leaving (15 holds 32 ∷ 31 holds 32 ∷ 47 holds 32 ∷ 48 holds 5 ∷ 62 holds 32 ∷ 63 holds 5 ∷ 64 holds 32 ∷ [])
+      ∷ []);
 }
 
 -- the 09's child returns 32, to word 0: word 64 is cleared, and word 63 right below it stays
@@ -135,8 +140,8 @@ wordBelowTheFrameStays = record {
   allowance = 100;
   passed =
       filling
-      ++ (Take 1 leaving (15 holds 32 ∷ 31 holds 32 ∷ 47 holds 32 ∷ 59 holds 32 ∷ 63 holds 5 ∷ 64 holds 32 ∷ [])
-      ∷ Step 1 leaving (0 holds 32 ∷ 15 holds 32 ∷ 31 holds 32 ∷ 47 holds 32 ∷ 59 holds 32 ∷ 63 holds 5 ∷ [])
+      ++ (Take 1 leaving (15 holds 32 ∷ 31 holds 32 ∷ 47 holds 32 ∷ 62 holds 32 ∷ 63 holds 5 ∷ 64 holds 32 ∷ [])
+      ∷ Step 1 leaving (0 holds 32 ∷ 15 holds 32 ∷ 31 holds 32 ∷ 47 holds 32 ∷ 62 holds 32 ∷ 63 holds 5 ∷ [])
       ∷ []);
 }
 
@@ -165,11 +170,13 @@ forkedChildrenGiveTheirStackletsBack = record {
 }
 
 -- "a waiting parent whose children have all ended joins the ready line": the root waits at its join, and its words stay. Its child of three slots
--- has words 64 to 66, the first its argument 7, and returns 6, to word 0
+-- has words 64 to 66, the first its argument 7, and returns 6, to word 0. Then the root calls the same routine, on the argument 6: its frame is
+-- words 2 to 4, above the root's, which is topmost on its stacklet as before
 abbrev pub waitingParentKeepsItsFrame : WordsRow
 waitingParentKeepsItsFrame = record {
   image =
-      (0x02 ∷ 0x02 ∷ 0x01 ∷ 0x0C ∷ 0x00 ∷ 0x03 ∷ 0x01 ∷ 0x0A ∷ 0x00 ∷ []) ++ forks 1
+      (0x02 ∷ 0x02 ∷ 0x01 ∷ 0x12 ∷ 0x00 ∷ 0x03 ∷ 0x01 ∷ 0x0A ∷ 0x00 ∷ [])
+      ++ (0x01 ∷ 0x01 ∷ 0x20 ∷ 0x00 ∷ 0x09 ∷ 0x01 ∷ 0x00 ∷ 0x00 ∷ 0x01 ∷ 0x0A ∷ 0x08 ∷ 0x01 ∷ 0x00 ∷ 0x00 ∷ 0x01 ∷ 0x0A ∷ 0x0D ∷ 0x00 ∷ [])
       ++ (0x01 ∷ 0x01 ∷ 0x05 ∷ 0x00 ∷ 0x01 ∷ 0x02 ∷ 0x06 ∷ 0x00 ∷ 0x0D ∷ 0x02 ∷ []);
   cores = 1;
   allowance = 100;
@@ -182,6 +189,11 @@ waitingParentKeepsItsFrame = record {
       ∷ Step 0 leaving (0 holds 7 ∷ 1 holds 32 ∷ 64 holds 7 ∷ 65 holds 5 ∷ 66 holds 6 ∷ [])
       ∷ Step 0 leaving (0 holds 6 ∷ 1 holds 32 ∷ [])
       ∷ Take 0 leaving (0 holds 6 ∷ 1 holds 32 ∷ [])
+      ∷ Step 0 leaving (0 holds 6 ∷ 1 holds 32 ∷ [])
+      ∷ Step 0 leaving (0 holds 6 ∷ 1 holds 32 ∷ 2 holds 6 ∷ [])
+      ∷ Step 0 leaving (0 holds 6 ∷ 1 holds 32 ∷ 2 holds 6 ∷ 3 holds 5 ∷ [])
+      ∷ Step 0 leaving (0 holds 6 ∷ 1 holds 32 ∷ 2 holds 6 ∷ 3 holds 5 ∷ 4 holds 6 ∷ [])
+      ∷ Step 0 leaving (0 holds 6 ∷ 1 holds 32 ∷ [])
       ∷ Step 0 leaving (0 holds 6 ∷ 1 holds 32 ∷ [])
       ∷ Step 0 leaving []
       ∷ [];
