@@ -10,9 +10,9 @@ pub mod Fork
 pub mod Return
 pub mod Rules
 pub mod Runs
--- Belief ends here, but for three words that the promises take from what follows: `Every`, `Member` and `Distinct` of a list. A sound state is
--- what the code may rely on; that Start's is one and that every entry keeps it is proved (crate `soundness`), so a mistake in it would be found,
--- and is not believed.
+-- Belief ends here, but for what the promises take from what follows: `Every`, `Member` and `Distinct` of a list, and `FreeWords` of a state (with
+-- `IsFreeWord` and the three definitions that it is made of). A sound state is what the code may rely on; that Start's is one and that every entry
+-- keeps it is proved (crate `soundness`), so a mistake in it would be found, and is not believed.
 pub mod Lists
 pub mod Sound
 -- Small runs, worked out by hand: a second witness of the rules.

@@ -1,5 +1,5 @@
 -- A sound state, which the step inside the machine may rely on ("The step inside the machine may rely on a sound state"). Each part is
--- about the threads in use, the queues and the stacklets; quantifiers go over 32 threads, 4 cores and 16 stacklets.
+-- about the threads in use, the queues and the stacklets; quantifiers go over 32 threads, 4 cores, 16 stacklets and their words.
 use mathlib.Core.Bool.{true, cond}
 use mathlib.Core.Logic.{_⊎_}
 use mathlib.Core.Path.{_≡_}
