@@ -100,23 +100,37 @@ fn answered(answer: [u32; 4]) -> Answer {
     }
 }
 
-/// Outputs before a call: no run ends with these, so that one that is not written shows.
-fn unwritten() -> Ran {
-    Ran { answer: Answer::Refused(0), counts: [33; 6], statuses: [u8::MAX; 32], words: [u32::MAX; 1024] }
+/// What a run writes beside the memory and its log or entries.
+pub struct Outputs {
+    answer: [u32; 4],
+    ran: Ran,
 }
 
-/// A run's outputs with its answer; of a refused run the answer alone.
-fn told(answer: [u32; 4], mut ran: Ran) -> Ran {
-    ran.answer = answered(answer);
-    if let Answer::Refused(number) = ran.answer {
-        return Ran::refused(number);
+impl Outputs {
+    /// Before a call: no run ends with these, so that an output that is not written shows.
+    pub fn unwritten() -> Outputs {
+        let ran = Ran { answer: Answer::Refused(0), counts: [33; 6], statuses: [u8::MAX; 32], words: [u32::MAX; 1024] };
+        Outputs { answer: [0; 4], ran }
     }
-    ran
+
+    /// A run's outputs with its answer; of a refused run the answer alone.
+    fn told(mut self) -> Ran {
+        self.ran.answer = answered(self.answer);
+        if let Answer::Refused(number) = self.ran.answer {
+            return Ran::refused(number);
+        }
+        self.ran
+    }
 }
 
 pub fn run(fed: Fed, memory: &mut [u32], schedule: &[u8], log: &mut [u8]) -> Ran {
-    let mut answer = [0; 4];
-    let mut ran = unwritten();
+    let mut outputs = Outputs::unwritten();
+    run_to(fed, memory, schedule, log, &mut outputs);
+    outputs.told()
+}
+
+/// The call alone, its outputs written where they stand.
+pub fn run_to(fed: Fed, memory: &mut [u32], schedule: &[u8], log: &mut [u8], outputs: &mut Outputs) {
     unsafe {
         hofnulda_run(
             fed.image.as_ptr(),
@@ -133,20 +147,24 @@ pub fn run(fed: Fed, memory: &mut [u32], schedule: &[u8], log: &mut [u8]) -> Ran
             schedule.len(),
             log.as_mut_ptr(),
             log.len(),
-            &mut answer,
-            &mut ran.counts,
-            &mut ran.statuses,
-            &mut ran.words,
+            &mut outputs.answer,
+            &mut outputs.ran.counts,
+            &mut outputs.ran.statuses,
+            &mut outputs.ran.words,
         );
     }
-    told(answer, ran)
 }
 
 /// The built-in scheduler, with the bytes of its buffer that it used.
 pub fn scheduled(fed: Fed, memory: &mut [u32], buffer: &mut [u8]) -> Housed {
-    let mut answer = [0; 4];
-    let mut ran = unwritten();
-    let used = unsafe {
+    let mut outputs = Outputs::unwritten();
+    let used = scheduled_to(fed, memory, buffer, &mut outputs);
+    Housed { ran: outputs.told(), used }
+}
+
+/// The call alone, its outputs written where they stand.
+pub fn scheduled_to(fed: Fed, memory: &mut [u32], buffer: &mut [u8], outputs: &mut Outputs) -> usize {
+    unsafe {
         hofnulda_scheduled(
             fed.image.as_ptr(),
             fed.image.len(),
@@ -160,13 +178,12 @@ pub fn scheduled(fed: Fed, memory: &mut [u32], buffer: &mut [u8]) -> Housed {
             fed.allowance,
             buffer.as_mut_ptr(),
             buffer.len(),
-            &mut answer,
-            &mut ran.counts,
-            &mut ran.statuses,
-            &mut ran.words,
+            &mut outputs.answer,
+            &mut outputs.ran.counts,
+            &mut outputs.ran.statuses,
+            &mut outputs.ran.words,
         )
-    };
-    Housed { ran: told(answer, ran), used }
+    }
 }
 
 fn counted(answer: [usize; 2]) -> Result<usize, u8> {

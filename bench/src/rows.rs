@@ -1,6 +1,6 @@
 //! The rows of the benchmarks: each is a call that both implementations make, which is timed and whose instructions are counted.
 
-use crate::library;
+use crate::library::{self, Outputs};
 use bench::generate::Case;
 use bench::peer;
 use bench::peer::command::{ADD, GO, JOIN, LFORK};
@@ -88,28 +88,17 @@ impl Row {
         Written { memory: self.case.memory.clone(), bytes: vec![0; 32_768] }
     }
 
-    /// The row's call by one side.
+    /// The row's call by one side. What a run gives is left where it is written, so that the call alone is timed.
     pub fn call<'a>(&'a self, side: Side, written: &'a mut Written) -> Box<dyn FnMut() + 'a> {
-        let (case, schedule) = (&self.case, &self.schedule[..]);
-        let Written { memory, bytes } = written;
+        let case = &self.case;
         match (self.call, side) {
-            (Call::Run, Side::Second) => Box::new(move || {
-                black_box(second_run(black_box(case.fed()), memory, schedule, bytes));
-            }),
-            (Call::Run, Side::Proved) => Box::new(move || {
-                black_box(library::run(black_box(case.fed()), memory, schedule, bytes));
-            }),
-            (Call::Scheduled, Side::Second) => Box::new(move || {
-                black_box(second_scheduled(black_box(case.fed()), memory, bytes));
-            }),
-            (Call::Scheduled, Side::Proved) => Box::new(move || {
-                black_box(library::scheduled(black_box(case.fed()), memory, bytes));
-            }),
+            (Call::Run | Call::Scheduled, Side::Second) => self.second_run_call(written),
+            (Call::Run | Call::Scheduled, Side::Proved) => self.proved_run_call(written),
             (Call::Serial, Side::Second) => Box::new(move || {
-                black_box(second_serial(black_box(case.fed()), memory));
+                black_box(second_serial(black_box(case.fed()), &mut written.memory));
             }),
             (Call::Serial, Side::Proved) => Box::new(move || {
-                black_box(library::serial(black_box(case.fed()), memory));
+                black_box(library::serial(black_box(case.fed()), &mut written.memory));
             }),
             (Call::Check, Side::Second) => Box::new(move || {
                 black_box(second_check(black_box(&case.image)));
@@ -120,10 +109,39 @@ impl Row {
             (Call::HexWrite | Call::HexRead, _) => {
                 let (call, input) = self.hex_call(side);
                 Box::new(move || {
-                    let _ = black_box(call(black_box(input), bytes));
+                    let _ = black_box(call(black_box(input), &mut written.bytes));
                 })
             }
         }
+    }
+
+    fn second_run_call<'a>(&'a self, written: &'a mut Written) -> Box<dyn FnMut() + 'a> {
+        let (case, schedule) = (&self.case, &self.schedule[..]);
+        let Written { memory, bytes } = written;
+        if matches!(self.call, Call::Run) {
+            return Box::new(move || {
+                black_box(&second_run(black_box(case.fed()), memory, schedule, bytes));
+            });
+        }
+        Box::new(move || {
+            black_box(&second_scheduled(black_box(case.fed()), memory, bytes));
+        })
+    }
+
+    fn proved_run_call<'a>(&'a self, written: &'a mut Written) -> Box<dyn FnMut() + 'a> {
+        let (case, schedule) = (&self.case, &self.schedule[..]);
+        let Written { memory, bytes } = written;
+        let mut outputs = Outputs::unwritten();
+        if matches!(self.call, Call::Run) {
+            return Box::new(move || {
+                library::run_to(black_box(case.fed()), memory, schedule, bytes, &mut outputs);
+                black_box(&outputs);
+            });
+        }
+        Box::new(move || {
+            black_box(library::scheduled_to(black_box(case.fed()), memory, bytes, &mut outputs));
+            black_box(&outputs);
+        })
     }
 
     /// Intel HEX by one side, and its input.
