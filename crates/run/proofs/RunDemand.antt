@@ -17,10 +17,10 @@ use Rattle.demands.proofs.Passing.{takes, has-room}
 use Rattle.demands.proofs.SerialNumbers.{serial-numbers}
 use Rattle.demands.proofs.WholeRun.{run-numbers}
 use Rattle.demands.specs.Input.{Input, jobIn, startIn, refusalOf, answerOf, entryCount}
-use Rattle.demands.specs.Demands.{Demand1, Demand2, serialIn}
+use Rattle.demands.specs.Demands.{Demand1, Demand2, Demand3, serialIn}
 use Rattle.demands.specs.declared.RunAnswer.the-variants.{Refused, Finished}
 use Rattle.run.specs.declared.Ran.{Ran}
-use Rattle.run.specs.Run.{RunsAs}
+use Rattle.run.specs.Run.{IsPlayed, RunsAs}
 use Rattle.run.specs.Promise.{RunPromise}
 
 -- log bytes over the front of a log
@@ -74,35 +74,34 @@ module _ (i : Input) (schedule log : List ℕ) (bytes : (k : ℕ) → getD (i .i
       let here = demand-2-logged i (takes i schedule log passes bytes) xs (drop (length (logsFrom (jobIn i) (startIn i) xs)) log) in
       subst (λ l. Demand2 i l logAfter) same (subst (Demand2 i xs) (sym (p .log)) here)
 
-  -- a finished run, by the demand at its end
-  plain-played : refusalOf i schedule log ≡ 0 → (v u : ℕ) → r .answer ≡ Finished v u → serialIn i ≡ done v memoryAfter u
-  plain-played passes v u e =
-      let (es, q, p) = runs .played passes in
-      let end : State = runFrom (jobIn i) (startIn i) es in
-      let (over, units) = finished-by (end .outcome) (end .units) v u (sym (p .answer) ∙ e) in
-      demand-3 i (takes i schedule log passes bytes) es .agrees v over ∙ (λ ι. done v (sym (p .memory) ι) (units ι))
+  -- a run that tells a result was not refused, and its machine has finished
+  pub record Finishes (v u : ℕ) : Type 0 where
+    pub passes : refusalOf i schedule log ≡ 0
+    pub met : List Entry
+    pub played : IsPlayed i met log r memoryAfter logAfter
+    pub over : runFrom (jobIn i) (startIn i) met .outcome ≡ finished v
+    pub units : runFrom (jobIn i) (startIn i) met .units ≡ u
+
+  finishes : (v u : ℕ) → r .answer ≡ Finished v u → Finishes v u
+  finishes v u e = go (ℕ-discrete (refusalOf i schedule log) 0)
+    where
+      go : Dec (refusalOf i schedule log ≡ 0) → Finishes v u
+      go (yes passes) =
+          let (es, q, p) = runs .played passes in
+          let end : State = runFrom (jobIn i) (startIn i) es in
+          let (over, units) = finished-by (end .outcome) (end .units) v u (sym (p .answer) ∙ e) in
+          record { passes = passes; met = es; played = p; over = over; units = units }
+      go (no some) = let q = runs .refused some .answer in let z : _≡_ {A = ℕ} 0 1 = cc in absurd (omega arith)
+
+  -- by the demand at its end
+  ends : (v u : ℕ) (f : Finishes v u) → Demand3 i (runFrom (jobIn i) (startIn i) (f .met))
+  ends v u f = demand-3 i (takes i schedule log (f .passes) bytes) (f .met)
 
   plain-run : (v u : ℕ) → r .answer ≡ Finished v u → serialIn i ≡ done v memoryAfter u
-  plain-run v u e = go (ℕ-discrete (refusalOf i schedule log) 0)
-    where
-      go : Dec (refusalOf i schedule log ≡ 0) → serialIn i ≡ done v memoryAfter u
-      go (yes passes) = plain-played passes v u e
-      go (no some) = let q = runs .refused some .answer in let z : _≡_ {A = ℕ} 0 1 = cc in absurd (omega arith)
-
-  -- the words that are given of a finished run
-  words-played : refusalOf i schedule log ≡ 0 → (v u : ℕ) → r .answer ≡ Finished v u → r .words ≡ replicate 1024 0
-  words-played passes v u e =
-      let (es, q, p) = runs .played passes in
-      let end : State = runFrom (jobIn i) (startIn i) es in
-      let (over, units) = finished-by (end .outcome) (end .units) v u (sym (p .answer) ∙ e) in
-      p .machine .words ∙ demand-3 i (takes i schedule log passes bytes) es .free v over .words
+  plain-run v u e = let f = finishes v u e in ends v u f .agrees v (f .over) ∙ (λ ι. done v (sym (f .played .memory) ι) (f .units ι))
 
   words-run : (v u : ℕ) → r .answer ≡ Finished v u → r .words ≡ replicate 1024 0
-  words-run v u e = go (ℕ-discrete (refusalOf i schedule log) 0)
-    where
-      go : Dec (refusalOf i schedule log ≡ 0) → r .words ≡ replicate 1024 0
-      go (yes passes) = words-played passes v u e
-      go (no some) = let q = runs .refused some .answer in let z : _≡_ {A = ℕ} 0 1 = cc in absurd (omega arith)
+  words-run v u e = let f = finishes v u e in f .played .machine .words ∙ ends v u f .free v (f .over) .words
 
   pub promised : RunPromise i schedule log r memoryAfter logAfter
   promised = record {

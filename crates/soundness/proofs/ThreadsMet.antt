@@ -34,13 +34,13 @@ module _ (j : Job) (s : State) (ok : Sound j s) where
   pub parent-used : (t : ℕ) → Used s t → isRoot (threadAt s t) ≡ false → Used s (threadAt s t .origin .parent)
   parent-used t h r = ⊎-elim (λ z. let y = leb-false none (threadAt s t .origin .parent) r in let w = z .1 in absurd (omega arith)) (λ z. z .1) (ok .tree .tree t h)
 
-  -- a thread that has a parent is not the root
-  pub child-not-first : (t : ℕ) → Used s t → isRoot (threadAt s t) ≡ false → t ≡ 0 → ⊥
-  child-not-first t h r e = ⊎-elim (λ z. let y = leb-false none (threadAt s t .origin .parent) r in let w = z .1 in omega arith) (λ z. z .0 e) (ok .tree .tree t h)
-
   -- so is the parent of any thread but the root
   pub parent-of : (u : ℕ) → Used s u → (u ≡ 0 → ⊥) → Used s (threadAt s u .origin .parent)
   parent-of u h n = ⊎-elim (λ z. absurd (n (z .0))) (λ z. z .1) (ok .tree .tree u h)
+
+  -- a thread that has a parent is not thread 0
+  pub child-not-first : (t : ℕ) → Used s t → isRoot (threadAt s t) ≡ false → t ≡ 0 → ⊥
+  child-not-first t h r e = ⊎-elim (λ z. let y = leb-false none (threadAt s t .origin .parent) r in let w = z .1 in omega arith) (λ z. z .0 e) (ok .tree .tree t h)
 
   -- what is known of the command that is met, by a step or by a steal
   pub step-met : (c t : ℕ) → Stepped j s c t → (e : Effect) → effectAt j s (threadAt s t) ≡ e → MetAt j s t e
