@@ -1,8 +1,9 @@
-// A first-in first-out queue of at most 32 numbers, document 01's "line". Its places are a ring, found by a remainder of 32.
+// A first-in first-out queue of at most 32 numbers, document 01's "line". Its places are a ring, found by a comparison with its end and a
+// subtraction (`wrapped`), where document 01 has a remainder of 32.
 // Every value of the struct stands for a list (`contents`), so no function here asks anything of its caller.
 ghost use mathlib.Core.Path.{_≡_};
 ghost use mathlib.Core.List.{[]};
-ghost use Prim.Native.Nat.{_-_, _<_, min};
+ghost use Prim.Native.Nat.{_-_, _%_, _<_, min};
 ghost use lib.ListN.{length};
 ghost use Rattle.queue.specs.declared.Front.the-variants.{Number};
 ghost use Rattle.queue.specs.Contents.{capacity, contents, ascendingFrom, Dequeues, Enqueues};
@@ -45,6 +46,17 @@ const ASCENDING: [u8; 32] = [
     30,
     31,
 ];
+
+// A number's place on the ring. A head is any byte, so the subtraction is repeated; the queues made here need it once at most.
+fn wrapped(i: u8) -> u8
+    ensures { λ r. ⌜ r ≡ i % capacity ⌝ }
+{
+    let mut place = i;
+    while CAPACITY <= place {
+        place = place - CAPACITY;
+    }
+    place
+}
 
 // Its fields are public, since every value of them is a queue: the machine's tables hold them as bytes.
 pub struct Queue {
@@ -113,10 +125,10 @@ impl Queue {
                 queue: self,
             };
         }
-        let head = self.head % CAPACITY;
+        let head = wrapped(self.head);
         let number = self.places[head as usize];
         let mut queue = self;
-        queue.head = (head + 1) % CAPACITY;
+        queue.head = wrapped(head + 1);
         queue.len = len - 1;
         Dequeued {
             first: Front::Number(number),
@@ -132,7 +144,8 @@ impl Queue {
         if CAPACITY <= len {
             return self;
         }
-        let tail = (self.head % CAPACITY + len) % CAPACITY;
+        let head = wrapped(self.head);
+        let tail = wrapped(head + len);
         self.places[tail as usize] = n;
         self.len = len + 1;
         self

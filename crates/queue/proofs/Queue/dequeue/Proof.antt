@@ -12,21 +12,38 @@ returns : tie.Need-returns
 unfolding contents ring
 returns c = search needs
 
+wrapped-requires : tie.Need-wrapped-requires
+wrapped-requires c κs = search needs
+
 cast-number : tie.Need-cast-number
 cast-number c = search needs
 
 element-copy-out-number : tie.Need-element-copy-out-number
-element-copy-out-number c = search needs
+element-copy-out-number c = omega arith
 
-add-queue : tie.Need-add-queue
-add-queue c = search needs
+add-wrapped : tie.Need-add-wrapped
+add-wrapped c = omega arith
+
+wrapped-requires-2 : tie.Need-wrapped-requires-2
+wrapped-requires-2 c κs = search needs
 
 sub-queue : tie.Need-sub-queue
 sub-queue c = search needs
 
 returns-2 : tie.Need-returns-2
-returns-2 c = dequeues (c .before .before .args .t1) (c .before .before .args .t1 .len - 1) (omega arith)
+returns-2 c =
+    let q = c .before .before .before .before .args .t1 in
+    rw (c .wrapped2 .ensures, c .before .before .wrapped .ensures) (dequeues q (q .len - 1) (omega arith))
 
 pub dequeue-spec : {M : Type 1} → statement M
 dequeue-spec =
-    tie.close (tie.spec returns cast-number element-copy-out-number add-queue sub-queue returns-2)
+    tie.close
+    (tie.spec
+    returns
+    wrapped-requires
+    cast-number
+    element-copy-out-number
+    add-wrapped
+    wrapped-requires-2
+    sub-queue
+    returns-2)
