@@ -2,3 +2,4 @@
 pub mod Ascending
 pub mod Ring
 pub mod Laws
+pub mod Examples
