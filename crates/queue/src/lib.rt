@@ -47,7 +47,7 @@ const ASCENDING: [u8; 32] = [
     31,
 ];
 
-// A number's place on the ring. A head is any byte, so the subtraction is repeated; the queues made here need it once at most.
+// A number's place on the ring. A head may be any byte, hence a loop; in a queue that began with `new` or `ascending` one turn is the most.
 fn wrapped(i: u8) -> u8
     ensures { λ r. ⌜ r ≡ i % capacity ⌝ }
 {
