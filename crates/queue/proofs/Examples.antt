@@ -13,7 +13,7 @@ record Standing : Type 0 where
 abbrev stands : ℕ → ℕ → List ℕ → Standing
 stands head len places = record { head = head; len = len; places = places }
 
--- "the ready line finds its places by a remainder of 32", for every head that a byte can be
+-- "the ready line finds its places by a remainder of 32": heads on the ring, at its end and past it, up to the last byte
 abbrev byHand : List Standing
 byHand =
     stands 0 0 []
