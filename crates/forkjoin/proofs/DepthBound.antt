@@ -35,11 +35,12 @@ ancestor-length zero x h = omega arith
 ancestor-length (suc i) [] h = absurd (omega arith)
 ancestor-length (suc i) (k ∷ x) h = let z = ancestor-length i x (omega arith) in omega arith
 
--- the depth matters to a fork alone, and only from the limit on
+-- the depth matters to a fork alone, and only from the limit on, where a fork is a halt
 pub record Bounded (𝓛 : Language) (𝓒 : Carried 𝓛) (limit : ℕ) : Type 0 where
   pub below : (n : ℕ) (r : Carried.Concrete 𝓒) → n < limit → Carried.does 𝓒 n r ≡ Carried.does 𝓒 0 r
   pub other : (n : ℕ) (r : Carried.Concrete 𝓒) → ((d : ℕ) (c q : Carried.Concrete 𝓒) → Carried.does 𝓒 0 r ≡ fork d c q → ⊥)
       → Carried.does 𝓒 n r ≡ Carried.does 𝓒 0 r
+  pub beyond : (n : ℕ) (r c q : Carried.Concrete 𝓒) (d : ℕ) → limit ≤ n → Carried.does 𝓒 0 r ≡ fork d c q → (x : ℕ) × (Carried.does 𝓒 n r ≡ halt x)
 
 module _ (𝓛 : Language) (𝓒 : Carried 𝓛) (limit : ℕ) where
   open Language 𝓛 using (Local, cost)
@@ -87,7 +88,7 @@ module _ (𝓛 : Language) (𝓒 : Carried 𝓛) (limit : ℕ) where
           let v : length (ancestor a (name t)) ≡ length (ancestor b (name t)) = ap length w in
           omega arith
 
-  not-fork : (a : Act Concrete) (m : ℕ → ℕ) (p : Concrete) → OwnAct 𝓛 𝓒 a m p → (d : ℕ) (c q : Concrete) → a ≡ fork d c q → ⊥
+  pub not-fork : (a : Act Concrete) (m : ℕ → ℕ) (p : Concrete) → OwnAct 𝓛 𝓒 a m p → (d : ℕ) (c q : Concrete) → a ≡ fork d c q → ⊥
   not-fork (halt x) m p o d c q e = o
   not-fork (advance _) m p o d c q e = let y : _≡_ {A = ℕ} 0 1 = cc in omega arith
   not-fork (load _ _) m p o d c q e = let y : _≡_ {A = ℕ} 0 1 = cc in omega arith
@@ -100,29 +101,34 @@ module _ (𝓛 : Language) (𝓒 : Carried 𝓛) (limit : ℕ) (B : Bounded 𝓛
   open Language 𝓛 using (Local, cost)
   open Carried 𝓒 using (Concrete, abstraction, does)
 
-  -- so a step that tests no depth is a step that tests it
+  -- a step that tests no depth is a step n deep, if a thread that forks is less deep than the limit
+  pub deepen-by : (n t : ℕ) (M M' : Pool Concrete)
+      → ((r c q : Concrete) (k : Link) (d z : ℕ) → M .cell t ≡ used r k → does 0 r ≡ fork d c q → M .cell z ≡ free
+      → M' .cell z ≡ used c (child t d) → n < limit)
+      → PoolStep 𝓛 𝓒 0 t M M' → PoolStep 𝓛 𝓒 n t M M'
+  deepen-by n t M M' low (step-own r q k ct o) =
+      let e = B .other n r (λ d c x. not-fork 𝓛 𝓒 limit (does 0 r) (M .words) q o d c x) in
+      subst (λ a. PoolStep 𝓛 𝓒 n t M
+      (record { cell = update (M .cell) t (used q k); words = λ x. word-after a x (M .words x); units = M .units + cost (abstraction r) })) e
+      (step-own r q k ct (subst (λ a. OwnAct 𝓛 𝓒 a (M .words) q) (sym e) o))
+  deepen-by n t M M' low (step-fork r c q k d z ct e cz) =
+      step-fork r c q k d z ct (B .below n r (low r c q k d z ct e cz (by (ℕ-discrete z z))) ∙ e) cz
+    where
+      by : (o : Dec (z ≡ z)) → ite o (used c (child t d)) (update (M .cell) t (used q k) z) ≡ used c (child t d)
+      by (yes _) = refl
+      by (no n) = absurd (n refl)
+  deepen-by n t M M' low (step-join r q k ct e alone) =
+      step-join r q k ct (B .other n r (λ d c x h. let y : _≡_ {A = ℕ} 0 1 = cc in omega arith) ∙ e) alone
+  deepen-by n t M M' low (step-return r r₀ k₀ q d v ct e cq) =
+      step-return r r₀ k₀ q d v ct (B .other n r (λ d c x h. let y : _≡_ {A = ℕ} 0 1 = cc in omega arith) ∙ e) cq
+
+  -- so it is where thread numbers are limited
   pub deepen : (name : ℕ → TaskName) (M M' : Pool Concrete) (s : State Local) → Represents 𝓛 𝓒 name M s → Invariant 𝓛 s → Limited 𝓛 𝓒 limit M
       → Limited 𝓛 𝓒 limit M' → (t : ℕ)
       → PoolStep 𝓛 𝓒 0 t M M' → PoolStep 𝓛 𝓒 (length (name t)) t M M'
-  deepen name M M' s R i lim lim' t (step-own r q k ct o) =
-      let e = B .other (length (name t)) r (λ d c x. not-fork 𝓛 𝓒 limit (does 0 r) (M .words) q o d c x) in
-      subst (λ a. PoolStep 𝓛 𝓒 (length (name t)) t M
-      (record { cell = update (M .cell) t (used q k); words = λ x. word-after a x (M .words x); units = M .units + cost (abstraction r) })) e
-      (step-own r q k ct (subst (λ a. OwnAct 𝓛 𝓒 a (M .words) q) (sym e) o))
-  deepen name M M' s R i lim lim' t (step-fork r c q k d z ct e cz) =
-      step-fork r c q k d z ct (B .below (length (name t)) r (shallow 𝓛 𝓒 limit name M s R i lim z t r k cz z-in ct) ∙ e) cz
+  deepen name M M' s R i lim lim' t = deepen-by (length (name t)) t M M'
+      (λ r c q k d z ct e cz made. shallow 𝓛 𝓒 limit name M s R i lim z t r k cz (numbered z c (child t d) made (decLe z limit)) ct)
     where
-      by : (o : Dec (z ≡ z)) → ite o (used c (child t d)) (update (M .cell) t (used q k) z) ≡ free → ⊥
-      by (yes _) h = let y : _≡_ {A = ℕ} 0 1 = cc in omega arith
-      by (no n) h = n refl
-
-      z-by : Dec (z ≤ limit) → z ≤ limit
-      z-by (yes h) = h
-      z-by (no h) = absurd (by (ℕ-discrete z z) (lim' z (omega arith)))
-
-      z-in : z ≤ limit
-      z-in = z-by (decLe z limit)
-  deepen name M M' s R i lim lim' t (step-join r q k ct e alone) =
-      step-join r q k ct (B .other (length (name t)) r (λ d c x h. let y : _≡_ {A = ℕ} 0 1 = cc in omega arith) ∙ e) alone
-  deepen name M M' s R i lim lim' t (step-return r r₀ k₀ q d v ct e cq) =
-      step-return r r₀ k₀ q d v ct (B .other (length (name t)) r (λ d c x h. let y : _≡_ {A = ℕ} 0 1 = cc in omega arith) ∙ e) cq
+      numbered : (z : ℕ) (c : Concrete) (k : Link) → M' .cell z ≡ used c k → Dec (z ≤ limit) → z ≤ limit
+      numbered z c k made (yes h) = h
+      numbered z c k made (no h) = let f = lim' z (omega arith) in let y : _≡_ {A = ℕ} 0 1 = cc in absurd (omega arith)

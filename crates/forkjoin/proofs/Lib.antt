@@ -40,6 +40,9 @@ pub mod PoolStart
 pub mod DeliveredRun
 pub mod Unroll
 pub mod ScheduleIndependence
+-- a run that is known to finish, and a bound on its depth
+pub mod Deeper
+pub mod Follow
 -- for instances and machines
 pub mod Windows
 pub mod Arrays
