@@ -34,7 +34,7 @@ use Rattle.serial.specs.Steps.{GoodRoutine}
 use Rattle.serial.proofs.CommandMet.{ForkMet, Known, Next, next-met, weighs, met, slots-few, fresh}
 use Rattle.serial.proofs.Unrolled.{Between, between, between-done, unrolled}
 use Rattle.simulation.proofs.JobCode.{codeOf}
-use Rattle.simulation.proofs.EntriesRun.{serialRun}
+use Rattle.simulation.proofs.EntriesRun.{theoryJob, serialRun}
 use Rattle.simulation.proofs.PendingSlots.{none-pending}
 use Rattle.demands.proofs.RoutineState.{stateOf, first-listed, weight-here, effect-here, onward-is, set-is, join-is, child-is, parent-is}
 
@@ -64,7 +64,7 @@ then-same (stopped n m u) o f h s k = along _ _ _ (ap (λ z. and-then z h) (sym 
 
 module _ (j : Job) (good : GoodJob j) where
   -- the theory's serial run
-  abbrev theory : ℕ → ThreadState Window → (ℕ → ℕ) → ℕ → TheoryOutcome
+  abbrev pub theory : ℕ → ThreadState Window → (ℕ → ℕ) → ℕ → TheoryOutcome
   theory n q ws u = serial windows window-tests (codeOf j good) (j .allowance) n q ws u
 
   -- runs from u units on, of which fewer than f are left
@@ -228,20 +228,30 @@ module _ (j : Job) (good : GoodJob j) (arguments memory : List ℕ) (few : lengt
       let a = accepted (j .image) (good .image) in
       omega (arith, few, arguments-most (j .image) a 0 some-routine, slots-most (j .image) a 0 some-routine)
 
-  root-same : Same (serialFrom j arguments memory) (theory j good 0 (stateOf (startedOn 0 arguments rootWindow)) (words-from 32 memory) 0)
-  unfolding serialFrom Agree
-  root-same = agree j good (suc (j .allowance)) 0 (startedOn 0 arguments rootWindow) memory 0 (fresh j good 0 arguments rootWindow some-routine root-fits) all
-      (omega arith)
+  -- begun n levels down, so that n levels fewer are left before a fork meets 26
+  root-same : (n : ℕ)
+      → Same (callFrom j (suc n) (startedOn 0 arguments rootWindow) memory 0)
+      (theory j good n (stateOf (startedOn 0 arguments rootWindow)) (words-from 32 memory) 0)
+  unfolding Agree
+  root-same n = agree j good (suc (j .allowance)) n (startedOn 0 arguments rootWindow) memory 0
+      (fresh j good 0 arguments rootWindow some-routine root-fits) all (omega arith)
+
+  root-state : (n : ℕ)
+      → theory j good n (stateOf (startedOn 0 arguments rootWindow)) (words-from 32 memory) 0
+      ≡ theory j good n (theoryJob j good arguments memory .root-thread) (words-from 32 memory) 0
+  root-state n = λ ι. theory j good n (record {
+    routine = 0;
+    position = 0;
+    slots = first-listed arguments arguments-few ι;
+    pending = none-pending ι;
+    window = rootWindow;
+  }) (words-from 32 memory) 0
+
+  pub is-theory-below : (n : ℕ)
+      → asOutcome (callFrom j (suc n) (startedOn 0 arguments rootWindow) memory 0)
+      ≡ theory j good n (theoryJob j good arguments memory .root-thread) (words-from 32 memory) 0
+  is-theory-below n = root-same n .same ∙ root-state n
 
   pub is-theory : IsTheory j good arguments memory
-  is-theory = record {
-    same = root-same .same
-        ∙ (λ ι. theory j good 0 (record {
-          routine = 0;
-          position = 0;
-          slots = first-listed arguments arguments-few ι;
-          pending = none-pending ι;
-          window = rootWindow;
-        }) (words-from 32 memory) 0);
-    size = root-same .size;
-  }
+  unfolding serialFrom
+  is-theory = record { same = is-theory-below 0; size = root-same 0 .size }

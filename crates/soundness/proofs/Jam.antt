@@ -64,7 +64,7 @@ module _ (j : Job) (s : State) (ok : Sound j s) (idle : (c : ℕ) → c < s .cou
   no-jam o = endless (suc (ok .tree .deep)) 0 (omega arith) (ok .tree .root o)
 
 -- the first number below n that has a property, or none has
-search : (P : ℕ → Type 0) → ((i : ℕ) → Dec (P i)) → (n : ℕ) → ((i : ℕ) × (i < n) × P i) ⊎ ((i : ℕ) → i < n → ¬ (P i))
+pub search : (P : ℕ → Type 0) → ((i : ℕ) → Dec (P i)) → (n : ℕ) → ((i : ℕ) × (i < n) × P i) ⊎ ((i : ℕ) → i < n → ¬ (P i))
 search P d zero = inr (λ i l. absurd (omega arith))
 search P d (suc n) = go (d n) (search P d n)
   where
