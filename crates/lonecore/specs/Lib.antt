@@ -1,0 +1,5 @@
+-- In reading order: the images and the numbers that T-12 speaks of, its promise, and worked rows of the numbers, a second witness.
+pub mod LforksOnly
+pub mod Depth
+pub mod Commands
+pub mod NeverDry
