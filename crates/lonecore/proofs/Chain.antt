@@ -1,5 +1,5 @@
 -- The threads of a lone core: core 0 is busy, each thread in use runs or is lent, and each but the root is connected; so they are one chain, from
--- the thread on core 0 up to the root (`Alone`). Every entry keeps that while the machine goes on, no join waits, and an accepted entry charges
+-- the thread on core 0 up to the root (`Alone`). Every step keeps that while the machine goes on, no join waits, and an accepted step charges
 -- something (`onward`). Assumes one core and an image without 09, 0B and 0C.
 use mathlib.Core.Bool.{Bool, true, false, cond}
 use mathlib.Core.List.{List, _∷_}
@@ -9,7 +9,6 @@ use Prim.Native.Nat.{ℕ, zero, suc, _+_, _≤_, _<_}
 use native.Mathlib.Omega.{arith}
 use lib.ListN.{getD, set, length, replicate}
 use lib.Seq.{getD-set-same}
-use Rattle.schedule.specs.declared.Entry.{Entry}
 use Rattle.thread.specs.declared.Effect.{Effect}
 use Rattle.thread.specs.declared.Effect.the-variants.{Forks, Suspends, Yields}
 use Rattle.thread.specs.declared.Thread.{Thread}
@@ -20,12 +19,12 @@ use Rattle.rules.specs.Turn.{turnAt, effectAt}
 use Rattle.rules.specs.Update.{accepted, setCore, setOutcome}
 use Rattle.rules.specs.Fork.{born, asked, handed}
 use Rattle.rules.specs.Return.{returnOf, returnToParent, statusAfter, freed}
-use Rattle.rules.specs.Rules.{entryOf}
+use Rattle.rules.specs.Rules.{stepOf}
 use Rattle.rules.specs.Start.{startState}
 use Rattle.rules.specs.Lists.{Every}
 use Rattle.rules.specs.Sound.{Sound, Used, statusAt, parentAt}
 use Rattle.soundness.proofs.Changes.{standing, one-changed, two-changed, used-low, used-below}
-use Rattle.soundness.proofs.EntryCases.{Stepped, Waits, Forked, Enabled, Cases, entry-by}
+use Rattle.soundness.proofs.StepCases.{Stepped, Waits, Forked, StepCases, step-by}
 use Rattle.soundness.proofs.ForkTree.{among-some, child-some}
 use Rattle.soundness.proofs.Parts.{runs}
 use Rattle.soundness.proofs.Tested.{fault-tested}
@@ -43,7 +42,7 @@ pub record Alone (s : State) : Type 0 where
   pub busy : onCore s 0 < none
   pub chained : (u : ℕ) → Used s u → ((statusAt s u ≡ 1) ⊎ (statusAt s u ≡ 5)) × (¬ (u ≡ 0) → threadAt s u .connected ≡ true)
 
--- while the machine goes on it is so, and an accepted entry has charged something
+-- while the machine goes on it is so, and an accepted step has charged something
 abbrev pub Onward : State → After → Type 0
 Onward s a = (a .state .outcome ≡ going → Alone (a .state)) × (a .log ≡ 0 → s .units < a .state .units)
 
@@ -172,17 +171,11 @@ module _ (j : Job) (s : State) (ok : Sound j s) (only : LforksOnly (j .image)) (
         λ _. charged c t k (returnToParent j s (turnAt j s c t) (parentAt s t) (threadAt s (parentAt s t)) v) refl,
       )
 
-  no-enable : (t : ℕ) → Enabled s t → ⊥
-  no-enable t e = let y = e .suspended in ⊎-elim (λ a. omega arith) (λ a. omega arith) (alone .chained t (omega arith) .0)
-
   met : (c t : ℕ) → Stepped j s c t → (e : Effect) → effectAt j s (threadAt s t) ≡ e → calls e ≡ true
   met c t k e q = met-calls j s (ok .job) (ok .placed) only t (runner j s ok c t k) e q
 
-  not-idle : (c : ℕ) → c < s .count → none ≤ onCore s c → ⊥
-  not-idle c l i = let z : onCore s c ≡ onCore s 0 = ap (onCore s) (is-first c l) in let y = alone .busy in omega arith
-
-  onward-cases : Cases (Onward s) j s
-  onward-cases = record {
+  steps : StepCases (Onward s) j s
+  steps = record {
     refuses = λ n l m. (λ _. alone, λ z. absurd (omega arith));
     fault = λ c t k n q. (λ z. let y : _≡_ {A = ℕ} 0 1 = cc in absurd (omega arith), λ z. let y = fault-tested j s t n q in absurd (let x = y .0 in omega arith));
     waiting = λ c t w. absurd (no-wait c t w);
@@ -197,13 +190,10 @@ module _ (j : Job) (s : State) (ok : Sound j s) (only : LforksOnly (j .image)) (
     suspends = λ c t k q. absurd (no-suspend (met c t k Suspends q));
     yields = λ c t k q. absurd (no-yield (met c t k Yields q));
     returns = λ c t k v q. returned c t v k;
-    takes = λ c t ts k. absurd (not-idle c (k .core) (k .idle));
-    steals = λ c t k r d a e q n ns x xs f. absurd (not-idle c (k .core) (k .idle));
-    enables = λ t k. absurd (no-enable t k);
   }
 
-  pub onward : (e : Entry) → Onward s (entryOf j s e)
-  onward e = entry-by (Onward s) j s onward-cases e
+  pub onward : (c : ℕ) → Onward s (stepOf j s c)
+  onward c = step-by (Onward s) j s steps c
 
 -- Start: the root alone
 pub start-alone : (j : Job) (count : ℕ) (arguments memory : List ℕ) → Alone (startState j count arguments memory)

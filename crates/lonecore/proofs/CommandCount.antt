@@ -34,7 +34,7 @@ use Rattle.rules.specs.State.{Job}
 use Rattle.rules.specs.Sound.{GoodJob}
 use Rattle.simulation.proofs.ImageCode.{isCommand, firstByte, weightAt, stood}
 use Rattle.simulation.proofs.JobCode.{codeOf as jobCode}
-use Rattle.lonecore.specs.Commands.{oneEach, counting}
+use Rattle.lonecore.specs.Commands.{oneEach, countingJob}
 
 -- a row that is no command, or weighs 1
 abbrev isOne : ℕ → ℕ → Bool
@@ -60,14 +60,14 @@ module _ (j : Job) (good : GoodJob j) where
   pub ones-weigh : (byte : ℕ) → 1 ≤ widthOf byte → 1 ≤ weightOf oneEach byte
   ones-weigh byte h = let z = one-each byte h in omega arith
 
-  abbrev pub counting-good : GoodJob (counting j)
+  abbrev pub counting-good : GoodJob (countingJob j)
   counting-good = record { image = good .image; bytes = good .bytes; starts = good .starts; parameters = good .parameters; weighs = ones-weigh }
 
   abbrev code : Code
   code = jobCode j good
 
   abbrev code₁ : Code
-  code₁ = jobCode (counting j) counting-good
+  code₁ = jobCode (countingJob j) counting-good
 
   abbrev Local : Type 0
   Local = ThreadState Window

@@ -1,13 +1,29 @@
 -- In reading order: see README.md.
+
+-- the commands of such an image; the plain run, how deep it goes and its commands; a state followed on the tree of its job
 pub mod EffectsMet
+pub mod DepthExact
 pub mod Depths
 pub mod Followed
+pub mod SerialEnding
+pub mod CommandCount
+pub mod PlainRun
+-- few threads are in use
+pub mod FewRunning
+pub mod FewChanges
+pub mod FewStep
+pub mod FewKept
+pub mod Working
+pub mod Leaves
+pub mod Places
+pub mod Exhausted
+pub mod Crowd
+-- a lone core
 pub mod Chain
 pub mod Room
 pub mod Steps
 pub mod Rounds
-pub mod DepthExact
-pub mod SerialEnding
-pub mod CommandCount
-pub mod PlainRun
 pub mod LoneCore
+-- examples
+pub mod Rows
+pub mod Example

@@ -25,7 +25,7 @@ use Rattle.demands.specs.Demands.{Takes, serialIn}
 use Rattle.demands.proofs.Passing.{good}
 use Rattle.demands.proofs.SerialTheory.{asOutcome, is-theory-below}
 use Rattle.lonecore.specs.Depth.{depthWithin, depthIn}
-use Rattle.lonecore.specs.Commands.{counting, unitsOf, commandsIn}
+use Rattle.lonecore.specs.Commands.{countingJob, unitsOf, commandsIn}
 use Rattle.lonecore.proofs.DepthExact.{Exact, Finishes, depth-exact}
 use Rattle.lonecore.proofs.Followed.{Ending}
 use Rattle.lonecore.proofs.SerialEnding.{theJob, firstLocal, depth-same, returned, ends, enough as ends-enough}
@@ -75,7 +75,7 @@ module _ (i : Input) (t : Takes i) (k : ℕ) (low : k < 31) (v u : ℕ) (m : Lis
   enough = ends-enough j g (i .arguments) (i .memory) k low (t .arguments) (t .memory) v u m down
 
   -- with weights 1, begun k levels down
-  counted-down : (w : ℕ → ℕ) × (asOutcome (begunDown (counting j) (i .arguments) (i .memory) k) ≡ t-done v w (ending .count))
+  counted-down : (w : ℕ → ℕ) × (asOutcome (begunDown (countingJob j) (i .arguments) (i .memory) k) ≡ t-done v w (ending .count))
   unfolding begin serial-run
   counted-down =
       let ws = words-from 32 (i .memory) in
@@ -84,14 +84,14 @@ module _ (i : Input) (t : Takes i) (k : ℕ) (low : k < 31) (v u : ℕ) (m : Lis
       let (t₁, r₁, q, n) = steps-counted j g k (ending .count) _ (ending .end) _ (begin-same j g k first ws) (ending .run) in
       let least = steps-cost j g k (ending .count) _ (ending .end) (ending .run) in
       let most = enough in
-      let a = agrees (counted j g k) (i .allowance) (λ l. jobCode (counting j) (counting-good j g) .weighs (l .routine) (l .position)) first ws
+      let a = agrees (counted j g k) (i .allowance) (λ l. jobCode (countingJob j) (counting-good j g) .weighs (l .routine) (l .position)) first ws
       (job .valid) (job .own) (ending .count) t₁ r₁ v
       (ap (λ f. f []) (q .at) ∙ returned j g (i .arguments) (i .memory) k low (t .arguments) (t .memory) v u m down .node) (omega arith) in (
         t₁ .memory,
-        is-theory-below (counting j) (counting-good j g) (i .arguments) (i .memory) (t .arguments) (t .memory) k
-            ∙ depth-same (counting j) (counting-good j g) (i .arguments) (i .memory) k
-            ∙ sym (serial-deeper k (threads windows window-tests (jobCode (counting j) (counting-good j g))) (i .allowance) (suc (i .allowance)) 0 first zeros ws 0
-            ∙ ap (λ n. serial-call (threads windows window-tests (jobCode (counting j) (counting-good j g))) (i .allowance) (suc (i .allowance)) n first zeros ws 0)
+        is-theory-below (countingJob j) (counting-good j g) (i .arguments) (i .memory) (t .arguments) (t .memory) k
+            ∙ depth-same (countingJob j) (counting-good j g) (i .arguments) (i .memory) k
+            ∙ sym (serial-deeper k (threads windows window-tests (jobCode (countingJob j) (counting-good j g))) (i .allowance) (suc (i .allowance)) 0 first zeros ws 0
+            ∙ ap (λ n. serial-call (threads windows window-tests (jobCode (countingJob j) (counting-good j g))) (i .allowance) (suc (i .allowance)) n first zeros ws 0)
             (let z : 0 + k ≡ k = omega arith in z))
             ∙ a ∙ ap (t-done v (t₁ .memory)) (let z : t₁ .units ≡ ending .count = omega arith in z),
       )
@@ -100,6 +100,6 @@ module _ (i : Input) (t : Takes i) (k : ℕ) (low : k < 31) (v u : ℕ) (m : Lis
   pub commands-are-steps : commandsIn i ≡ ending .count
   commands-are-steps =
       let (w, e) = counted-down in
-      let (over, units) = ends-as (begunDown (counting j) (i .arguments) (i .memory) k) v (ending .count) w e in
-      let exact = down-exact (counting j) (i .arguments) (i .memory) k (omega arith) in
-      ap unitsOf (serial-starts i t (counting j) refl refl ∙ sym (exact .same (exact .fits over))) ∙ units
+      let (over, units) = ends-as (begunDown (countingJob j) (i .arguments) (i .memory) k) v (ending .count) w e in
+      let exact = down-exact (countingJob j) (i .arguments) (i .memory) k (omega arith) in
+      ap unitsOf (serial-starts i t (countingJob j) refl refl ∙ sym (exact .same (exact .fits over))) ∙ units

@@ -74,15 +74,16 @@ module _ (j : Job) (good : GoodJob j) (arguments memory : List ℕ) (k : ℕ) (l
       over : (v : ℕ) → entryOf j s (Step 0) .state .outcome ≡ finished v → suc n ≡ E .count → Goes
 
     pub goes : Goes
+    unfolding entryOf
     goes = by (leads j good arguments memory k low s (h .sound) n (h .followed) E (Step 0) accepted)
       where
         by : Next j good arguments memory k low s (h .sound) n (h .followed) E (entryOf j s (Step 0)) → Goes
-        by (rests o u f) = let z = onward j s (h .sound) only (h .one) (h .alone) (Step 0) .1 accepted in absurd (omega arith)
+        by (rests o u f) = let z = onward j s (h .sound) only (h .one) (h .alone) 0 .1 accepted in absurd (omega arith)
         by (goes-on o f) = further (record {
           sound = entry-sound j s (h .sound) (Step 0);
           followed = f;
           one = keep-count j s (h .sound) (Step 0) ∙ h .one;
-          alone = onward j s (h .sound) only (h .one) (h .alone) (Step 0) .0 o;
+          alone = onward j s (h .sound) only (h .one) (h .alone) 0 .0 o;
           ongoing = o;
         })
         by (has-ended v o e) = over v o e

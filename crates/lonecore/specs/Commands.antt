@@ -12,12 +12,12 @@ abbrev pub oneEach : List ℕ
 oneEach = 0 ∷ 1 ∷ 1 ∷ 1 ∷ 1 ∷ 1 ∷ 1 ∷ 1 ∷ 1 ∷ 1 ∷ 1 ∷ 1 ∷ 1 ∷ 1 ∷ []
 
 -- the same job with these weights
-abbrev pub counting : Job → Job
-counting j = record { image = j .image; starts = j .starts; parameters = j .parameters; allowance = j .allowance; weights = oneEach }
+abbrev pub countingJob : Job → Job
+countingJob j = record { image = j .image; starts = j .starts; parameters = j .parameters; allowance = j .allowance; weights = oneEach }
 
 abbrev pub unitsOf : Ended → ℕ
 unitsOf (done v m u) = u
 unitsOf (stopped n m u) = u
 
 abbrev pub commandsIn : Input → ℕ
-commandsIn i = unitsOf (serialOf (counting (jobIn i)) (i .arguments) (i .memory))
+commandsIn i = unitsOf (serialOf (countingJob (jobIn i)) (i .arguments) (i .memory))

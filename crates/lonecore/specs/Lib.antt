@@ -3,3 +3,4 @@ pub mod LforksOnly
 pub mod Depth
 pub mod Commands
 pub mod NeverDry
+pub mod Rows

@@ -1,9 +1,11 @@
 -- The parts of a run put together: `begin` gives the tests and Start, the rounds give the rest. Assumes nothing.
 use mathlib.Core.List.{List, []}
 use mathlib.Core.Path.{_≡_, refl, sym, _∙_, ap, subst}
-use Prim.Native.Nat.{ℕ, _<_}
+use Prim.Native.Nat.{ℕ, zero, suc, _*_, _<_}
 use native.Mathlib.Omega.{arith}
-use lib.ListN.{getD, length}
+use lib.ListN.{getD, length, replicate}
+use Rattle.schedule.specs.declared.Entry.the-variants.{Step}
+use Rattle.schedule.specs.Format.{bytesOfEntries}
 use Rattle.census.specs.declared.Census.{Census}
 use Rattle.thread.specs.Job.{jobOf}
 use Rattle.rules.specs.State.{State}
@@ -12,6 +14,7 @@ use Rattle.entries.specs.Given.{Sounding}
 use Rattle.start.specs.Start.{Starts}
 use Rattle.demands.specs.declared.RunAnswer.the-variants.{Refused}
 use Rattle.demands.specs.Input.{Input, jobIn, startIn, answerOf, Numbered}
+use Rattle.demands.proofs.Passing.{takes}
 use Rattle.demands.proofs.WholeRun.{scheduler-numbers, number-told}
 use Rattle.begin.specs.declared.Begun.{Begun}
 use Rattle.begin.specs.Begins.{Begins}
@@ -19,10 +22,18 @@ use Rattle.serial.specs.Serial.{done}
 use Rattle.run.specs.Machine.{MachineIs}
 use Rattle.run.proofs.Running.{first, ready}
 use Rattle.run.proofs.RunDemand.{finished-by}
+use Rattle.lonecore.specs.Commands.{commandsIn}
+use Rattle.lonecore.proofs.LoneCore.{never-dry}
 use Rattle.scheduler.proofs.Equalling.{equals, ends}
 use Rattle.scheduler.specs.declared.Scheduled.{Scheduled}
 use Rattle.turns.specs.Steps.{Rounded}
 use Rattle.scheduler.specs.Promise.{refusalIn, scheduledOf, SchedulerPromise}
+
+-- a step's entry has two bytes
+steps-bytes : (n : ℕ) → length (bytesOfEntries (replicate n (Step 0))) ≡ 2 * n
+unfolding bytesOfEntries
+steps-bytes zero = refl
+steps-bytes (suc n) = let z = steps-bytes n in omega arith
 
 module _ (i : Input) (b : Begun) (xs ys ws vs : List ℕ) (begun : Begins i [] [] b) (start : Starts (i .image) (i .arguments) (i .cores) xs ys ws vs)
     (sized : length xs ≡ size) (wide : length ws ≡ 1024) where
@@ -47,6 +58,7 @@ module _ (i : Input) (b : Begun) (xs ys ws vs : List ℕ) (begun : Begins i [] [
     numbers = scheduler-numbers i;
     plain = λ v u e. let z : _≡_ {A = ℕ} 0 1 = cc in absurd (omega arith);
     words = λ v u e. let z : _≡_ {A = ℕ} 0 1 = cc in absurd (omega arith);
+    loneCore = λ z. absurd (some (begun .number ∙ z));
   }
 
   module _ (none : b .number ≡ 0) (bytes : (k : ℕ) → getD (i .image) k 0 < 256) where
@@ -86,4 +98,12 @@ module _ (i : Input) (b : Begun) (xs ys ws vs : List ℕ) (begun : Begins i [] [
           words = λ v u e.
               let (over, units) = finished-by (end .outcome) (end .units) v u (sym answer ∙ e) in
               ap (λ (s : State). s .store .words) (p .state) ∙ equals i (length before) passes bytes .demand .free v over .words;
+          loneCore = λ z v u m h.
+              let dry = never-dry i (takes i [] [] passes bytes) (length before) v u m h in
+              record {
+                answer = answer ∙ (λ ι. answerOf (dry .outcome ι) (dry .units ι));
+                memory = memory ∙ dry .memory;
+                used = p .used ∙ ap (λ es. length (bytesOfEntries es)) (dry .entries) ∙ steps-bytes (commandsIn i);
+                run = dry;
+              };
         }

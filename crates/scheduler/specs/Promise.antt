@@ -3,7 +3,7 @@ use mathlib.Core.Bool.{true, false}
 use mathlib.Core.List.{List, []}
 use mathlib.Core.Logic.{_⊎_}
 use mathlib.Core.Path.{_≡_}
-use Prim.Native.Nat.{ℕ, _+_, _≤_, _<_}
+use Prim.Native.Nat.{ℕ, _+_, _*_, _≤_, _<_}
 use lib.ListN.{length, replicate}
 use Rattle.schedule.specs.Meaning.{entries, scheduleOf}
 use Rattle.schedule.specs.Format.{bytesOfEntries}
@@ -18,6 +18,8 @@ use Rattle.demands.specs.Demands.{Demand3, serialIn}
 use Rattle.demands.specs.WholeRun.{SchedulerNumbers}
 use Rattle.run.specs.Machine.{MachineIs}
 use Rattle.rounds.specs.Rounds.{Progress, isWritten, scheduledFrom, filled}
+use Rattle.lonecore.specs.Commands.{commandsIn}
+use Rattle.lonecore.specs.NeverDry.{LoneCore, NeverDry}
 use Rattle.scheduler.specs.declared.ScheduleShown.{ScheduleShown}
 use Rattle.scheduler.specs.declared.Scheduled.{Scheduled}
 
@@ -62,6 +64,14 @@ pub record Ends (p : Progress) (used size : ℕ) : Type 0 where
   pub within : used ≤ size
   pub most : used ≤ 32768
 
+-- T-12, "A lone core never runs dry", of what the scheduler gives: it finishes with the plain run's result, units and memory, by two bytes for each
+-- command, and no try is refused
+pub record NeverRanDry (i : Input) (size v u : ℕ) (m : List ℕ) (r : Scheduled) (memoryAfter : List ℕ) : Type 0 where
+  pub answer : r .answer ≡ Finished v u
+  pub memory : memoryAfter ≡ m
+  pub used : r .used ≡ 2 * commandsIn i
+  pub run : NeverDry i v u m (scheduledOf i size)
+
 -- what the scheduler gives, where the words stand in an array of the caller's
 abbrev pub scheduledWith : ScheduleShown → List ℕ → Scheduled
 scheduledWith r words = record { answer = r .answer; counts = r .counts; statuses = r .statuses; words = words; used = r .used }
@@ -77,3 +87,6 @@ pub record SchedulerPromise (i : Input) (before : List ℕ) (r : Scheduled) (mem
   pub plain : (v u : ℕ) → r .answer ≡ Finished v u → serialIn i ≡ done v memoryAfter u
   -- T-02: "A finished run then leaves all 1,024 stacklet words zero": of the words that are given
   pub words : (v u : ℕ) → r .answer ≡ Finished v u → r .words ≡ replicate 1024 0
+  -- T-12: "For an image without 09, 0B and 0C, whose plain run finishes and goes at most 16 routines deep, the house run on one core with the same
+  -- allowance finishes, given an entry buffer of twice the commands carried out plus one byte, if that is at most 32,768"
+  pub loneCore : refusalIn i ≡ 0 → (v u : ℕ) (m : List ℕ) → LoneCore i (length before) v u m → NeverRanDry i (length before) v u m r memoryAfter

@@ -33,7 +33,7 @@ use Rattle.rules.specs.Return.{returnOf, returnToParent}
 use Rattle.rules.specs.Rules.{entryOf}
 use Rattle.rules.specs.Sound.{GoodJob, Sound, Used}
 use Rattle.soundness.proofs.Tested.{fault-tested}
-use Rattle.soundness.proofs.EntryCases.{Stepped, Chosen, above, onFree, Forked, Cases, entry-by}
+use Rattle.soundness.proofs.EntryCases.{Stepped, Chosen, above, onFree, Forked, StepCases, Cases, entry-by}
 use Rattle.soundness.proofs.ThreadsMet.{runner, waiter-used, lent-used, linked-parent}
 use Rattle.simulation.proofs.JobCode.{weightIn, codeOf}
 use Rattle.simulation.proofs.StatePool.{linkOf, poolOf}
@@ -227,11 +227,10 @@ module _ (j : Job) (good : GoodJob j) (s : State) (ok : Sound j s) where
       go false is = step-of t (returnOf j s (turnAt j s c t) v) (k .ongoing) (return-outcome j s (turnAt j s c t) v is)
           (returns-goes j good s ok c t u v met is)
 
-  cases : Cases (Moves j good s) j s
-  cases = record {
+  steps-move : StepCases (Moves j good s) j s
+  steps-move = record {
     refuses = λ n l m. refuses n l m refl;
-    fault = λ c t k n met. ⊎-elim (λ w. fault-moves c t (w .ongoing) (runner j s ok c t w) n met)
-        (λ w. fault-moves c t (w .ongoing) (lent-used j s ok c t w) n met) k;
+    fault = λ c t k n met. fault-moves c t (k .ongoing) (runner j s ok c t k) n met;
     waiting = λ c t k. rest-of (leaves c t Waiting s) (k .ongoing) (leaves-outcome c t Waiting s)
         (leaves-pool j c t Waiting s (waiter-used j s ok c t k) (omega arith) (linked-parent j s ok t));
     sets = λ c t k d v met. step-of t _ (k .ongoing) refl (sets-goes j good s ok c t (runner j s ok c t k) d v met);
@@ -247,7 +246,13 @@ module _ (j : Job) (good : GoodJob j) (s : State) (ok : Sound j s) where
     yields = λ c t k met. step-of t _ (k .ongoing) (leaves-outcome c t Ready (goesOn (turnAt j s c t) s))
         (leaves-step c t Ready k (omega arith) (yields-goes j good s ok c t (runner j s ok c t k) met));
     returns = return-moves;
+  }
+
+  cases : Cases (Moves j good s) j s
+  cases = record {
+    steps = steps-move;
     takes = λ c t ts k. rest-of (runs c t (setReady ts s)) (k .ongoing) refl (runs-pool j c t (setReady ts s) (ready-used j s ok t ts (k .head)));
+    seedFault = λ c t k n met. fault-moves c t (k .ongoing) (lent-used j s ok c t k) n met;
     steals = λ c t k r d a e met n ns x xs f. ⊎-elim (λ m. lfork-moves Stolen c t (k .ongoing) (lent-used j s ok c t k) r d a e m n ns x xs f)
         (λ m. fork-moves Stolen c t (k .ongoing) (lent-used j s ok c t k) r d a e m n ns x xs f) met;
     enables = λ t k. rest-of _ (k .ongoing) refl (enable-pool j t s (let z = k .suspended in omega arith));

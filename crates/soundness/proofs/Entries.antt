@@ -1,7 +1,7 @@
 -- What an entry may do to a state, once for every property P of states: where P holds after each of these changes (`Kept`), it holds
 -- after any entry, whatever its log byte (`entry-by`). Assumes nothing.
 use mathlib.Core.List.{List}
-use mathlib.Core.Logic.{_⊎_, ⊎-elim}
+use mathlib.Core.Logic.{_⊎_}
 use mathlib.Core.Path.{_≡_}
 use Prim.Native.Nat.{ℕ, _-_, _<_}
 use Rattle.schedule.specs.declared.Entry.{Entry}
@@ -18,7 +18,7 @@ use Rattle.rules.specs.Fork.{asked, born, handed}
 use Rattle.rules.specs.Return.{returnOf}
 use Rattle.rules.specs.Rules.{entryOf}
 pub use Rattle.soundness.proofs.EntryCases.{Waits, Stepped, Seeded, Chosen, above, onFree, Forked, Taken, Enabled, Seed, seed-true, not-over, or-true}
-use Rattle.soundness.proofs.EntryCases.{Cases}
+use Rattle.soundness.proofs.EntryCases.{StepCases, Cases}
 use Rattle.soundness.proofs.EntryCases as cases
 
 -- the changes that an entry can make, and P after each
@@ -61,10 +61,10 @@ pub record Kept (P : State → Type 0) (j : Job) (s : State) : Type 0 where
   pub enables : (t : ℕ) → Enabled s t → P (enqueueReady t (setThread t (withStatus Ready (threadAt s t)) s))
 
 module _ (P : State → Type 0) (j : Job) (s : State) (kept : Kept P j s) where
-  each : Cases (λ a. P (a .state)) j s
-  each = record {
+  steps : StepCases (λ a. P (a .state)) j s
+  steps = record {
     refuses = λ n l m. kept .unchanged;
-    fault = λ c t k n e. ⊎-elim (λ h. kept .fault t n (h .ongoing) (h .low) e) (λ h. kept .fault t n (h .ongoing) (h .low) e) k;
+    fault = λ c t k n e. kept .fault t n (k .ongoing) (k .low) e;
     waiting = kept .waiting;
     sets = kept .sets;
     loads = kept .loads;
@@ -77,7 +77,13 @@ module _ (P : State → Type 0) (j : Job) (s : State) (kept : Kept P j s) where
     suspends = kept .suspends;
     yields = kept .yields;
     returns = kept .returns;
+  }
+
+  each : Cases (λ a. P (a .state)) j s
+  each = record {
+    steps = steps;
     takes = kept .takes;
+    seedFault = λ c t k n e. kept .fault t n (k .ongoing) (k .low) e;
     steals = kept .steals;
     enables = kept .enables;
   }

@@ -1,10 +1,10 @@
--- What an entry may give, once for every property P of what an entry gives, its state and log byte: where P holds of each of these
--- (`Cases`), it holds of any entry (`entry-by`). Assumes nothing.
+-- What any entry may give, once for every property P of what an entry gives, its state and log byte: where P holds of each of these
+-- (`Cases`), it holds of any entry (`entry-by`). A take and a steal alone need less (`take-by`, `steal-by`). Assumes nothing.
 use mathlib.Core.Bool.{Bool, true, false, cond, _&&_, _||_, not}
 use mathlib.Core.List.{List, [], _∷_}
 use mathlib.Core.Logic.{_⊎_, inl, inr, ⊎-elim}
-use mathlib.Core.Path.{_≡_, refl, sym}
-use Prim.Native.Nat.{ℕ, _-_, _/_, _<_, _≤_}
+use mathlib.Core.Path.{_≡_, refl}
+use Prim.Native.Nat.{ℕ, _<_, _≤_}
 use native.Mathlib.Omega.{arith}
 use lib.Dec.{ltb, leb, eqb}
 use borrow.Author.Tests.{eqb-true, ltb-true, ltb-false, leb-false}
@@ -13,40 +13,19 @@ use Rattle.schedule.specs.declared.Entry.{Entry}
 use Rattle.schedule.specs.declared.Entry.the-variants.{Step, Take, Steal, Enable}
 use Rattle.thread.specs.declared.Effect.{Effect}
 use Rattle.thread.specs.declared.Effect.the-variants.{Faults, Sets, Loads, Stores, Goes, Continues, Lforks, Forks, Joins, Suspends, Yields, Returns}
-use Rattle.thread.specs.declared.Status.the-variants.{Ready, Suspended, Waiting, Lent}
-use Rattle.thread.specs.declared.Thread.{Thread}
-use Rattle.thread.specs.Thread.{movedTo, joinedAt, withStatus, none, _is_}
-use Rattle.thread.specs.Job.{wordAt}
-use Rattle.rules.specs.declared.ForkKind.{ForkKind}
-use Rattle.rules.specs.declared.ForkKind.the-variants.{Called, Queued, Stolen}
-use Rattle.rules.specs.State.{Job, State, After, Outcome, going, finished, faulted, isOver, threadAt, onCore, isBusy}
-use Rattle.rules.specs.Update.{setThread, setReady, setSlot, setMemory, enqueueReady, accepted, refused}
-use Rattle.rules.specs.Turn.{Turn, turnAt, byteOf, effectAt, tooDear, waits, completed, goesOn, faults}
-use Rattle.rules.specs.Leave.{runs, leaves}
-use Rattle.rules.specs.Fork.{Asked, asked, goesAbove, placeOf, born, forkOn, forkWith, forkOf, handed}
-use Rattle.rules.specs.Return.{returnOf}
-use Rattle.rules.specs.Rules.{carriedOf, turnOf, stepOf, takeInto, takeOf, isSeed, stolenOf, stealOf, enableOf, entryOf}
+use Rattle.thread.specs.declared.Status.the-variants.{Ready, Suspended, Lent}
+use Rattle.thread.specs.Thread.{withStatus, none, _is_}
+use Rattle.rules.specs.declared.ForkKind.the-variants.{Stolen}
+use Rattle.rules.specs.State.{Job, State, After, going, isOver, threadAt, onCore, isBusy}
+use Rattle.rules.specs.Update.{setThread, setReady, enqueueReady, accepted, refused}
+use Rattle.rules.specs.Turn.{turnAt, byteOf, effectAt, tooDear, faults}
+use Rattle.rules.specs.Leave.{runs}
+use Rattle.rules.specs.Fork.{asked, born, handed}
+use Rattle.rules.specs.Rules.{takeInto, takeOf, isSeed, stolenOf, stealOf, enableOf, entryOf}
 use Rattle.rules.specs.Sound.{statusAt}
-pub use Rattle.soundness.specs.Numbers.{Stepped, Seed, Seeded}
-
--- What is known where a change is met. Thread t on core c meets a join that waits
-pub record Waits (j : Job) (s : State) (c t : ℕ) : Type 0 where
-  pub ongoing : s .outcome ≡ going
-  pub core : c < s .count
-  pub seat : onCore s c ≡ t
-  pub low : t < 32
-  pub byte : byteOf j (threadAt s t) ≡ 10
-  pub children : 0 < threadAt s t .family .children
-
--- the stacklet x of a new frame, and the free stacklets xs that are left
-pub data Chosen (j : Job) (s : State) (kind : ForkKind) (h : Thread) (r x : ℕ) (xs : List ℕ) : Type 0 where
-  above : goesAbove j s kind h r ≡ true → x ≡ h .origin .base / 64 → xs ≡ s .queues .freeStacklets → Chosen j s kind h r x xs
-  onFree : goesAbove j s kind h r ≡ false → s .queues .freeStacklets ≡ x ∷ xs → Chosen j s kind h r x xs
-
--- a fork has the thread number n and the stacklet x for its child
-pub record Forked (j : Job) (s : State) (kind : ForkKind) (h : Thread) (r n : ℕ) (ns : List ℕ) (x : ℕ) (xs : List ℕ) : Type 0 where
-  pub number : s .queues .freeThreads ≡ n ∷ ns
-  pub place : Chosen j s kind h r x xs
+pub use Rattle.soundness.specs.Numbers.{Seed, Seeded}
+pub use Rattle.soundness.proofs.StepCases.{Stepped, Waits, Chosen, above, onFree, Forked, Refuses, StepCases, not-over, step-by}
+use Rattle.soundness.proofs.StepCases.{fork-by}
 
 -- idle core c takes t, the head of the ready queue
 pub record Taken (s : State) (c t : ℕ) (ts : List ℕ) : Type 0 where
@@ -61,49 +40,23 @@ pub record Enabled (s : State) (t : ℕ) : Type 0 where
   pub low : t < 32
   pub suspended : statusAt s t ≡ 3
 
+-- what thread t's seed can give core c, and P of each: a fault, or a child by an lfork or a fork
+abbrev pub SeedFault : (After → Type 0) → Job → State → ℕ → ℕ → Type 0
+SeedFault P j s c t = Seeded j s c t → (n : ℕ) → effectAt j s (threadAt s t) ≡ Faults n → P (faults (turnAt j s c t) n s)
+
+abbrev pub SeedChild : (After → Type 0) → Job → State → ℕ → ℕ → Type 0
+SeedChild P j s c t = Seeded j s c t → (r d a e : ℕ)
+    → (effectAt j s (threadAt s t) ≡ Lforks r d a e) ⊎ (effectAt j s (threadAt s t) ≡ Forks r d a e)
+    → (n : ℕ) (ns : List ℕ) (x : ℕ) (xs : List ℕ) → Forked j s Stolen (threadAt s t) r n ns x xs
+    → P (accepted (born j s Stolen (turnAt j s c t) (asked r d a e) (handed n ns x xs)))
+
 -- what an entry can give, and P of each
 pub record Cases (P : After → Type 0) (j : Job) (s : State) : Type 0 where
-  -- 14 to 22: nothing changes
-  pub refuses : (n : ℕ) → 14 ≤ n → n ≤ 22 → P (refused n s)
-  pub fault : (c t : ℕ) → Stepped j s c t ⊎ Seeded j s c t → (n : ℕ) → effectAt j s (threadAt s t) ≡ Faults n → P (faults (turnAt j s c t) n s)
-  pub waiting : (c t : ℕ) → Waits j s c t → P (accepted (leaves c t Waiting s))
-  pub sets : (c t : ℕ) → Stepped j s c t → (d v : ℕ) → effectAt j s (threadAt s t) ≡ Sets d v
-      → P (accepted (goesOn (turnAt j s c t) (setSlot (threadAt s t) d v s)))
-  pub loads : (c t : ℕ) → Stepped j s c t → (d a : ℕ) → effectAt j s (threadAt s t) ≡ Loads d a
-      → P (accepted (goesOn (turnAt j s c t) (setSlot (threadAt s t) d (wordAt j (s .store .memory) a) s)))
-  pub stores : (c t : ℕ) → Stepped j s c t → (a v : ℕ) → effectAt j s (threadAt s t) ≡ Stores a v
-      → P (accepted (goesOn (turnAt j s c t) (setMemory a v s)))
-  pub goes : (c t : ℕ) → Stepped j s c t → (p : ℕ) → effectAt j s (threadAt s t) ≡ Goes p
-      → P (accepted (completed (turnAt j s c t) (movedTo p (threadAt s t)) s))
-  pub continues : (c t : ℕ) → Stepped j s c t → effectAt j s (threadAt s t) ≡ Continues
-      → P (accepted (goesOn (turnAt j s c t) s))
-  pub lforks : (c t : ℕ) → Stepped j s c t → (r d a e : ℕ) → effectAt j s (threadAt s t) ≡ Lforks r d a e
-      → (n : ℕ) (ns : List ℕ) (x : ℕ) (xs : List ℕ) → Forked j s Called (threadAt s t) r n ns x xs
-      → P (accepted (born j s Called (turnAt j s c t) (asked r d a e) (handed n ns x xs)))
-  pub forks : (c t : ℕ) → Stepped j s c t → (r d a e : ℕ) → effectAt j s (threadAt s t) ≡ Forks r d a e
-      → (n : ℕ) (ns : List ℕ) (x : ℕ) (xs : List ℕ) → Forked j s Queued (threadAt s t) r n ns x xs
-      → P (accepted (born j s Queued (turnAt j s c t) (asked r d a e) (handed n ns x xs)))
-  pub joins : (c t : ℕ) → Stepped j s c t → effectAt j s (threadAt s t) ≡ Joins
-      → P (accepted (completed (turnAt j s c t) (joinedAt (turnAt j s c t .next) (threadAt s t)) s))
-  pub suspends : (c t : ℕ) → Stepped j s c t → effectAt j s (threadAt s t) ≡ Suspends
-      → P (accepted (leaves c t Suspended (goesOn (turnAt j s c t) s)))
-  pub yields : (c t : ℕ) → Stepped j s c t → effectAt j s (threadAt s t) ≡ Yields
-      → P (accepted (enqueueReady t (leaves c t Ready (goesOn (turnAt j s c t) s))))
-  pub returns : (c t : ℕ) → Stepped j s c t → (v : ℕ) → effectAt j s (threadAt s t) ≡ Returns v
-      → P (accepted (returnOf j s (turnAt j s c t) v))
+  pub steps : StepCases P j s
   pub takes : (c t : ℕ) (ts : List ℕ) → Taken s c t ts → P (accepted (runs c t (setReady ts s)))
-  -- an lfork or a fork as a seed
-  pub steals : (c t : ℕ) → Seeded j s c t → (r d a e : ℕ)
-      → (effectAt j s (threadAt s t) ≡ Lforks r d a e) ⊎ (effectAt j s (threadAt s t) ≡ Forks r d a e)
-      → (n : ℕ) (ns : List ℕ) (x : ℕ) (xs : List ℕ) → Forked j s Stolen (threadAt s t) r n ns x xs
-      → P (accepted (born j s Stolen (turnAt j s c t) (asked r d a e) (handed n ns x xs)))
+  pub seedFault : (c t : ℕ) → SeedFault P j s c t
+  pub steals : (c t : ℕ) → SeedChild P j s c t
   pub enables : (t : ℕ) → Enabled s t → P (accepted (enqueueReady t (setThread t (withStatus Ready (threadAt s t)) s)))
-
--- a machine that is not over is going
-pub not-over : (o : Outcome) → isOver o ≡ false → o ≡ going
-not-over going e = refl
-not-over (finished v) e = absurd (let z : _≡_ {A = ℕ} 0 1 = cc in omega arith)
-not-over (faulted n t o) e = absurd (let z : _≡_ {A = ℕ} 0 1 = cc in omega arith)
 
 pub or-true : (a b : Bool) → (a || b) ≡ true → (a ≡ true) ⊎ (b ≡ true)
 or-true true b h = inl refl
@@ -117,119 +70,57 @@ seed-true j s t h =
     let (d, e) = both (threadAt s t .status is Lent) fork b in
     (ltb-true _ _ a, eqb-true _ _ d, ⊎-elim (λ z. inl (eqb-true _ _ z)) (λ z. inr (eqb-true _ _ z)) (or-true _ _ e))
 
-module _ (P : After → Type 0) (j : Job) (s : State) (cases : Cases P j s) where
-  -- a fork of any kind: 20, 21 or a child
-  fork-by : (kind : ForkKind) (o : Turn) (f : Asked)
-      → ((n : ℕ) (ns : List ℕ) (x : ℕ) (xs : List ℕ) → Forked j s kind (o .thread) (f .routine) n ns x xs → P (accepted (born j s kind o f (handed n ns x xs))))
-      → P (forkOf j s kind o f)
-  unfolding forkOf forkWith forkOn placeOf
-  fork-by kind o f make = with-number (s .queues .freeThreads) refl
-    where
-      on-place : (n : ℕ) (ns : List ℕ) → s .queues .freeThreads ≡ n ∷ ns → (b : Bool) → goesAbove j s kind (o .thread) (f .routine) ≡ b
-          → (ys : List ℕ) → s .queues .freeStacklets ≡ ys → P (forkOn s (λ x xs. born j s kind o f (handed n ns x xs)) (placeOf b (o .thread .origin .base / 64) ys))
-      on-place n ns e true g ys q = make n ns (o .thread .origin .base / 64) ys (record { number = e; place = above g refl (sym q) })
-      on-place n ns e false g [] q = cases .refuses 21 (omega arith) (omega arith)
-      on-place n ns e false g (y ∷ ys) q = make n ns y ys (record { number = e; place = onFree g q })
-
-      with-number : (ns : List ℕ) → s .queues .freeThreads ≡ ns → P (forkWith j s kind o f ns)
-      with-number [] e = cases .refuses 20 (omega arith) (omega arith)
-      with-number (n ∷ ns) e = on-place n ns e (goesAbove j s kind (o .thread) (f .routine)) refl (s .queues .freeStacklets) refl
-
-  -- a step, by the effect of the command met
-  carried-by : (c t : ℕ) → Stepped j s c t → (e : Effect) → effectAt j s (threadAt s t) ≡ e → P (carriedOf j s (turnAt j s c t) e)
-  unfolding carriedOf
-  carried-by c t k (Faults n) e = cases .fault c t (inl k) n e
-  carried-by c t k (Sets d v) e = cases .sets c t k d v e
-  carried-by c t k (Loads d a) e = cases .loads c t k d a e
-  carried-by c t k (Stores a v) e = cases .stores c t k a v e
-  carried-by c t k (Goes p) e = cases .goes c t k p e
-  carried-by c t k Continues e = cases .continues c t k e
-  carried-by c t k (Lforks r d a w) e = fork-by Called (turnAt j s c t) (asked r d a w) (λ n ns x xs. cases .lforks c t k r d a w e n ns x xs)
-  carried-by c t k (Forks r d a w) e = fork-by Queued (turnAt j s c t) (asked r d a w) (λ n ns x xs. cases .forks c t k r d a w e n ns x xs)
-  carried-by c t k Joins e = cases .joins c t k e
-  carried-by c t k Suspends e = cases .suspends c t k e
-  carried-by c t k Yields e = cases .yields c t k e
-  carried-by c t k (Returns v) e = cases .returns c t k v e
-
-  step-by : (c : ℕ) → P (stepOf j s c)
-  unfolding stepOf turnOf
-  step-by c = go (isOver (s .outcome)) refl (leb (s .count) c) refl (isBusy s c) refl (waits j (threadAt s (onCore s c))) refl
-      (tooDear j s (turnAt j s c (onCore s c))) refl
-    where
-      go : (x : Bool) → isOver (s .outcome) ≡ x → (y : Bool) → leb (s .count) c ≡ y → (z : Bool) → isBusy s c ≡ z
-          → (v : Bool) → waits j (threadAt s (onCore s c)) ≡ v → (b : Bool) → tooDear j s (turnAt j s c (onCore s c)) ≡ b
-          → P (cond x (refused 19 s) (cond y (refused 14 s) (cond (not z) (refused 15 s)
-          (cond v (record { state = leaves c (onCore s c) Waiting s; log = 0 }) (cond b (refused 22 s)
-          (carriedOf j s (turnAt j s c (onCore s c)) (effectAt j s (threadAt s (onCore s c)))))))))
-      go true _ y _ z _ v _ b _ = cases .refuses 19 (omega arith) (omega arith)
-      go false e true _ z _ v _ b _ = cases .refuses 14 (omega arith) (omega arith)
-      go false e false f false _ v _ b _ = cases .refuses 15 (omega arith) (omega arith)
-      go false e false f true g true h b _ = let w = both (eqb (byteOf j (threadAt s (onCore s c))) 10) (ltb 0 (threadAt s (onCore s c) .family .children)) h in
-          cases .waiting c (onCore s c) (record {
-            ongoing = not-over _ e;
-            core = leb-false _ _ f;
-            seat = refl;
-            low = ltb-true _ _ g;
-            byte = eqb-true _ _ (w .0);
-            children = ltb-true _ _ (w .1);
-          })
-      go false e false f true g false h true _ = cases .refuses 22 (omega arith) (omega arith)
-      go false e false f true g false h false k =
-          carried-by c (onCore s c) (record {
-            ongoing = not-over _ e;
-            core = leb-false _ _ f;
-            seat = refl;
-            low = ltb-true _ _ g;
-            passes = h;
-            paid = ltb-false _ _ k;
-          }) _ refl
-
-  take-by : (c : ℕ) → P (takeOf s c)
+-- a take
+module _ (P : After → Type 0) (s : State) (refuses : Refuses P s) (c : ℕ)
+    (takes : (t : ℕ) (ts : List ℕ) → Taken s c t ts → P (accepted (runs c t (setReady ts s)))) where
+  pub take-by : P (takeOf s c)
   unfolding takeOf takeInto
-  take-by c = go (isOver (s .outcome)) refl (leb (s .count) c) refl (isBusy s c) refl
+  take-by = go (isOver (s .outcome)) refl (leb (s .count) c) refl (isBusy s c) refl
     where
       into : s .outcome ≡ going → c < s .count → none ≤ onCore s c → (ts : List ℕ) → s .queues .ready ≡ ts → P (takeInto s c ts)
-      into o l i [] e = cases .refuses 16 (omega arith) (omega arith)
-      into o l i (t ∷ ts) e = cases .takes c t ts (record { ongoing = o; core = l; idle = i; head = e })
+      into o l i [] e = refuses 16 (omega arith) (omega arith)
+      into o l i (t ∷ ts) e = takes t ts (record { ongoing = o; core = l; idle = i; head = e })
 
       go : (x : Bool) → isOver (s .outcome) ≡ x → (y : Bool) → leb (s .count) c ≡ y → (z : Bool) → isBusy s c ≡ z
           → P (cond x (refused 19 s) (cond y (refused 14 s) (cond z (refused 15 s) (takeInto s c (s .queues .ready)))))
-      go true _ y _ z _ = cases .refuses 19 (omega arith) (omega arith)
-      go false e true _ z _ = cases .refuses 14 (omega arith) (omega arith)
-      go false e false f true _ = cases .refuses 15 (omega arith) (omega arith)
+      go true _ y _ z _ = refuses 19 (omega arith) (omega arith)
+      go false e true _ z _ = refuses 14 (omega arith) (omega arith)
+      go false e false f true _ = refuses 15 (omega arith) (omega arith)
       go false e false f false g = into (not-over _ e) (leb-false _ _ f) (ltb-false _ _ g) (s .queues .ready) refl
 
-  stolen-by : (c t : ℕ) → Seeded j s c t → (e : Effect) → effectAt j s (threadAt s t) ≡ e → P (stolenOf j s (turnAt j s c t) e)
+-- a steal
+module _ (P : After → Type 0) (j : Job) (s : State) (refuses : Refuses P s) (c t : ℕ) (seedFault : SeedFault P j s c t) (steals : SeedChild P j s c t) where
+  stolen-by : Seeded j s c t → (e : Effect) → effectAt j s (threadAt s t) ≡ e → P (stolenOf j s (turnAt j s c t) e)
   unfolding stolenOf
-  stolen-by c t k (Faults n) e = cases .fault c t (inr k) n e
-  stolen-by c t k (Sets d v) e = cases .refuses 18 (omega arith) (omega arith)
-  stolen-by c t k (Loads d a) e = cases .refuses 18 (omega arith) (omega arith)
-  stolen-by c t k (Stores a v) e = cases .refuses 18 (omega arith) (omega arith)
-  stolen-by c t k (Goes p) e = cases .refuses 18 (omega arith) (omega arith)
-  stolen-by c t k Continues e = cases .refuses 18 (omega arith) (omega arith)
-  stolen-by c t k (Lforks r d a w) e = fork-by Stolen (turnAt j s c t) (asked r d a w) (λ n ns x xs. cases .steals c t k r d a w (inl e) n ns x xs)
-  stolen-by c t k (Forks r d a w) e = fork-by Stolen (turnAt j s c t) (asked r d a w) (λ n ns x xs. cases .steals c t k r d a w (inr e) n ns x xs)
-  stolen-by c t k Joins e = cases .refuses 18 (omega arith) (omega arith)
-  stolen-by c t k Suspends e = cases .refuses 18 (omega arith) (omega arith)
-  stolen-by c t k Yields e = cases .refuses 18 (omega arith) (omega arith)
-  stolen-by c t k (Returns v) e = cases .refuses 18 (omega arith) (omega arith)
+  stolen-by k (Faults n) e = seedFault k n e
+  stolen-by k (Sets d v) e = refuses 18 (omega arith) (omega arith)
+  stolen-by k (Loads d a) e = refuses 18 (omega arith) (omega arith)
+  stolen-by k (Stores a v) e = refuses 18 (omega arith) (omega arith)
+  stolen-by k (Goes p) e = refuses 18 (omega arith) (omega arith)
+  stolen-by k Continues e = refuses 18 (omega arith) (omega arith)
+  stolen-by k (Lforks r d a w) e = fork-by P j s refuses Stolen (turnAt j s c t) (asked r d a w) (λ n ns x xs. steals k r d a w (inl e) n ns x xs)
+  stolen-by k (Forks r d a w) e = fork-by P j s refuses Stolen (turnAt j s c t) (asked r d a w) (λ n ns x xs. steals k r d a w (inr e) n ns x xs)
+  stolen-by k Joins e = refuses 18 (omega arith) (omega arith)
+  stolen-by k Suspends e = refuses 18 (omega arith) (omega arith)
+  stolen-by k Yields e = refuses 18 (omega arith) (omega arith)
+  stolen-by k (Returns v) e = refuses 18 (omega arith) (omega arith)
 
-  steal-by : (c t : ℕ) → P (stealOf j s c t)
+  pub steal-by : P (stealOf j s c t)
   unfolding stealOf
-  steal-by c t = go (isOver (s .outcome)) refl (leb (s .count) c) refl (isBusy s c) refl (isSeed j s t) refl (tooDear j s (turnAt j s c t)) refl
+  steal-by = go (isOver (s .outcome)) refl (leb (s .count) c) refl (isBusy s c) refl (isSeed j s t) refl (tooDear j s (turnAt j s c t)) refl
     where
       go : (x : Bool) → isOver (s .outcome) ≡ x → (y : Bool) → leb (s .count) c ≡ y → (z : Bool) → isBusy s c ≡ z
           → (v : Bool) → isSeed j s t ≡ v → (b : Bool) → tooDear j s (turnAt j s c t) ≡ b
           → P (cond x (refused 19 s) (cond y (refused 14 s) (cond z (refused 15 s) (cond (not v) (refused 18 s) (cond b (refused 22 s)
           (stolenOf j s (turnAt j s c t) (effectAt j s (threadAt s t))))))))
-      go true _ y _ z _ v _ b _ = cases .refuses 19 (omega arith) (omega arith)
-      go false e true _ z _ v _ b _ = cases .refuses 14 (omega arith) (omega arith)
-      go false e false f true _ v _ b _ = cases .refuses 15 (omega arith) (omega arith)
-      go false e false f false g false _ b _ = cases .refuses 18 (omega arith) (omega arith)
-      go false e false f false g true h true _ = cases .refuses 22 (omega arith) (omega arith)
+      go true _ y _ z _ v _ b _ = refuses 19 (omega arith) (omega arith)
+      go false e true _ z _ v _ b _ = refuses 14 (omega arith) (omega arith)
+      go false e false f true _ v _ b _ = refuses 15 (omega arith) (omega arith)
+      go false e false f false g false _ b _ = refuses 18 (omega arith) (omega arith)
+      go false e false f false g true h true _ = refuses 22 (omega arith) (omega arith)
       go false e false f false g true h false k =
           let w = seed-true j s t h in
-          stolen-by c t (record {
+          stolen-by (record {
             ongoing = not-over _ e;
             core = leb-false _ _ f;
             idle = ltb-false _ _ g;
@@ -239,6 +130,7 @@ module _ (P : After → Type 0) (j : Job) (s : State) (cases : Cases P j s) wher
             paid = ltb-false _ _ k;
           }) _ refl
 
+module _ (P : After → Type 0) (j : Job) (s : State) (cases : Cases P j s) where
   enable-by : (t : ℕ) → P (enableOf s t)
   unfolding enableOf
   enable-by t = go (isOver (s .outcome)) refl (ltb t 32 && threadAt s t .status is Suspended) refl
@@ -246,14 +138,14 @@ module _ (P : After → Type 0) (j : Job) (s : State) (cases : Cases P j s) wher
       go : (x : Bool) → isOver (s .outcome) ≡ x → (y : Bool) → (ltb t 32 && threadAt s t .status is Suspended) ≡ y
           → P (cond x (refused 19 s) (cond (not y) (refused 17 s)
           (record { state = enqueueReady t (setThread t (withStatus Ready (threadAt s t)) s); log = 0 })))
-      go true _ y _ = cases .refuses 19 (omega arith) (omega arith)
-      go false e false _ = cases .refuses 17 (omega arith) (omega arith)
+      go true _ y _ = cases .steps .refuses 19 (omega arith) (omega arith)
+      go false e false _ = cases .steps .refuses 17 (omega arith) (omega arith)
       go false e true f = let w = both (ltb t 32) (threadAt s t .status is Suspended) f in
           cases .enables t (record { ongoing = not-over _ e; low = ltb-true _ _ (w .0); suspended = eqb-true _ _ (w .1) })
 
   pub entry-by : (e : Entry) → P (entryOf j s e)
   unfolding entryOf
-  entry-by (Step c) = step-by c
-  entry-by (Take c) = take-by c
-  entry-by (Steal c t) = steal-by c t
+  entry-by (Step c) = step-by P j s (cases .steps) c
+  entry-by (Take c) = take-by P s (cases .steps .refuses) c (cases .takes c)
+  entry-by (Steal c t) = steal-by P j s (cases .steps .refuses) c t (cases .seedFault c t) (cases .steals c t)
   entry-by (Enable t) = enable-by t

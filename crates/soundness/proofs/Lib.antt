@@ -1,6 +1,7 @@
 -- In reading order: what an entry may do; laws of queues, of changed records and of pending slots; Start; what each part of soundness asks
 -- of a change and that each rule keeps it, first of threads, cores and queues, then of frames, their words, windows and places; all parts
 -- together; and what follows for a sound machine.
+pub mod StepCases
 pub mod EntryCases
 pub mod Entries
 pub mod Queues

@@ -5,7 +5,7 @@ use native.Mathlib.Omega.{arith}
 use Rattle.schedule.specs.declared.Entry.{Entry}
 use Rattle.rules.specs.State.{Job, State, After}
 use Rattle.rules.specs.Rules.{entryOf}
-use Rattle.soundness.proofs.EntryCases.{Cases, entry-by}
+use Rattle.soundness.proofs.EntryCases.{StepCases, Cases, entry-by}
 use Rattle.soundness.proofs.Tested.{fault-tested}
 
 module _ (j : Job) (s : State) where
@@ -13,8 +13,8 @@ module _ (j : Job) (s : State) where
   abbrev Left : After → Type 0
   Left a = 14 ≤ a .log → a .log ≤ 22 → a .state ≡ s
 
-  cases : Cases Left j s
-  cases = record {
+  steps : StepCases Left j s
+  steps = record {
     refuses = λ n l m x y. refl;
     fault = λ c t k n e l m. let z = fault-tested j s t n e in absurd (omega (arith, z .1));
     waiting = λ c t k l m. absurd (omega arith);
@@ -29,7 +29,13 @@ module _ (j : Job) (s : State) where
     suspends = λ c t k e l m. absurd (omega arith);
     yields = λ c t k e l m. absurd (omega arith);
     returns = λ c t k v e l m. absurd (omega arith);
+  }
+
+  cases : Cases Left j s
+  cases = record {
+    steps = steps;
     takes = λ c t ts k l m. absurd (omega arith);
+    seedFault = λ c t k n e l m. let z = fault-tested j s t n e in absurd (omega (arith, z .1));
     steals = λ c t k r d a e q n ns x xs f l m. absurd (omega arith);
     enables = λ t k l m. absurd (omega arith);
   }

@@ -12,7 +12,7 @@ use Rattle.thread.specs.Thread.{_is_}
 use Rattle.rules.specs.State.{Job, State, After, isOver, isBusy, threadAt}
 use Rattle.rules.specs.Update.{refused}
 use Rattle.rules.specs.Rules.{entryOf, enableOf, stealOf, isSeed}
-use Rattle.soundness.proofs.EntryCases.{Cases, entry-by}
+use Rattle.soundness.proofs.EntryCases.{StepCases, Cases, entry-by}
 use Rattle.soundness.proofs.Tested.{fault-tested}
 use Rattle.search.specs.Search.{isNothing}
 use Rattle.rounds.specs.Rounds.{isWritten}
@@ -28,8 +28,8 @@ module _ (j : Job) (s : State) where
   abbrev Stays : After → Type 0
   Stays a = isWritten (a .log) ≡ false → a .state ≡ s
 
-  stays : Cases Stays j s
-  stays = record {
+  steps-stay : StepCases Stays j s
+  steps-stay = record {
     refuses = λ n l h e. refl;
     fault = λ c t k n f e. let w = fault-tested j s t n f in never (sym (fault-written n (w .0) (w .1)) ∙ e);
     waiting = λ c t k e. never e;
@@ -44,7 +44,13 @@ module _ (j : Job) (s : State) where
     suspends = λ c t k f e. never e;
     yields = λ c t k f e. never e;
     returns = λ c t k v f e. never e;
+  }
+
+  stays : Cases Stays j s
+  stays = record {
+    steps = steps-stay;
     takes = λ c t ts k e. never e;
+    seedFault = λ c t k n f e. let w = fault-tested j s t n f in never (sym (fault-written n (w .0) (w .1)) ∙ e);
     steals = λ c t k r d a w f n ns x xs g e. never e;
     enables = λ t k e. never e;
   }

@@ -1,0 +1,87 @@
+-- Worked rows of T-12's numbers, by hand: how many commands a plain run carries out and how deep it goes, and what a lone core writes with a byte
+-- more than twice the commands and with twice the commands. A second witness of their definitions (proofs/Rows.antt computes them).
+use mathlib.Core.List.{List, [], _∷_, _++_}
+use Prim.Native.Nat.{ℕ}
+use lib.ListN.{replicate}
+use Rattle.image.specs.Cases.{oneRoutine, whole}
+use Rattle.schedule.specs.declared.Entry.the-variants.{Step}
+use Rattle.rules.specs.State.{going, finished}
+use Rattle.rules.specs.Row.{five, nought, calls, callsTwo}
+use Rattle.rounds.specs.Rows.{ScheduledRow}
+use Rattle.serial.specs.Cases.{counting}
+use Rattle.demands.specs.Input.{Input, inputOf}
+use Rattle.lonecore.specs.Depth.{depthIn}
+use Rattle.lonecore.specs.Commands.{commandsIn}
+
+-- a plain run on words that start zero
+pub record PlainRow : Type 0 where
+  pub image : List ℕ
+  pub arguments : List ℕ
+  pub allowance : ℕ
+  pub number : ℕ
+
+abbrev inputFor : PlainRow → Input
+inputFor r = inputOf (r .image) 1 (r .arguments) (replicate 32 0) (replicate 992 0) (r .allowance)
+
+abbrev pub row : List ℕ → List ℕ → ℕ → ℕ → PlainRow
+row image arguments allowance number = record { image = image; arguments = arguments; allowance = allowance; number = number }
+
+-- by the definitions, and by hand
+abbrev pub commandsFor : PlainRow → ℕ
+commandsFor r = commandsIn (inputFor r)
+
+abbrev pub depthFor : PlainRow → ℕ
+depthFor r = depthIn (inputFor r)
+
+abbrev pub byHand : PlainRow → ℕ
+byHand r = r .number
+
+-- of each row
+abbrev pub eachPlain : (PlainRow → ℕ) → List PlainRow → List ℕ
+eachPlain f [] = []
+eachPlain f (r ∷ rs) = f r ∷ eachPlain f rs
+
+-- routine 0 lforks routine r and then q; routine 1 lforks routine 2, which returns 5
+abbrev pub overTwo : ℕ → ℕ → List ℕ
+overTwo r q =
+    (0x03 ∷ 0x03 ∷ 0x00 ∷ 0x11 ∷ 0x00 ∷ 0x02 ∷ 0x00 ∷ 0x0C ∷ 0x00 ∷ 0x01 ∷ 0x00 ∷ 0x06 ∷ 0x00 ∷ []) ++ callsTwo r q ++ calls 2 ++ five
+
+-- the commands of runs that finish
+abbrev pub commandRows : List PlainRow
+commandRows =
+    -- document 01's worked case "Whole": 6 of routine 0, and twice 2
+    row whole [] 100 10
+    -- a return
+    ∷ row (oneRoutine nought) [] 1 1
+    -- 5 of routine 0, 4 of routine 1, and twice 2
+    ∷ row (overTwo 1 2) [] 100 13
+    -- `counting` of k: 8 of each call that forks, and 2 of the last
+    ∷ row counting (3 ∷ []) 100 26
+    ∷ row counting (15 ∷ []) 1000 122
+    -- suspend, yield and return weigh 7, and are 3 commands
+    ∷ row (oneRoutine (0x0B ∷ 0x0C ∷ 0x0D ∷ 0x00 ∷ [])) [] 7 3
+    ∷ []
+
+-- how deep runs go, "the root being 1", whether or not they finish
+abbrev pub depthRows : List PlainRow
+depthRows =
+    row whole [] 100 2
+    ∷ row (oneRoutine nought) [] 1 1
+    -- through the first child, and through the second
+    ∷ row (overTwo 1 2) [] 100 3
+    ∷ row (overTwo 2 1) [] 100 3
+    ∷ row counting (3 ∷ []) 100 4
+    ∷ row counting (31 ∷ []) 1000 32
+    -- "A fork from 32 deep, the root being 1, meets 26"
+    ∷ row counting (32 ∷ []) 1000 32
+    -- at 7 the first fork is paid for and its child's first command is not, at 6 the fork is not
+    ∷ row whole [] 7 2
+    ∷ row whole [] 6 1
+    ∷ []
+
+-- "Whole" on one core has 10 commands: 21 bytes are enough, and of 20 the last command finds 2
+abbrev pub loneRows : List ScheduledRow
+loneRows =
+    record { image = whole; cores = 1; allowance = 100; size = 21; written = replicate 10 (Step 0); outcome = finished 10; units = 20 }
+    ∷ record { image = whole; cores = 1; allowance = 100; size = 20; written = replicate 9 (Step 0); outcome = going; units = 19 }
+    ∷ []
