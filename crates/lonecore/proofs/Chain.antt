@@ -7,8 +7,10 @@ use mathlib.Core.Logic.{_⊎_, inl, inr, ⊎-elim}
 use mathlib.Core.Path.{_≡_, refl, sym, _∙_, ap, subst}
 use Prim.Native.Nat.{ℕ, zero, suc, _+_, _≤_, _<_}
 use native.Mathlib.Omega.{arith}
+use borrow.Author.Tests.{lt-ltb}
 use lib.ListN.{getD, set, length, replicate}
 use lib.Seq.{getD-set-same}
+use Rattle.schedule.specs.declared.Entry.the-variants.{Step}
 use Rattle.thread.specs.declared.Effect.{Effect}
 use Rattle.thread.specs.declared.Effect.the-variants.{Forks, Suspends, Yields}
 use Rattle.thread.specs.declared.Thread.{Thread}
@@ -23,6 +25,7 @@ use Rattle.rules.specs.Rules.{stepOf}
 use Rattle.rules.specs.Start.{startState}
 use Rattle.rules.specs.Lists.{Every}
 use Rattle.rules.specs.Sound.{Sound, Used, statusAt, parentAt}
+use Rattle.search.specs.Search.{choiceOf}
 use Rattle.soundness.proofs.Changes.{standing, one-changed, two-changed, used-low, used-below}
 use Rattle.soundness.proofs.StepCases.{Stepped, Waits, Forked, StepCases, step-by}
 use Rattle.soundness.proofs.ForkTree.{among-some, child-some}
@@ -194,6 +197,11 @@ module _ (j : Job) (s : State) (ok : Sound j s) (only : LforksOnly (j .image)) (
 
   pub onward : (c : ℕ) → Onward s (stepOf j s c)
   onward c = step-by (Onward s) j s steps c
+
+-- a busy core 0 steps
+pub core-steps : (j : Job) (s : State) → Alone s → choiceOf j s 0 ≡ Step 0
+unfolding choiceOf
+core-steps j s alone = rw (lt-ltb (onCore s 0) none (alone .busy))
 
 -- Start: the root alone
 pub start-alone : (j : Job) (count : ℕ) (arguments memory : List ℕ) → Alone (startState j count arguments memory)

@@ -18,9 +18,9 @@ pub mod Leaves
 pub mod Places
 pub mod Exhausted
 pub mod Crowd
+pub mod Standing
 -- a lone core
 pub mod Chain
-pub mod Room
 pub mod Steps
 pub mod Rounds
 pub mod LoneCore

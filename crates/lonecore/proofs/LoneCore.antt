@@ -23,10 +23,11 @@ use Rattle.lonecore.specs.Depth.{depthIn}
 use Rattle.lonecore.specs.Commands.{commandsIn}
 use Rattle.lonecore.specs.NeverDry.{LoneCore, afterSteps, NeverDry}
 use Rattle.lonecore.proofs.Followed.{Ending, Followed, deepJob}
-use Rattle.lonecore.proofs.Chain.{start-alone}
+use Rattle.lonecore.proofs.FewKept.{start-few}
+use Rattle.lonecore.proofs.Chain.{core-steps, start-alone}
 use Rattle.lonecore.proofs.PlainRun.{ending, enough, commands-are-steps}
-use Rattle.lonecore.proofs.Steps.{Stands, each, accepted}
-use Rattle.lonecore.proofs.Rounds.{core-steps, Ran, lone}
+use Rattle.lonecore.proofs.Steps.{Lone, each, accepted}
+use Rattle.lonecore.proofs.Rounds.{Ran, lone}
 
 -- Start, followed
 pub start-followed : (i : Input) (t : Takes i) (k : ℕ) (low : k < 31) → Followed (jobIn i) (good i t) (i .arguments) (i .memory) k low 0 (startIn i)
@@ -62,28 +63,31 @@ module _ (i : Input) (t : Takes i) (size v u : ℕ) (m : List ℕ) (h : LoneCore
   unfolding E
   counted = commands-are-steps i t 16 below v u m (h .finishes) shallow
 
-  start-stands : Stands j g (i .arguments) (i .memory) 16 below half (h .image) E within 0 (startIn i)
+  start-alone-there : Lone j g (i .arguments) (i .memory) 16 below half (h .image) E within 0 (startIn i)
   unfolding startState
-  start-stands = record {
-    sound = start-sound j (i .cores) (i .arguments) (i .memory) g (t .some) (t .most) (t .memory);
-    followed = start-followed i t 16 below;
+  start-alone-there = record {
+    stands = record {
+      sound = start-sound j (i .cores) (i .arguments) (i .memory) g (t .some) (t .most) (t .memory);
+      followed = start-followed i t 16 below;
+      few = start-few j (i .cores) (i .arguments) (i .memory);
+      ongoing = refl;
+    };
     one = h .cores;
     alone = start-alone j (i .cores) (i .arguments) (i .memory);
-    ongoing = refl;
   }
 
-  stands : (k : ℕ) → k < commandsIn i → Stands j g (i .arguments) (i .memory) 16 below half (h .image) E within k (afterSteps i k)
-  stands k l =
+  lone-at : (k : ℕ) → k < commandsIn i → Lone j g (i .arguments) (i .memory) 16 below half (h .image) E within k (afterSteps i k)
+  lone-at k l =
       let e = counted in
-      let z = each j g (i .arguments) (i .memory) 16 below half (h .image) E within k 0 (startIn i) start-stands (omega arith) in
-      subst (λ n. Stands j g (i .arguments) (i .memory) 16 below half (h .image) E within n (afterSteps i k)) (omega arith) z
+      let z = each j g (i .arguments) (i .memory) 16 below half (h .image) E within k 0 (startIn i) start-alone-there (omega arith) in
+      subst (λ n. Lone j g (i .arguments) (i .memory) 16 below half (h .image) E within n (afterSteps i k)) (omega arith) z
 
   ran : Ran j g (i .arguments) (i .memory) 16 below half (h .image) E within (beginning (startIn i) size) (scheduledFrom j (startIn i) size) (E .count)
   ran =
       let e = counted in
       let a = h .buffer in
       let b = h .most in
-      lone j g (i .arguments) (i .memory) 16 below half (h .image) E within (E .count) (usable size) 0 (beginning (startIn i) size) start-stands
+      lone j g (i .arguments) (i .memory) 16 below half (h .image) E within (E .count) (usable size) 0 (beginning (startIn i) size) start-alone-there
       (omega arith) (omega arith) (omega arith)
 
   pub never-dry : NeverDry i v u m (scheduledFrom (jobIn i) (startIn i) size)
@@ -97,6 +101,6 @@ module _ (i : Input) (t : Takes i) (size v u : ℕ) (m : List ℕ) (h : LoneCore
         memory = ap (λ s. s .store .memory) (r .state) ∙ cc;
         units = ap (λ s. s .units) (r .state) ∙ cc;
         entries = r .written ∙ ap (λ n. replicate n (Step 0)) (sym counted);
-        tries = λ k l. core-steps j (afterSteps i k) (stands k l .alone);
-        accepted = λ k l. accepted j g (i .arguments) (i .memory) 16 below half (h .image) E within k (afterSteps i k) (stands k l);
+        tries = λ k l. core-steps j (afterSteps i k) (lone-at k l .alone);
+        accepted = λ k l. accepted j g (i .arguments) (i .memory) 16 below half (h .image) E within k (afterSteps i k) (lone-at k l);
       }

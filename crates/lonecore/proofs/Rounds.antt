@@ -5,26 +5,21 @@ use mathlib.Core.List.{List, [], _∷_, _++_, append-assoc}
 use mathlib.Core.Path.{_≡_, refl, sym, _∙_, ap, subst}
 use Prim.Native.Nat.{ℕ, zero, suc, _+_, _-_, _*_, _≤_, _<_}
 use native.Mathlib.Omega.{arith}
-use borrow.Author.Tests.{lt-ltb, le-leb}
+use borrow.Author.Tests.{le-leb}
 use lib.Dec.{ltb, leb, eqb}
 use lib.ListN.{replicate}
 use Rattle.schedule.specs.declared.Entry.the-variants.{Step, Enable}
 use Rattle.thread.specs.Thread.{none}
-use Rattle.rules.specs.State.{Job, State, going, finished, isOver, onCore}
+use Rattle.rules.specs.State.{Job, State, going, finished, isOver}
 use Rattle.rules.specs.Rules.{entryOf}
 use Rattle.rules.specs.Runs.{runFrom}
 use Rattle.rules.specs.Sound.{GoodJob}
-use Rattle.search.specs.Search.{choiceOf, lowestSuspended}
+use Rattle.search.specs.Search.{lowestSuspended}
 use Rattle.rounds.specs.Rounds.{Progress, isWritten, mayTry, recorded, tried, turns, fresh, round, playsOn, wakened, rounds}
 use Rattle.lonecore.specs.LforksOnly.{LforksOnly}
 use Rattle.lonecore.proofs.Followed.{Ending}
-use Rattle.lonecore.proofs.Chain.{Alone}
-use Rattle.lonecore.proofs.Steps.{Stands, Goes, further, over, accepted, goes, left}
-
--- a busy core 0 steps
-pub core-steps : (j : Job) (s : State) → Alone s → choiceOf j s 0 ≡ Step 0
-unfolding choiceOf
-core-steps j s alone = rw (lt-ltb (onCore s 0) none (alone .busy))
+use Rattle.lonecore.proofs.Chain.{core-steps}
+use Rattle.lonecore.proofs.Steps.{Lone, Steps, next, last, accepted, steps, left}
 
 may-try : (p : Progress) → p .state .outcome ≡ going → 3 ≤ p .left → mayTry p ≡ true
 may-try p o l = ap (λ x. not (isOver x) && leb 3 (p .left)) o ∙ le-leb 3 (p .left) l
@@ -32,7 +27,7 @@ may-try p o l = ap (λ x. not (isOver x) && leb 3 (p .left)) o ∙ le-leb 3 (p .
 module _ (j : Job) (good : GoodJob j) (arguments memory : List ℕ) (k : ℕ) (low : k < 31) (half : 16 ≤ k) (only : LforksOnly (j .image))
     (E : Ending j good arguments memory k low) (enough : E .end .units ≤ j .allowance) where
   abbrev Stood : ℕ → State → Type 0
-  Stood n s = Stands j good arguments memory k low half only E enough n s
+  Stood n s = Lone j good arguments memory k low half only E enough n s
 
   -- after a step that was accepted
   abbrev stepped : Progress → Progress
@@ -41,7 +36,7 @@ module _ (j : Job) (good : GoodJob j) (arguments memory : List ℕ) (k : ℕ) (l
   tried-is : (p : Progress) (n : ℕ) → Stood n (p .state) → 3 ≤ p .left → tried j (Step 0) (fresh p) ≡ stepped p
   unfolding tried recorded
   tried-is p n h l =
-      ap (λ b. cond b (recorded (Step 0) (entryOf j (p .state) (Step 0)) (fresh p)) (fresh p)) (may-try (fresh p) (h .ongoing) l)
+      ap (λ b. cond b (recorded (Step 0) (entryOf j (p .state) (Step 0)) (fresh p)) (fresh p)) (may-try (fresh p) (h .stands .ongoing) l)
       ∙ ap (λ z. cond (isWritten z) (record {
         state = entryOf j (p .state) (Step 0) .state;
         written = p .written ++ (Step 0 ∷ []);
@@ -79,25 +74,25 @@ module _ (j : Job) (good : GoodJob j) (arguments memory : List ℕ) (k : ℕ) (l
   lone (suc r) zero n p h e l m = absurd (omega arith)
   lone (suc r) (suc f) n p h e l m =
       subst (λ q. Ran p (cond (playsOn q) (rounds (suc f) j (wakened j q)) q) (suc r)) (sym (round-is p n h (omega arith)))
-      (by (goes j good arguments memory k low half only E enough n (p .state) h)
+      (by (steps j good arguments memory k low half only E enough n (p .state) h)
       (λ h' _. lone r f (suc n) (stepped p) h' (omega arith) (omega arith) (omega arith)))
     where
-      by : Goes j good arguments memory k low half only E enough n (p .state) h
+      by : Steps j good arguments memory k low half only E enough n (p .state) (stepped p .state)
           → ((h' : Stood (suc n) (stepped p .state)) → 1 ≤ r → Ran (stepped p) (rounds (suc f) j (stepped p)) r)
           → Ran p (cond (playsOn (stepped p)) (rounds (suc f) j (wakened j (stepped p))) (stepped p)) (suc r)
-      by (over v o q) rest =
-          let last : 0 ≡ r = omega arith in
+      by (last v o q) rest =
+          let none-left : 0 ≡ r = omega arith in
           subst (λ x. Ran p x (suc r)) (sym (ends-by (stepped p) (suc f) v o))
           (record {
             result = v;
             over = o;
-            state = ap (λ k. runFrom j (stepped p .state) (replicate k (Step 0))) last;
-            written = ap (λ k. p .written ++ replicate (suc k) (Step 0)) last;
+            state = ap (λ k. runFrom j (stepped p .state) (replicate k (Step 0))) none-left;
+            written = ap (λ k. p .written ++ replicate (suc k) (Step 0)) none-left;
           })
-      by (further h') rest =
+      by (next h') rest =
           let more = left j good arguments memory k low half only E enough (suc n) (stepped p .state) h' in
           let q = rest h' (omega arith) in
-          subst (λ x. Ran p x (suc r)) (sym (followed-by (stepped p) (suc f) (h' .ongoing) (omega arith) refl))
+          subst (λ x. Ran p x (suc r)) (sym (followed-by (stepped p) (suc f) (h' .stands .ongoing) (omega arith) refl))
           (record {
             result = q .result;
             over = q .over;
