@@ -1,18 +1,19 @@
 -- The same job begun k levels down, so that k levels fewer are left to it before a fork halts: a bound on the depth that is tighter than the
 -- job's own, without a second limit. Its serial run is the job's from depth k on (`serial-deeper`), and a pool's step is a step of both
--- (`deeper-step`). Assumes that k is below the limit.
+-- (`deeper-step`), but for a fork at the limit. Assumes that k is at most the limit.
 use mathlib.Core.Path.{_≡_, refl, sym, _∙_, ap, fun-ext, subst}
 use mathlib.Core.Bool.{cond}
 use Prim.Native.Nat.{ℕ, zero, suc, _+_, _-_, _<_, _≤_}
+use native.Mathlib.Decide.{decLt}
 use native.Mathlib.Omega.{arith}
 use lib.Dec.{leb}
 use Rattle.forkjoin.proofs.Update.{update}
 use Rattle.forkjoin.proofs.Language.{Act, Language, advance, fork, halt, join, load, ret, store}
 use Rattle.forkjoin.proofs.TaskTree.{word-after}
 use Rattle.forkjoin.proofs.Carried.{Carried, SameAct, advances, forks, halts, joins, loads, returns, stores}
-use Rattle.forkjoin.proofs.ThreadPool.{OwnAct, Pool, PoolStep, step-fork, step-join, step-own, step-return, used}
+use Rattle.forkjoin.proofs.ThreadPool.{Link, OwnAct, Pool, PoolStep, step-fork, step-join, step-own, step-return, used}
 use Rattle.forkjoin.proofs.SerialRun.{Outcome, and-then, serial-act, serial-call, stopped, zeros}
-use Rattle.forkjoin.proofs.DepthBound.{Bounded}
+use Rattle.forkjoin.proofs.DepthBound.{Bounded, not-fork}
 use Rattle.forkjoin.proofs.ScheduleIndependence.{Job}
 
 module _ (k : ℕ) (𝓛 : Language) where
@@ -95,20 +96,56 @@ module _ (k : ℕ) (𝓛 : Language) where
     unfolding Same
     serial-deeper f = same-call f
 
-module _ (k : ℕ) (J : Job) (low : k < Job.limit J) where
+-- an act is a fork or it is none
+data Forks {A : Type 0} (a : Act A) : Type 0 where
+  a-fork : (d : ℕ) (c q : A) → a ≡ fork d c q → Forks a
+  no-fork : ((d : ℕ) (c q : A) → a ≡ fork d c q → ⊥) → Forks a
+
+forks? : {A : Type 0} (a : Act A) → Forks a
+forks? (halt x) = no-fork (λ d c q e. let y : _≡_ {A = ℕ} 0 1 = cc in omega arith)
+forks? (advance l) = no-fork (λ d c q e. let y : _≡_ {A = ℕ} 0 1 = cc in omega arith)
+forks? (load a f) = no-fork (λ d c q e. let y : _≡_ {A = ℕ} 0 1 = cc in omega arith)
+forks? (store a v l) = no-fork (λ d c q e. let y : _≡_ {A = ℕ} 0 1 = cc in omega arith)
+forks? (fork d c q) = a-fork d c q refl
+forks? (join f) = no-fork (λ d c q e. let y : _≡_ {A = ℕ} 0 1 = cc in omega arith)
+forks? (ret v) = no-fork (λ d c q e. let y : _≡_ {A = ℕ} 0 1 = cc in omega arith)
+
+module _ (k : ℕ) (J : Job) (low : k ≤ Job.limit J) where
   open Job J using (language, carried, limit, bounded)
   open Language language using (cost)
   open Carried carried using (Concrete, abstraction, does)
 
-  -- k levels down a command does what it does at the root
-  pub does-same : (r : Concrete) → does (0 + k) r ≡ does 0 r
-  does-same r = bounded .below (0 + k) r (omega arith)
+  -- k levels down a command does what it does at the root, but for a fork at the limit
+  pub does-other : (r : Concrete) → ((d : ℕ) (c q : Concrete) → does 0 r ≡ fork d c q → ⊥) → does (0 + k) r ≡ does 0 r
+  does-other r h = bounded .other (0 + k) r h
+
+  pub does-below : k < limit → (r : Concrete) → does (0 + k) r ≡ does 0 r
+  does-below l r = bounded .below (0 + k) r (omega arith)
+
+  -- which halts
+  pub does-beyond : limit ≤ k → (r c q : Concrete) (d : ℕ) → does 0 r ≡ fork d c q → (x : ℕ) × (does (0 + k) r ≡ halt x)
+  does-beyond l r c q d e = let (x, h) = bounded .beyond r c q d e in (x, h (0 + k) (omega arith))
+
+  other : (n : ℕ) (r : Concrete) → ((d : ℕ) (c q : Concrete) → does (0 + k) r ≡ fork d c q → ⊥) → does (n + k) r ≡ does (0 + k) r
+  other n r h = by (forks? (does 0 r)) (decLt k limit)
+    where
+      by : Forks (does 0 r) → Dec (k < limit) → does (n + k) r ≡ does (0 + k) r
+      by (no-fork f) _ = bounded .other (n + k) r f ∙ sym (does-other r f)
+      by (a-fork d c q e) (yes l) = absurd (h d c q (does-below l r ∙ e))
+      by (a-fork d c q e) (no l) = let (x, z) = bounded .beyond r c q d e in z (n + k) (omega arith) ∙ sym (z (0 + k) (omega arith))
+
+  beyond : (r c q : Concrete) (d : ℕ) → does (0 + k) r ≡ fork d c q → (x : ℕ) × ((n : ℕ) → limit - k ≤ n → does (n + k) r ≡ halt x)
+  beyond r c q d e = by (forks? (does 0 r))
+    where
+      by : Forks (does 0 r) → (x : ℕ) × ((n : ℕ) → limit - k ≤ n → does (n + k) r ≡ halt x)
+      by (no-fork f) = absurd (f d c q (sym (does-other r f) ∙ e))
+      by (a-fork d' c' q' e') = let (x, z) = bounded .beyond r c' q' d' e' in (x, λ n l. z (n + k) (omega arith))
 
   pub deeper-bounded : Bounded (deeper k language) (deeper-carried k language carried) (limit - k)
   deeper-bounded = record {
-    below = λ n r h. bounded .below (n + k) r (omega arith) ∙ sym (does-same r);
-    other = λ n r h. bounded .other (n + k) r (λ d c q e. h d c q (does-same r ∙ e)) ∙ sym (does-same r);
-    beyond = λ n r c q d h e. bounded .beyond (n + k) r c q d (omega arith) (sym (does-same r) ∙ e);
+    below = λ n r h. bounded .below (n + k) r (omega arith) ∙ sym (does-below (omega arith) r);
+    other = other;
+    beyond = beyond;
   }
 
   abbrev pub deeper-job : Job
@@ -134,13 +171,18 @@ module _ (k : ℕ) (J : Job) (low : k < Job.limit J) where
   own-act (join _) m p o = o
   own-act (ret _) m p o = o
 
-  pub deeper-step : (t : ℕ) (M M' : Pool Concrete) → PoolStep language carried 0 t M M'
-      → PoolStep (deeper k language) (deeper-carried k language carried) 0 t M M'
-  deeper-step t M M' (step-own r q l ct o) =
+  -- a step of the pool is a step of the deeper job's, unless it forks at the limit
+  pub deeper-step : (t : ℕ) (M M' : Pool Concrete)
+      → ((r c q : Concrete) (l : Link) (d : ℕ) → M .cell t ≡ used r l → does 0 r ≡ fork d c q → k < limit)
+      → PoolStep language carried 0 t M M' → PoolStep (deeper k language) (deeper-carried k language carried) 0 t M M'
+  deeper-step t M M' h (step-own r q l ct o) =
+      let e = does-other r (λ d c x. not-fork language carried limit (does 0 r) (M .words) q o d c x) in
       subst (λ a. PoolStep (deeper k language) (deeper-carried k language carried) 0 t M
-      (record { cell = update (M .cell) t (used q l); words = λ x. word-after a x (M .words x); units = M .units + cost (abstraction r) })) (does-same r)
-      (step-own r q l ct (subst (λ a. OwnAct (deeper k language) (deeper-carried k language carried) a (M .words) q) (sym (does-same r))
+      (record { cell = update (M .cell) t (used q l); words = λ x. word-after a x (M .words x); units = M .units + cost (abstraction r) })) e
+      (step-own r q l ct (subst (λ a. OwnAct (deeper k language) (deeper-carried k language carried) a (M .words) q) (sym e)
       (own-act (does 0 r) (M .words) q o)))
-  deeper-step t M M' (step-fork r c q l d z ct e cz) = step-fork r c q l d z ct (does-same r ∙ e) cz
-  deeper-step t M M' (step-join r q l ct e alone) = step-join r q l ct (does-same r ∙ e) alone
-  deeper-step t M M' (step-return r r₀ k₀ q d v ct e cq) = step-return r r₀ k₀ q d v ct (does-same r ∙ e) cq
+  deeper-step t M M' h (step-fork r c q l d z ct e cz) = step-fork r c q l d z ct (does-below (h r c q l d ct e) r ∙ e) cz
+  deeper-step t M M' h (step-join r q l ct e alone) =
+      step-join r q l ct (does-other r (λ d c x f. let y : _≡_ {A = ℕ} 0 1 = cc in omega arith) ∙ e) alone
+  deeper-step t M M' h (step-return r r₀ k₀ q d v ct e cq) =
+      step-return r r₀ k₀ q d v ct (does-other r (λ d c x f. let y : _≡_ {A = ℕ} 0 1 = cc in omega arith) ∙ e) cq

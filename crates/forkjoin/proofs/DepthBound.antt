@@ -40,7 +40,8 @@ pub record Bounded (𝓛 : Language) (𝓒 : Carried 𝓛) (limit : ℕ) : Type 
   pub below : (n : ℕ) (r : Carried.Concrete 𝓒) → n < limit → Carried.does 𝓒 n r ≡ Carried.does 𝓒 0 r
   pub other : (n : ℕ) (r : Carried.Concrete 𝓒) → ((d : ℕ) (c q : Carried.Concrete 𝓒) → Carried.does 𝓒 0 r ≡ fork d c q → ⊥)
       → Carried.does 𝓒 n r ≡ Carried.does 𝓒 0 r
-  pub beyond : (n : ℕ) (r c q : Carried.Concrete 𝓒) (d : ℕ) → limit ≤ n → Carried.does 𝓒 0 r ≡ fork d c q → (x : ℕ) × (Carried.does 𝓒 n r ≡ halt x)
+  pub beyond : (r c q : Carried.Concrete 𝓒) (d : ℕ) → Carried.does 𝓒 0 r ≡ fork d c q
+      → (x : ℕ) × ((n : ℕ) → limit ≤ n → Carried.does 𝓒 n r ≡ halt x)
 
 module _ (𝓛 : Language) (𝓒 : Carried 𝓛) (limit : ℕ) where
   open Language 𝓛 using (Local, cost)

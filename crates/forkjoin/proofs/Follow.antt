@@ -1,7 +1,7 @@
 -- A pool followed on the tree, where some run of the tree finishes. No limit on thread numbers is needed: a fork from the depth's limit on is
 -- a halt, and where a run finishes no run comes to a halt. So each step of the pool is a step of the tree (`follow`), none halts (`no-halt`),
 -- a thread that forks is less deep than the limit (`shallow`) and none is deeper (`deep-most`), and no pool has made more steps or has more
--- units than the run that finishes (`steps-most`, `units-most`, `paid-for`, `last-step`). Assumes a run of the tree that finishes.
+-- units than the run that finishes (`steps-most`, `units-most`, `paid-for`, `steps-ahead`, `last-step`). Assumes a run of the tree that finishes.
 use mathlib.Core.Path.{_∙_, _≡_, ap, subst, sym}
 use mathlib.Core.List.{[], _∷_}
 use Prim.Native.Nat.{_+_, _<_, _≤_, suc, ℕ}
@@ -17,6 +17,7 @@ use Rattle.forkjoin.proofs.Invariant.{Invariant}
 use Rattle.forkjoin.proofs.Preservation.{kept}
 use Rattle.forkjoin.proofs.TreeConfluence.{laws}
 use Rattle.forkjoin.proofs.Units.{prefix-units, live-units}
+use Rattle.forkjoin.proofs.LiveSteps.{live-steps}
 use Rattle.forkjoin.proofs.TreeStart.{begin, begin-inv}
 use Rattle.forkjoin.proofs.Carried.{Carried, SameAct, advances, forks, halts, joins, loads, returns, same-join, same-ret, stores}
 use Rattle.forkjoin.proofs.ThreadPool.{Link, OwnAct, Pool, PoolStep, child, root, step-fork, step-join, step-own, step-return, used}
@@ -100,9 +101,9 @@ module _ (J : Job) (m : ℕ → ℕ) where
         go : Dec (length (f .name t) < limit) → length (f .name t) < limit
         go (yes h) = h
         go (no h) =
-            let (x, z) = bounded .beyond (length (f .name t)) r c q d (omega arith) e in
+            let (x, z) = bounded .beyond r c q d e in
             absurd (never (laws language) begin-sound (E .over) (E .run) (f .steps)
-            (faults language carried (f .name) M (f .state) (f .represents) t x r l ct z))
+            (faults language carried (f .name) M (f .state) (f .represents) t x r l ct (z (length (f .name t)) (omega arith))))
 
     -- a thread whose step forks on the tree is less deep than the limit
     fork-low : (n t : ℕ) (M M' : Pool Concrete) (f : Follows n M) → PoolStep language carried 0 t M M' → (who : Local)
@@ -165,6 +166,24 @@ module _ (J : Job) (m : ℕ → ℕ) where
         let most = live-units language (f .sound) (E .over) left (f .name t) (abstraction r) (f .represents .alive t r l ct) in
         let same = f .represents .same-units in
         omega arith
+
+    -- each of m different threads in use has a step ahead of it
+    pub steps-ahead : (n : ℕ) (M : Pool Concrete) → Follows n M → (m : ℕ) (thread : ℕ → ℕ)
+        → ((i : ℕ) → i < m → (r : Concrete) × (l : Link) × (M .cell (thread i) ≡ used r l))
+        → ((i k : ℕ) → i < m → k < m → thread i ≡ thread k → i ≡ k) → n + m ≤ E .count
+    steps-ahead n M f m thread in-use apart =
+        let (x, e, left) = ahead (laws language) begin-sound (E .over) (E .run) (f .steps) in
+        let enough = live-steps language (f .sound) (E .over) left m (λ i. f .name (thread i)) alive-at named-apart in
+        omega arith
+      where
+        alive-at : (i : ℕ) → i < m → (l : Local) × (f .state .at (f .name (thread i)) ≡ live l)
+        alive-at i h = let (r, l, ct) = in-use i h in (abstraction r, f .represents .alive (thread i) r l ct)
+
+        named-apart : (i k : ℕ) → i < m → k < m → f .name (thread i) ≡ f .name (thread k) → i ≡ k
+        named-apart i k h h' e =
+            let (r, l, ct) = in-use i h in
+            let (r', l', ct') = in-use k h' in
+            apart i k h h' (f .represents .distinct (thread i) (thread k) r r' l l' ct ct' e)
 
     -- and the root's return is the last of the steps
     pub last-step : (n : ℕ) (M : Pool Concrete) → Follows n M → (t v : ℕ) (q : Concrete) → M .cell t ≡ used q root → does 0 q ≡ ret v

@@ -14,6 +14,7 @@ pub mod Diamond
 pub mod Preservation
 pub mod TreeConfluence
 pub mod Units
+pub mod LiveSteps
 -- the serial run is one of its runs
 pub mod TreeStart
 pub mod Update

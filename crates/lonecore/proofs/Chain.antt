@@ -32,10 +32,9 @@ use Rattle.soundness.proofs.ForkTree.{among-some, child-some}
 use Rattle.soundness.proofs.Parts.{runs}
 use Rattle.soundness.proofs.Tested.{fault-tested}
 use Rattle.soundness.proofs.ThreadsMet.{runner, parent-used, child-not-root, child-not-first}
-use Rattle.simulation.proofs.JobCode.{codeOf}
-use Rattle.simulation.proofs.NextCommand.{weight-here}
 use Rattle.lonecore.specs.LforksOnly.{LforksOnly}
 use Rattle.lonecore.proofs.EffectsMet.{calls, met-calls, no-fork, no-suspend, no-yield}
+use Rattle.lonecore.proofs.BalanceChanges.{charged as command-charged}
 
 -- a record of thread u: in use, it runs or is lent, and it is connected, or the root's
 abbrev Chained : ℕ → Thread → Type 0
@@ -77,10 +76,7 @@ module _ (j : Job) (s : State) (ok : Sound j s) (only : LforksOnly (j .image)) (
   low t h = used-low s many t h
 
   charged : (c t : ℕ) → Stepped j s c t → (s' : State) → s' .units ≡ s .units + turnAt j s c t .weight → s .units < s' .units
-  charged c t k s' e =
-      let z = codeOf j (ok .job) .weighs (threadAt s t .origin .routine) (threadAt s t .position) in
-      let y = weight-here j (ok .job) s (ok .placed) t (runner j s ok c t k) in
-      omega (arith, z, y, e)
+  charged c t k = command-charged j s ok c t (runner j s ok c t k)
 
   -- one record changes, and not in its place
   own : (t : ℕ) (h' : Thread) (s' : State) → Used s t → standing h' ≡ standing (threadAt s t) → h' .connected ≡ threadAt s t .connected

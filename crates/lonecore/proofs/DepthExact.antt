@@ -135,3 +135,8 @@ module _ (j : Job) where
       → Exact k (depthWithin j f n l m u) (callWithin j f (n + k) l m u) (callWithin j f n l m u)
   unfolding AllExact
   depth-exact f k n l m u h = all-exact f k n l m u h .0
+
+  -- a run is as deep as its routine
+  pub depth-least : (f n : ℕ) (l : Routine) (m : List ℕ) (u : ℕ) → n ≤ 32 → n ≤ depthWithin j f n l m u
+  unfolding AllExact
+  depth-least f n l m u h = all-exact f 0 n l m u (omega arith) .1

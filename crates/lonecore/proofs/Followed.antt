@@ -6,14 +6,15 @@ use mathlib.Core.List.{List}
 use mathlib.Core.Logic.{⊎-elim}
 use mathlib.Core.Path.{_≡_, sym, _∙_, ap, subst}
 use Prim.Native.Nat.{ℕ, suc, _+_, _-_, _≤_, _<_}
+use native.Mathlib.Decide.{decLt}
 use native.Mathlib.Omega.{arith}
 use borrow.Author.Tests.{lt-leb, le-leb}
 use lib.ListN.{length}
-use Rattle.forkjoin.proofs.ThreadPool.{root, child, used}
+use Rattle.forkjoin.proofs.ThreadPool.{Link, root, child, used}
 use Rattle.forkjoin.proofs.Arrays.{words-from}
-use Rattle.forkjoin.proofs.Language.{fork}
+use Rattle.forkjoin.proofs.Language.{Act, fork, halt, ret}
 use Rattle.forkjoin.proofs.ScheduleIndependence.{Job as TheoryJob}
-use Rattle.forkjoin.proofs.Deeper.{deeper-job, deeper-step, does-same}
+use Rattle.forkjoin.proofs.Deeper.{deeper-job, deeper-step, does-other, does-below, does-beyond}
 use Rattle.forkjoin.proofs.Follow.{Follows, Ends, no-halt, shallow, deep-most, follow, steps-most, units-most, paid-for, last-step}
 use Rattle.schedule.specs.declared.Entry.{Entry}
 use Rattle.window.specs.declared.Window.{Window}
@@ -37,7 +38,14 @@ use Rattle.simulation.proofs.EntryMoves.{Accepted, resting, stepping, finishing
 use Rattle.simulation.proofs.EntriesRun.{theoryJob}
 use Rattle.lonecore.proofs.Depths.{Depths}
 
-module _ (j : Job) (good : GoodJob j) (arguments memory : List ℕ) (k : ℕ) (low : k < 31) where
+-- a halt is no fork, nor is a return
+halt-no-fork : {A : Type 0} (a : Act A) (x : ℕ) → a ≡ halt x → (d : ℕ) (c q : A) → a ≡ fork d c q → ⊥
+halt-no-fork a x h d c q e = let y : _≡_ {A = ℕ} 0 1 = cc in omega arith
+
+return-no-fork : {A : Type 0} (a : Act A) (v : ℕ) → a ≡ ret v → (d : ℕ) (c q : A) → a ≡ fork d c q → ⊥
+return-no-fork a v h d c q e = let y : _≡_ {A = ℕ} 0 1 = cc in omega arith
+
+module _ (j : Job) (good : GoodJob j) (arguments memory : List ℕ) (k : ℕ) (low : k ≤ 31) where
   -- the job to the theory, begun k levels down
   abbrev pub deepJob : TheoryJob
   deepJob = deeper-job k (theoryJob j good arguments memory) low
@@ -67,7 +75,7 @@ module _ (j : Job) (good : GoodJob j) (arguments memory : List ℕ) (k : ℕ) (l
     abbrev pub depth : ℕ → ℕ
     depth u = length (f .name u)
 
-    cell-of : (u : ℕ) (h : Used s u) → poolOf j s .cell u ≡ used (here j good s ok 0 u h) (linkOf (threadAt s u))
+    pub cell-of : (u : ℕ) (h : Used s u) → poolOf j s .cell u ≡ used (here j good s ok 0 u h) (linkOf (threadAt s u))
     cell-of u h = cell-here j good s ok 0 u h
 
     pub depths : Depths s (λ u. length (f .name u))
@@ -97,8 +105,21 @@ module _ (j : Job) (good : GoodJob j) (arguments memory : List ℕ) (k : ℕ) (l
       pub no-fault : (t : ℕ) → Used s t → (x : ℕ) → effectAt j s (threadAt s t) ≡ Faults x → ⊥
       no-fault t h x q =
           no-halt deepJob (words-from 32 memory) E n (poolOf j s) f t x (here j good s ok 0 t h) (linkOf (threadAt s t)) (cell-of t h)
-          (does-same k (theoryJob j good arguments memory) low (here j good s ok 0 t h)
-          ∙ does-fault windows window-tests (codeOf j good) (here j good s ok 0 t h) x (effect-met j good s ok 0 t h (Faults x) q))
+          (does-other k (theoryJob j good arguments memory) low (here j good s ok 0 t h) (halt-no-fork _ x halts) ∙ halts)
+        where
+          halts : does windows window-tests (codeOf j good) 0 (here j good s ok 0 t h) ≡ halt x
+          halts = does-fault windows window-tests (codeOf j good) (here j good s ok 0 t h) x (effect-met j good s ok 0 t h (Faults x) q)
+
+      -- a thread that forks is not at the limit: there it would halt
+      forks-below : (t : ℕ) (r c p : ThreadState Window) (l : Link) (d : ℕ) → poolOf j s .cell t ≡ used r l
+          → does windows window-tests (codeOf j good) 0 r ≡ fork d c p → k < 31
+      forks-below t r c p l d ct e = by (decLt k 31)
+        where
+          by : Dec (k < 31) → k < 31
+          by (yes z) = z
+          by (no z) =
+              let (x, y) = does-beyond k (theoryJob j good arguments memory) low (omega arith) r c p d e in
+              absurd (no-halt deepJob (words-from 32 memory) E n (poolOf j s) f t x r l ct y)
 
       pub within : (t : ℕ) → Used s t → depth t < 32 - k
       within t h =
@@ -109,8 +130,9 @@ module _ (j : Job) (good : GoodJob j) (arguments memory : List ℕ) (k : ℕ) (l
       pub fork-deep : (t : ℕ) → Used s t → (r d a e : ℕ) → effectAt j s (threadAt s t) ≡ Lforks r d a e → suc (depth t) < 32 - k
       fork-deep t h r d a e q =
           let (c, p, z) = does-lfork (here j good s ok 0 t h) r d a e (effect-met j good s ok 0 t h (Lforks r d a e) q) in
+          let below = forks-below t (here j good s ok 0 t h) c p (linkOf (threadAt s t)) d (cell-of t h) z in
           let y = shallow deepJob (words-from 32 memory) E n (poolOf j s) f t d (here j good s ok 0 t h) c p (linkOf (threadAt s t)) (cell-of t h)
-          (does-same k (theoryJob j good arguments memory) low (here j good s ok 0 t h) ∙ z) in
+          (does-below k (theoryJob j good arguments memory) low below (here j good s ok 0 t h) ∙ z) in
           omega arith
 
       pub paid : (c t : ℕ) → Used s t → s .units + turnAt j s c t .weight ≤ E .end .units
@@ -135,7 +157,8 @@ module _ (j : Job) (good : GoodJob j) (arguments memory : List ℕ) (k : ℕ) (l
           by : (a : After) → Accepted j good s a → Next a
           by a (resting m) = rests (m .ongoing) (ap (λ N. N .units) (m .pool)) (subst (Follows deepJob (words-from 32 memory) n) (sym (m .pool)) f)
           by a (stepping m) = goes-on (m .ongoing) (follow deepJob (words-from 32 memory) E n (m .thread) (poolOf j s) (poolOf j (a .state)) f
-              (deeper-step k (theoryJob j good arguments memory) low (m .thread) (poolOf j s) (poolOf j (a .state)) (m .step)))
+              (deeper-step k (theoryJob j good arguments memory) low (m .thread) (poolOf j s) (poolOf j (a .state))
+              (λ r c q l d ct e. forks-below (m .thread) r c q l d ct e) (m .step)))
           by a (finishing m) = has-ended (m .result) (m .over)
               (last-step deepJob (words-from 32 memory) E n (poolOf j s) f (m .thread) (m .result) (m .last) (m .is-root)
-              (does-same k (theoryJob j good arguments memory) low (m .last) ∙ m .returns) .0)
+              (does-other k (theoryJob j good arguments memory) low (m .last) (return-no-fork _ (m .result) (m .returns)) ∙ m .returns) .0)

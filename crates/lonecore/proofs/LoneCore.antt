@@ -30,13 +30,13 @@ use Rattle.lonecore.proofs.Steps.{Lone, each, accepted}
 use Rattle.lonecore.proofs.Rounds.{Ran, lone}
 
 -- Start, followed
-pub start-followed : (i : Input) (t : Takes i) (k : ℕ) (low : k < 31) → Followed (jobIn i) (good i t) (i .arguments) (i .memory) k low 0 (startIn i)
+pub start-followed : (i : Input) (t : Takes i) (k : ℕ) (low : k ≤ 31) → Followed (jobIn i) (good i t) (i .arguments) (i .memory) k low 0 (startIn i)
 start-followed i t k low = subst (Follows (deepJob (jobIn i) (good i t) (i .arguments) (i .memory) k low) (words-from 32 (i .memory)) 0)
     (start-pool (jobIn i) (good i t) (i .cores) (i .arguments) (i .memory) (t .arguments))
     (follows-start (deepJob (jobIn i) (good i t) (i .arguments) (i .memory) k low) (words-from 32 (i .memory)))
 
 -- 16 levels are left to a run begun 16 levels down
-below : 16 < 31
+below : 16 ≤ 31
 below = omega arith
 
 half : 16 ≤ 16

@@ -26,7 +26,7 @@ use Rattle.demands.proofs.Passing.{good}
 use Rattle.demands.proofs.SerialTheory.{asOutcome, is-theory-below}
 use Rattle.lonecore.specs.Depth.{depthWithin, depthIn}
 use Rattle.lonecore.specs.Commands.{countingJob, unitsOf, commandsIn}
-use Rattle.lonecore.proofs.DepthExact.{Exact, Finishes, depth-exact}
+use Rattle.lonecore.proofs.DepthExact.{Exact, Finishes, depth-exact, depth-least}
 use Rattle.lonecore.proofs.Followed.{Ending}
 use Rattle.lonecore.proofs.SerialEnding.{theJob, firstLocal, depth-same, returned, ends, enough as ends-enough}
 use Rattle.lonecore.proofs.CommandCount.{counting-good, counted, steps-counted, steps-cost, begin-same}
@@ -58,7 +58,15 @@ pub depth-in-exact : (i : Input) (k : ℕ) → k < 32
     → Exact k (depthIn i) (begunDown (jobIn i) (i .arguments) (i .memory) k) (begunDown (jobIn i) (i .arguments) (i .memory) 0)
 depth-in-exact i k low = down-exact (jobIn i) (i .arguments) (i .memory) k low
 
-module _ (i : Input) (t : Takes i) (k : ℕ) (low : k < 31) (v u : ℕ) (m : List ℕ) (finishes : serialIn i ≡ done v m u) (deep : depthIn i + k ≤ 32) where
+-- so the depth is from 1 to 32
+pub depth-some : (i : Input) → 1 ≤ depthIn i
+depth-some i = depth-least (jobIn i) (suc (i .allowance)) 1 (startedOn 0 (i .arguments) rootWindow) (i .memory) 0 (omega arith)
+
+pub depth-most : (i : Input) → Takes i → (v u : ℕ) (m : List ℕ) → serialIn i ≡ done v m u → depthIn i ≤ 32
+depth-most i t v u m e =
+    let z = depth-in-exact i 0 (omega arith) .fits (subst Finishes (sym (sym (serial-starts i t (jobIn i) refl refl) ∙ e)) tt) in omega arith
+
+module _ (i : Input) (t : Takes i) (k : ℕ) (low : k ≤ 31) (v u : ℕ) (m : List ℕ) (finishes : serialIn i ≡ done v m u) (deep : depthIn i + k ≤ 32) where
   abbrev j : Job
   j = jobIn i
 

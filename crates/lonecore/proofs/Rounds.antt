@@ -21,10 +21,10 @@ use Rattle.lonecore.proofs.Followed.{Ending}
 use Rattle.lonecore.proofs.Chain.{core-steps}
 use Rattle.lonecore.proofs.Steps.{Lone, Steps, next, last, accepted, steps, left}
 
-may-try : (p : Progress) → p .state .outcome ≡ going → 3 ≤ p .left → mayTry p ≡ true
+pub may-try : (p : Progress) → p .state .outcome ≡ going → 3 ≤ p .left → mayTry p ≡ true
 may-try p o l = ap (λ x. not (isOver x) && leb 3 (p .left)) o ∙ le-leb 3 (p .left) l
 
-module _ (j : Job) (good : GoodJob j) (arguments memory : List ℕ) (k : ℕ) (low : k < 31) (half : 16 ≤ k) (only : LforksOnly (j .image))
+module _ (j : Job) (good : GoodJob j) (arguments memory : List ℕ) (k : ℕ) (low : k ≤ 31) (half : 16 ≤ k) (only : LforksOnly (j .image))
     (E : Ending j good arguments memory k low) (enough : E .end .units ≤ j .allowance) where
   abbrev Stood : ℕ → State → Type 0
   Stood n s = Lone j good arguments memory k low half only E enough n s

@@ -40,7 +40,7 @@ module _ (j : Job) (good : GoodJob j) (arguments memory : List ℕ) where
   depth-same n = agree (theJob .language) (theJob .carried) (j .allowance) (suc (j .allowance)) n (theJob .root-thread) zeros (words-from 32 memory) 0
       (λ k p. let b = theJob .bare k in let y : _≡_ {A = ℕ} 0 1 = cc in absurd (omega arith))
 
-  module _ (k : ℕ) (low : k < 31) (few : length arguments ≡ argumentsOf (j .image) 0) (all : length memory ≡ 992) (v u : ℕ) (m : List ℕ)
+  module _ (k : ℕ) (low : k ≤ 31) (few : length arguments ≡ argumentsOf (j .image) 0) (all : length memory ≡ 992) (v u : ℕ) (m : List ℕ)
       (ended : callFrom j (suc k) (startedOn 0 arguments rootWindow) memory 0 ≡ done v m u) where
     deep-run : serial-run (deepJob j good arguments memory k low .language) (j .allowance) firstLocal (words-from 32 memory) ≡ t-done v (words-from 32 m) u
     unfolding serial-run

@@ -32,7 +32,7 @@ use Rattle.lonecore.proofs.FewRunning.{Few}
 use Rattle.lonecore.proofs.FewKept.{few-choice}
 use Rattle.lonecore.proofs.Crowd.{room-step, room-steal}
 
-module _ (j : Job) (good : GoodJob j) (arguments memory : List ℕ) (k : ℕ) (low : k < 31) (only : LforksOnly (j .image))
+module _ (j : Job) (good : GoodJob j) (arguments memory : List ℕ) (k : ℕ) (low : k ≤ 31) (only : LforksOnly (j .image))
     (E : Ending j good arguments memory k low) (enough : E .end .units ≤ j .allowance) where
   pub record Stands (n : ℕ) (s : State) : Type 0 where
     pub sound : Sound j s

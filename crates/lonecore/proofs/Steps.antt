@@ -16,7 +16,7 @@ use Rattle.lonecore.proofs.Followed.{Ending, commands-most}
 use Rattle.lonecore.proofs.Chain.{Alone, onward, core-steps}
 use Rattle.lonecore.proofs.Standing.{Stands, step-taken, Goes, stays, further, over, goes}
 
-module _ (j : Job) (good : GoodJob j) (arguments memory : List ℕ) (k : ℕ) (low : k < 31) (half : 16 ≤ k) (only : LforksOnly (j .image))
+module _ (j : Job) (good : GoodJob j) (arguments memory : List ℕ) (k : ℕ) (low : k ≤ 31) (half : 16 ≤ k) (only : LforksOnly (j .image))
     (E : Ending j good arguments memory k low) (enough : E .end .units ≤ j .allowance) where
   -- an open state of a lone core, after n commands
   pub record Lone (n : ℕ) (s : State) : Type 0 where

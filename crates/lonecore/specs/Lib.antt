@@ -3,4 +3,5 @@ pub mod LforksOnly
 pub mod Depth
 pub mod Commands
 pub mod NeverDry
+pub mod SeveralCores
 pub mod Rows

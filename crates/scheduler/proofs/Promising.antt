@@ -24,6 +24,7 @@ use Rattle.run.proofs.Running.{first, ready}
 use Rattle.run.proofs.RunDemand.{finished-by}
 use Rattle.lonecore.specs.Commands.{commandsIn}
 use Rattle.lonecore.proofs.LoneCore.{never-dry}
+use Rattle.lonecore.proofs.SeveralCores.{few-in-use, never-short}
 use Rattle.scheduler.proofs.Equalling.{equals, ends}
 use Rattle.scheduler.specs.declared.Scheduled.{Scheduled}
 use Rattle.turns.specs.Steps.{Rounded}
@@ -59,6 +60,8 @@ module _ (i : Input) (b : Begun) (xs ys ws vs : List ℕ) (begun : Begins i [] [
     plain = λ v u e. let z : _≡_ {A = ℕ} 0 1 = cc in absurd (omega arith);
     words = λ v u e. let z : _≡_ {A = ℕ} 0 1 = cc in absurd (omega arith);
     loneCore = λ z. absurd (some (begun .number ∙ z));
+    fewInUse = λ z. absurd (some (begun .number ∙ z));
+    severalCores = λ z. absurd (some (begun .number ∙ z));
   }
 
   module _ (none : b .number ≡ 0) (bytes : (k : ℕ) → getD (i .image) k 0 < 256) where
@@ -106,4 +109,8 @@ module _ (i : Input) (b : Begun) (xs ys ws vs : List ℕ) (begun : Begins i [] [
                 used = p .used ∙ ap (λ es. length (bytesOfEntries es)) (dry .entries) ∙ steps-bytes (commandsIn i);
                 run = dry;
               };
+          fewInUse = λ z only v u m finishes. few-in-use i (takes i [] [] passes bytes) only v u m finishes (length before);
+          severalCores = λ z v u m h.
+              let short = never-short i (takes i [] [] passes bytes) (length before) v u m h in
+              record { answer = answer ∙ (λ ι. answerOf (short .outcome ι) (short .units ι)); memory = memory ∙ short .memory; run = short };
         }

@@ -19,7 +19,9 @@ use Rattle.demands.specs.WholeRun.{SchedulerNumbers}
 use Rattle.run.specs.Machine.{MachineIs}
 use Rattle.rounds.specs.Rounds.{Progress, isWritten, scheduledFrom, filled}
 use Rattle.lonecore.specs.Commands.{commandsIn}
+use Rattle.lonecore.specs.LforksOnly.{LforksOnly}
 use Rattle.lonecore.specs.NeverDry.{LoneCore, NeverDry}
+use Rattle.lonecore.specs.SeveralCores.{FewInUse, SeveralCores, NeverShort}
 use Rattle.scheduler.specs.declared.ScheduleShown.{ScheduleShown}
 use Rattle.scheduler.specs.declared.Scheduled.{Scheduled}
 
@@ -72,6 +74,12 @@ pub record NeverRanDry (i : Input) (size v u : ℕ) (m : List ℕ) (r : Schedule
   pub used : r .used ≡ 2 * commandsIn i
   pub run : NeverDry i v u m (scheduledOf i size)
 
+-- beyond T-12, on several cores: it finishes likewise, and no try meets 20, 21 or 22
+pub record NeverRanShort (i : Input) (size v u : ℕ) (m : List ℕ) (r : Scheduled) (memoryAfter : List ℕ) : Type 0 where
+  pub answer : r .answer ≡ Finished v u
+  pub memory : memoryAfter ≡ m
+  pub run : NeverShort i v u m (scheduledOf i size)
+
 -- what the scheduler gives, where the words stand in an array of the caller's
 abbrev pub scheduledWith : ScheduleShown → List ℕ → Scheduled
 scheduledWith r words = record { answer = r .answer; counts = r .counts; statuses = r .statuses; words = words; used = r .used }
@@ -90,3 +98,7 @@ pub record SchedulerPromise (i : Input) (before : List ℕ) (r : Scheduled) (mem
   -- T-12: "For an image without 09, 0B and 0C, whose plain run finishes and goes at most 16 routines deep, the house run on one core with the same
   -- allowance finishes, given an entry buffer of twice the commands carried out plus one byte, if that is at most 32,768"
   pub loneCore : refusalIn i ≡ 0 → (v u : ℕ) (m : List ℕ) → LoneCore i (length before) v u m → NeverRanDry i (length before) v u m r memoryAfter
+  -- beyond T-12: for such an image at most cores * (depth - 1) + 1 threads are in use at every state, and where that is at most 16 it finishes on
+  -- any number of cores, given six bytes for each command
+  pub fewInUse : refusalIn i ≡ 0 → LforksOnly (i .image) → (v u : ℕ) (m : List ℕ) → serialIn i ≡ done v m u → FewInUse i (scheduledOf i (length before))
+  pub severalCores : refusalIn i ≡ 0 → (v u : ℕ) (m : List ℕ) → SeveralCores i (length before) v u m → NeverRanShort i (length before) v u m r memoryAfter

@@ -74,36 +74,36 @@ module _ (𝓦 : Windows) (tests : WindowTests 𝓦) (code : Code) where
   other n l (Returns v) h = refl
 
   -- "A fork from 32 deep, the root being 1, meets 26"
-  split-beyond : (n : ℕ) (l : ThreadState W) (r d a : ℕ) → 31 ≤ n → (x : Option (W × W))
-      → (y : ℕ) × (split 𝓦 code (by-return 𝓦 code) n l r d a x ≡ halt y)
-  split-beyond n l r d a h none = (11, refl)
-  split-beyond n l r d a h (some p) =
-      (26, ap (λ t. cond t (fork d (started code r (l .slots) a (p .0)) (behind-fork code l (l .slots) d (p .1))) (halt 26)) (le-ltb n 31 h))
+  split-beyond : (l : ThreadState W) (r d a : ℕ) (x : Option (W × W))
+      → (y : ℕ) × ((n : ℕ) → 31 ≤ n → split 𝓦 code (by-return 𝓦 code) n l r d a x ≡ halt y)
+  split-beyond l r d a none = (11, λ n h. refl)
+  split-beyond l r d a (some p) =
+      (26, λ n h. ap (λ t. cond t (fork d (started code r (l .slots) a (p .0)) (behind-fork code l (l .slots) d (p .1))) (halt 26)) (le-ltb n 31 h))
 
-  beyond : (n : ℕ) (l c q : ThreadState W) (d : ℕ) (e : Effect) → 31 ≤ n → acts 0 l e ≡ fork d c q → (x : ℕ) × (acts n l e ≡ halt x)
+  beyond : (l c q : ThreadState W) (d : ℕ) (e : Effect) → acts 0 l e ≡ fork d c q → (x : ℕ) × ((n : ℕ) → 31 ≤ n → acts n l e ≡ halt x)
   unfolding actOf
-  beyond n l c q d (Faults x) h z = let y : _≡_ {A = ℕ} 0 1 = cc in absurd (omega arith)
-  beyond n l c q d (Sets k v) h z = let y : _≡_ {A = ℕ} 0 1 = cc in absurd (omega arith)
-  beyond n l c q d (Loads k a) h z = absurd (no-fork (ltb a 32) z)
+  beyond l c q d (Faults x) z = let y : _≡_ {A = ℕ} 0 1 = cc in absurd (omega arith)
+  beyond l c q d (Sets k v) z = let y : _≡_ {A = ℕ} 0 1 = cc in absurd (omega arith)
+  beyond l c q d (Loads k a) z = absurd (no-fork (ltb a 32) z)
     where
       no-fork : (b : Bool) → cond b (advance (onward code l (update (l .slots) k (code .params a)))) (load a (λ v. onward code l (update (l .slots) k v))) ≡ fork d c q → ⊥
       no-fork true e = let y : _≡_ {A = ℕ} 0 1 = cc in omega arith
       no-fork false e = let y : _≡_ {A = ℕ} 0 1 = cc in omega arith
-  beyond n l c q d (Stores a v) h z = let y : _≡_ {A = ℕ} 0 1 = cc in absurd (omega arith)
-  beyond n l c q d (Goes t) h z = let y : _≡_ {A = ℕ} 0 1 = cc in absurd (omega arith)
-  beyond n l c q d Continues h z = let y : _≡_ {A = ℕ} 0 1 = cc in absurd (omega arith)
-  beyond n l c q d (Lforks r k a e) h z = split-beyond n l r k a h (cut (l .window) e)
-  beyond n l c q d (Forks r k a e) h z = split-beyond n l r k a h (cut (l .window) e)
-  beyond n l c q d Joins h z = let y : _≡_ {A = ℕ} 0 1 = cc in absurd (omega arith)
-  beyond n l c q d Suspends h z = let y : _≡_ {A = ℕ} 0 1 = cc in absurd (omega arith)
-  beyond n l c q d Yields h z = let y : _≡_ {A = ℕ} 0 1 = cc in absurd (omega arith)
-  beyond n l c q d (Returns v) h z = let y : _≡_ {A = ℕ} 0 1 = cc in absurd (omega arith)
+  beyond l c q d (Stores a v) z = let y : _≡_ {A = ℕ} 0 1 = cc in absurd (omega arith)
+  beyond l c q d (Goes t) z = let y : _≡_ {A = ℕ} 0 1 = cc in absurd (omega arith)
+  beyond l c q d Continues z = let y : _≡_ {A = ℕ} 0 1 = cc in absurd (omega arith)
+  beyond l c q d (Lforks r k a e) z = split-beyond l r k a (cut (l .window) e)
+  beyond l c q d (Forks r k a e) z = split-beyond l r k a (cut (l .window) e)
+  beyond l c q d Joins z = let y : _≡_ {A = ℕ} 0 1 = cc in absurd (omega arith)
+  beyond l c q d Suspends z = let y : _≡_ {A = ℕ} 0 1 = cc in absurd (omega arith)
+  beyond l c q d Yields z = let y : _≡_ {A = ℕ} 0 1 = cc in absurd (omega arith)
+  beyond l c q d (Returns v) z = let y : _≡_ {A = ℕ} 0 1 = cc in absurd (omega arith)
 
   pub bounded : Bounded (threads 𝓦 tests code) (carried-threads 𝓦 tests code) 31
   bounded = record {
     below = λ n l h. below n l (effect 𝓦 tests code l) h;
     other = λ n l h. other n l (effect 𝓦 tests code l) h;
-    beyond = λ n l c q d h. beyond n l c q d (effect 𝓦 tests code l) h;
+    beyond = λ l c q d h. beyond l c q d (effect 𝓦 tests code l) h;
   }
 
   -- a root window and the root's first slots
