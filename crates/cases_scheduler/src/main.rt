@@ -1,5 +1,5 @@
 // Runs by the built-in scheduler. The expected lines were worked out by a second implementation, written from document 01 alone, those of the
-// worked rows by hand.
+// worked rows and of T-12 by hand.
 //
 // The cases are the lines of standard input, in the form that the crate `cases` tells:
 //
