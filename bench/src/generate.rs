@@ -356,6 +356,60 @@ fn many(random: &mut Random) -> Vec<u8> {
     ])
 }
 
+/// A tree of lforks alone, a routine for each depth, which the plain run finishes unless it is too poor. Each calls the next one and now and
+/// then a deeper one. A window is the children's words and then one of its own, so that no tree has more routines than the root has words.
+fn lforks(random: &mut Random) -> (Vec<u8>, Vec<u32>) {
+    let depth = if random.one_in(2) { random.range(1, 17) } else { random.range(2, 8) } as usize;
+    let most = random.pick(&[20, 100, 500, 992]);
+    let mut words = vec![0; depth];
+    let mut routines = Vec::new();
+    for level in (0..depth).rev() {
+        let mut calls = Vec::new();
+        words[level] = 1;
+        for call in 0..if level + 1 < depth { random.range(1, 5) } else { 0 } {
+            let any = random.range(level as u64 + 1, depth as u64 - 1) as usize;
+            let to = if call == 0 || !random.one_in(4) { level + 1 } else { any };
+            // a word is kept for each routine above
+            if words[level] + words[to] + level as u16 <= most {
+                words[level] += words[to];
+                calls.push((to as u8, words[to]));
+            }
+        }
+        routines.insert(0, caller(random, &calls));
+    }
+    (image(&routines), vec![32])
+}
+
+/// A routine of its lo, of calls and the words of their windows: it adds up what they return and its own word, and stores that there.
+/// Slots: lo and the calls' cuts, of which each call's lo is then its result; a spare one.
+fn caller(random: &mut Random, calls: &[(u8, u16)]) -> Routine {
+    let own = calls.len() as u8;
+    let spare = own + 1;
+    let mut code = Code::default();
+    for (slot, (_, words)) in (0..).zip(calls) {
+        code.set(spare, *words);
+        code.add(slot + 1, slot, spare);
+    }
+    for (slot, (to, _)) in (0..).zip(calls) {
+        code.fork(LFORK, *to, slot, slot, slot + 1);
+        // an lfork right after another is a seed
+        if random.one_in(4) {
+            filler(random, &mut code, spare, u64::MAX);
+        }
+    }
+    code.join();
+    for _ in 0..random.below(4) {
+        filler(random, &mut code, spare, u64::MAX);
+    }
+    code.load(spare, own);
+    for slot in 0..own {
+        code.add(spare, spare, slot);
+    }
+    code.store(own, spare);
+    code.returns(spare);
+    Routine { slots: frame(random, spare as u64 + 1), arguments: 1, code: code.bytes }
+}
+
 /// Random commands, all in range, with targets at commands' starts.
 fn wild(random: &mut Random) -> (Vec<u8>, Vec<u32>) {
     let count = random.pick(&[1, 1, 2, 3, 5, 32]) as u8;
@@ -435,13 +489,14 @@ fn value(random: &mut Random) -> u32 {
 
 /// A job that a run takes.
 pub fn job(random: &mut Random) -> Case {
-    let (image, arguments) = match random.below(20) {
+    let (image, arguments) = match random.below(22) {
         0..=3 => (tree(random, 0), vec![]),
         4..=5 => (tree(random, 4), vec![]),
         6..=9 => (tree(random, 25), vec![]),
         10..=12 => deep(random),
         13..=14 => crowded(random),
         15..=16 => (many(random), vec![]),
+        17..=18 => lforks(random),
         _ => wild(random),
     };
     let parameters = (0..32).map(|_| value(random)).collect();
@@ -581,7 +636,13 @@ pub fn damage(random: &mut Random, case: &mut Case, schedule: &mut Vec<u8>, log:
     for _ in 0..random.pick(&[1, 1, 2]) {
         match random.below(9) {
             0 => case.cores = random.pick(&[0, 5, 6, 32, 255]),
-            1 => case.image = damaged_image(random),
+            1 => {
+                case.image = damaged_image(random);
+                // it may have become a loop, of which the plain run must end
+                if runs_on(case) {
+                    case.allowance = case.allowance.min(200_000);
+                }
+            }
             2 => {
                 if random.one_in(2) || case.arguments.is_empty() {
                     case.arguments.push(1);

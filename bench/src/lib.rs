@@ -1,5 +1,6 @@
 //! Tests and benchmarks of the proved crates against a second implementation.
 pub mod assemble;
+pub mod finish;
 pub mod generate;
 pub mod mutation;
 pub mod peer;

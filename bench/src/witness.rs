@@ -16,7 +16,7 @@ pub struct Witness {
     rows: Modules,
 }
 
-pub const WITNESSES: [Witness; 6] = [
+pub const WITNESSES: [Witness; 7] = [
     Witness {
         name: "rules",
         over: "rules",
@@ -56,6 +56,13 @@ pub const WITNESSES: [Witness; 6] = [
         rows: &[("rounds", &["Rows"])],
     },
     Witness { name: "serial", over: "serial", proof: "Cases", definitions: &[("serial", &["Serial"])], rows: &[("serial", &["Cases"])] },
+    Witness {
+        name: "lonecore",
+        over: "lonecore",
+        proof: "Rows",
+        definitions: &[("lonecore", &["Depth", "Commands"])],
+        rows: &[("lonecore", &["Rows"])],
+    },
     Witness {
         name: "image",
         over: "image",

@@ -4,12 +4,14 @@
 //!
 //! After each run by schedule and each run by the built-in scheduler these are compared: the answer, the number of records in each state, the
 //! state of each record, all 1,024 words of the stacklets, the memory, and the log or the entries written. Besides, so that what both have wrong
-//! alike is found too, a finished run of the proved crates must end as the serial run does and leave every word of the stacklets zero.
+//! alike is found too, a finished run of the proved crates must end as the serial run does and leave every word of the stacklets zero, and a run
+//! by the built-in scheduler that is promised to finish must do so (`src/finish.rs`).
 //!
-//! It ends with a table of how often each number was met, and with status 1 at a difference or where a number was never met.
+//! It ends with a table of how often each number was met, and with status 1 at a difference or where a number or a promise was never met.
 #[path = "../library.rs"]
 mod library;
 
+use bench::finish;
 use bench::generate::{damage, damaged_image, job, large_image, schedule, Case};
 use bench::peer::image::number;
 use bench::peer::plain::plain;
@@ -33,6 +35,7 @@ struct Tally {
     /// runs of either kind whose end has all words of the stacklets zero, and those that leave some
     wiped: u64,
     kept: u64,
+    promised: finish::Jobs,
 }
 
 fn digits(bytes: &[u8]) -> String {
@@ -212,6 +215,12 @@ fn compare_scheduled(tally: &mut Tally, random: &mut Random, case: &Case) {
     }
 }
 
+fn check_promises(tally: &mut Tally, case: &Case) {
+    if let Err(broken) = finish::check(&mut tally.promised, case, library::scheduled) {
+        differs(broken.what, &broken.case, &broken.entries, broken.promised, broken.given);
+    }
+}
+
 fn one_case(tally: &mut Tally, random: &mut Random) {
     for _ in 0..4 {
         let image = if random.one_in(12) { large_image(random) } else { damaged_image(random) };
@@ -233,9 +242,11 @@ fn one_case(tally: &mut Tally, random: &mut Random) {
             let serial = compare_serial(tally, &damaged);
             compare_runs(tally, &damaged, &bytes, &log, serial);
             compare_scheduled(tally, random, &damaged);
+            check_promises(tally, &damaged);
         }
     }
     compare_scheduled(tally, random, &case);
+    check_promises(tally, &case);
 }
 
 fn main() {
@@ -253,6 +264,9 @@ fn main() {
     println!("finished {}, faulted {}, open {}", tally.finished, tally.faulted, tally.open);
     println!("stacklets: runs that end with all 1,024 words zero {}, with words left {}", tally.wiped, tally.kept);
     println!("entries {}, accepted {}", tally.entries, tally.accepted);
+    let finish::Jobs { met, full, deep } = &tally.promised;
+    println!("promised to finish on 1 to 4 cores {:?}, with as many threads in use as are let be {:?}", &met[1..], &full[1..]);
+    println!("promised to finish on one core, by depth from 1 to 16 {:?}", &deep[1..]);
     let mut never = false;
     for (number, count) in tally.met.iter().enumerate().skip(1) {
         println!("number {number:2}: {count}");
@@ -260,6 +274,10 @@ fn main() {
     }
     if never {
         println!("a number was never met");
+        std::process::exit(1);
+    }
+    if !tally.promised.complete() {
+        println!("a promise to finish, or its bound of threads, was never met");
         std::process::exit(1);
     }
     println!("no difference");

@@ -17,6 +17,9 @@ pub const RETURN: u8 = 0x0D;
 /// Weights by command byte.
 pub const WEIGHTS: [u32; 16] = [0, 1, 1, 1, 2, 2, 1, 1, 6, 12, 1, 3, 3, 1, 0, 0];
 
+/// Bytes of a command, by command byte.
+pub const SIZES: [u16; 16] = [0, 4, 4, 4, 3, 3, 4, 3, 5, 5, 1, 1, 1, 2, 0, 0];
+
 /// A command's first eight bytes, the command byte lowest. What lies behind a short command is never looked at.
 #[derive(Clone, Copy)]
 pub struct Word(pub u64);

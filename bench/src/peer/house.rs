@@ -17,7 +17,52 @@ impl Housed {
     }
 }
 
+/// The tries by their log bytes, and the most threads in use at any state. It leaves out enabling, which is never refused and takes no thread.
+#[derive(Clone, Copy, Debug, PartialEq, Eq)]
+pub struct Tries {
+    pub by_number: [u64; 27],
+    pub threads: u8,
+}
+
+impl Tries {
+    /// The number of the first kind of try that was not accepted.
+    pub fn not_accepted(&self) -> Option<usize> {
+        (1..27).find(|number| self.by_number[*number] != 0)
+    }
+}
+
+/// What hears of each try; `()` does not, so that a run with it costs nothing more.
+trait Watch {
+    const HEARS: bool;
+    fn tried(&mut self, m: &Machine, number: u8);
+}
+
+impl Watch for () {
+    const HEARS: bool = false;
+    #[inline(always)]
+    fn tried(&mut self, _m: &Machine, _number: u8) {}
+}
+
+impl Watch for Tries {
+    const HEARS: bool = true;
+    fn tried(&mut self, m: &Machine, number: u8) {
+        self.by_number[number as usize] += 1;
+        self.threads = self.threads.max(32 - m.free_threads.len());
+    }
+}
+
 pub fn house(fed: Fed, memory: &mut [u32], buffer: &mut [u8]) -> Housed {
+    watched(fed, memory, buffer, &mut ())
+}
+
+/// The house run with its tries; Start's state has one thread.
+pub fn tried(fed: Fed, memory: &mut [u32], buffer: &mut [u8]) -> (Housed, Tries) {
+    let mut tries = Tries { by_number: [0; 27], threads: 1 };
+    (watched(fed, memory, buffer, &mut tries), tries)
+}
+
+#[inline(always)]
+fn watched<W: Watch>(fed: Fed, memory: &mut [u32], buffer: &mut [u8], watch: &mut W) -> Housed {
     if fed.cores == 0 || fed.cores > 4 {
         return Housed::refused(23);
     }
@@ -36,10 +81,11 @@ pub fn house(fed: Fed, memory: &mut [u32], buffer: &mut [u8]) -> Housed {
     m.start(&program, fed.arguments);
     let most = buffer.len().min(LONGEST);
     let mut written = Written { buffer: &mut buffer[..most], used: 0 };
-    if fed.cores == 1 {
+    // steps in bursts are not heard of one by one
+    if fed.cores == 1 && !W::HEARS {
         alone(&mut m, &job, memory, &mut written);
     } else {
-        rounds(&mut m, &job, memory, &mut written);
+        rounds(&mut m, &job, memory, &mut written, watch);
     }
     Housed { ran: m.ran(), used: written.used }
 }
@@ -74,6 +120,14 @@ impl Written<'_> {
         self.buffer[self.used..self.used + N].copy_from_slice(&entry);
         self.used += N;
     }
+
+    /// An entry, where its log byte lets it stand.
+    #[inline(always)]
+    fn put_standing<const N: usize>(&mut self, number: u8, entry: [u8; N]) {
+        if stands(number) {
+            self.put(entry);
+        }
+    }
 }
 
 /// Whether an entry with this log byte is written: accepted or faulting.
@@ -82,9 +136,9 @@ fn stands(number: u8) -> bool {
     number < 13
 }
 
-/// The rounds of several cores; a function of its own, with all registers to itself.
+/// The rounds of any number of cores; a function of its own, with all registers to itself.
 #[inline(never)]
-fn rounds(m: &mut Machine, job: &Job, memory: &mut [u32; 992], written: &mut Written) {
+fn rounds<W: Watch>(m: &mut Machine, job: &Job, memory: &mut [u32; 992], written: &mut Written, watch: &mut W) {
     loop {
         let mut accepted = false;
         for core in 0..m.count {
@@ -97,27 +151,22 @@ fn rounds(m: &mut Machine, job: &Job, memory: &mut [u32; 992], written: &mut Wri
                     return;
                 }
                 number = m.step(job, memory, core);
-                if stands(number) {
-                    written.put([1, core]);
-                }
+                written.put_standing(number, [1, core]);
             } else if !m.ready.is_empty() {
                 if !written.room() {
                     return;
                 }
                 number = m.take(core);
-                if stands(number) {
-                    written.put([2, core]);
-                }
+                written.put_standing(number, [2, core]);
             } else {
                 let Some(t) = seed(m, job) else { continue };
                 if !written.room() {
                     return;
                 }
                 number = m.steal(job, core, t);
-                if stands(number) {
-                    written.put([3, core, t]);
-                }
+                written.put_standing(number, [3, core, t]);
             }
+            watch.tried(m, number);
             accepted |= number == 0;
         }
         if m.over || (!accepted && !enable_lowest(m, written)) {

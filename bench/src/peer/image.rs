@@ -41,6 +41,21 @@ impl Program {
     pub fn row(&self, routine: u8) -> Row {
         self.rows[routine as usize & 31]
     }
+
+    /// Whether a command of any routine has one of these bytes.
+    pub fn has(&self, bytes: &[u8]) -> bool {
+        self.rows[..self.count as usize].iter().any(|row| {
+            let mut at = row.start;
+            while at < row.start + row.length {
+                let op = self.word(at).op();
+                if bytes.contains(&op) {
+                    return true;
+                }
+                at += SIZES[op as usize & 15];
+            }
+            false
+        })
+    }
 }
 
 /// Where commands begin, a byte for each of the image's first N, and where targets stand, a bit for each.

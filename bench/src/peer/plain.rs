@@ -5,35 +5,77 @@ use super::image::{read, Program};
 use super::run::Fed;
 use super::PlainAnswer;
 
-struct Plain<'a> {
+struct Plain<'a, T> {
     program: &'a Program,
     parameters: &'a [u32; 32],
     memory: &'a mut [u32; 992],
     left: u32,
+    trace: T,
+}
+
+/// The commands carried out, and how many routines deep the run went, the root being 1.
+#[derive(Clone, Copy, Debug, Default, PartialEq, Eq)]
+pub struct Measure {
+    pub commands: u64,
+    pub depth: u32,
+}
+
+/// What hears of a run's commands and routines; `()` does not, so that a run with it costs nothing more.
+trait Trace: Default {
+    fn command(&mut self);
+    fn routine(&mut self, depth: u32);
+}
+
+impl Trace for () {
+    #[inline(always)]
+    fn command(&mut self) {}
+    #[inline(always)]
+    fn routine(&mut self, _depth: u32) {}
+}
+
+impl Trace for Measure {
+    fn command(&mut self) {
+        self.commands += 1;
+    }
+    fn routine(&mut self, depth: u32) {
+        self.depth = self.depth.max(depth);
+    }
 }
 
 pub fn plain(fed: Fed, memory: &mut [u32]) -> PlainAnswer {
+    traced::<()>(fed, memory).0
+}
+
+/// The plain run with its measure; of a refused one that is zero.
+pub fn measured(fed: Fed, memory: &mut [u32]) -> (PlainAnswer, Measure) {
+    traced(fed, memory)
+}
+
+#[inline(always)]
+fn traced<T: Trace>(fed: Fed, memory: &mut [u32]) -> (PlainAnswer, T) {
+    let refused = |number| (PlainAnswer::Stopped { number, units: 0 }, T::default());
     let mut program = Program::blank();
     if let Err(number) = read(fed.image, &mut program) {
-        return PlainAnswer::Stopped { number, units: 0 };
+        return refused(number);
     }
     if fed.arguments.len() != program.row(0).arguments as usize {
-        return PlainAnswer::Stopped { number: 24, units: 0 };
+        return refused(24);
     }
     let (Ok(parameters), Ok(memory)) = (fed.parameters.try_into(), memory.try_into()) else {
-        return PlainAnswer::Stopped { number: 25, units: 0 };
+        return refused(25);
     };
     let mut slots = [0; 16];
     for (slot, argument) in slots.iter_mut().zip(fed.arguments) {
         *slot = *argument;
     }
-    let mut run = Plain { program: &program, parameters, memory, left: fed.allowance };
+    let mut run = Plain { program: &program, parameters, memory, left: fed.allowance, trace: T::default() };
     let ended = run.routine(program.row(0).start, &mut slots, 32, 1024, 1);
     let units = fed.allowance - run.left;
-    match ended {
+    let answer = match ended {
         Ok(result) => PlainAnswer::Finished { result, units },
         Err(number) => PlainAnswer::Stopped { number, units },
-    }
+    };
+    (answer, run.trace)
 }
 
 #[inline(always)]
@@ -41,15 +83,23 @@ fn free<const N: usize>(pending: u32, asked: [u8; N]) -> Result<(), u8> {
     if waits(pending, asked) { Err(9) } else { Ok(()) }
 }
 
-impl Plain<'_> {
+impl<T: Trace> Plain<'_, T> {
     /// A command's weight is charged once its tests have passed; 22 is the first of them.
     #[inline(always)]
     fn afford(&self, weight: u32) -> Result<(), u8> {
         if weight > self.left { Err(22) } else { Ok(()) }
     }
 
+    /// Every command carried out is charged once.
+    #[inline(always)]
+    fn charge(&mut self, weight: u32) {
+        self.left -= weight;
+        self.trace.command();
+    }
+
     /// A routine from its first command to its return, or the number that it ends by.
     fn routine(&mut self, start: u16, slots: &mut [u32; 16], lo: u32, hi: u32, depth: u32) -> Result<u32, u8> {
+        self.trace.routine(depth);
         let mut at = start;
         let mut mark = lo;
         let mut pending = 0u32;
@@ -61,21 +111,21 @@ impl Plain<'_> {
                     self.afford(1)?;
                     free(pending, [a])?;
                     slots[a as usize & 15] = word.half(2) as u32;
-                    self.left -= 1;
+                    self.charge(1);
                     at += 4;
                 }
                 ADD => {
                     self.afford(1)?;
                     free(pending, [a, b, c])?;
                     slots[a as usize & 15] = slots[b as usize & 15].wrapping_add(slots[c as usize & 15]);
-                    self.left -= 1;
+                    self.charge(1);
                     at += 4;
                 }
                 SUBTRACT => {
                     self.afford(1)?;
                     free(pending, [a, b, c])?;
                     slots[a as usize & 15] = slots[b as usize & 15].wrapping_sub(slots[c as usize & 15]);
-                    self.left -= 1;
+                    self.charge(1);
                     at += 4;
                 }
                 LOAD => {
@@ -90,7 +140,7 @@ impl Plain<'_> {
                         return Err(10);
                     };
                     slots[a as usize & 15] = value;
-                    self.left -= 2;
+                    self.charge(2);
                     at += 3;
                 }
                 STORE => {
@@ -101,18 +151,18 @@ impl Plain<'_> {
                         return Err(10);
                     }
                     self.memory[address as usize - 32] = slots[b as usize & 15];
-                    self.left -= 2;
+                    self.charge(2);
                     at += 3;
                 }
                 IF_ZERO => {
                     self.afford(1)?;
                     free(pending, [a])?;
-                    self.left -= 1;
+                    self.charge(1);
                     at = if slots[a as usize & 15] == 0 { word.half(2) } else { at + 4 };
                 }
                 GO => {
                     self.afford(1)?;
-                    self.left -= 1;
+                    self.charge(1);
                     at = word.half(1);
                 }
                 LFORK | FORK => {
@@ -131,7 +181,7 @@ impl Plain<'_> {
                     if depth >= 32 {
                         return Err(26);
                     }
-                    self.left -= weight;
+                    self.charge(weight);
                     let mut child = [0; 16];
                     for i in 0..row.arguments as usize {
                         child[i & 15] = slots[(c as usize + i) & 15];
@@ -144,14 +194,14 @@ impl Plain<'_> {
                 }
                 JOIN => {
                     self.afford(1)?;
-                    self.left -= 1;
+                    self.charge(1);
                     pending = 0;
                     mark = lo;
                     at += 1;
                 }
                 SUSPEND | YIELD => {
                     self.afford(3)?;
-                    self.left -= 3;
+                    self.charge(3);
                     at += 1;
                 }
                 _ => {
@@ -159,7 +209,7 @@ impl Plain<'_> {
                     if pending != 0 {
                         return Err(12);
                     }
-                    self.left -= 1;
+                    self.charge(1);
                     return Ok(slots[a as usize & 15]);
                 }
             }

@@ -2,7 +2,7 @@
 
 use super::house::house;
 use super::image::number;
-use super::plain::plain;
+use super::plain::{measured, plain, Measure};
 use super::run::{run, Fed};
 use super::{Answer, PlainAnswer};
 use crate::generate::job;
@@ -58,17 +58,39 @@ fn addresses() {
     assert_eq!(number(&store(1024)), 10);
 }
 
+const WHOLE: &str = "02 03 00 15 00 01 00 06 00 01 02 20 00 08 01 00 00 02 08 01 01 01 02 0A 02 00 00 01 0D 00 01 00 05 00 0D 00";
+
 #[test]
 fn whole() {
-    let image = "02 03 00 15 00 01 00 06 00 01 02 20 00 08 01 00 00 02 08 01 01 01 02 0A 02 00 00 01 0D 00 01 00 05 00 0D 00";
     let schedule = "01 00 01 00 03 01 00 02 01 01 01 01 01 01 00 01 00 01 00 01 00 01 00 04 01";
-    let input = format!("02 00 64 00 00 00 24 00 {image} {schedule}");
+    let input = format!("02 00 64 00 00 00 24 00 {WHOLE} {schedule}");
     let said = print(&hex(&input));
     let expected = "0 0\n1 0\n2 0\n3 15\n4 0\n5 0\n6 0\n7 0\n8 0\n9 0\n10 0\n11 19\nfinished 10 20\n";
     assert_eq!(said, expected);
-    let image = hex(image);
+    let image = hex(WHOLE);
     let fed = Fed { image: &image, cores: 1, arguments: &[], parameters: &[0; 32], allowance: 100 };
     assert_eq!(plain(fed, &mut [0; 992]), PlainAnswer::Finished { result: 10, units: 20 });
+}
+
+/// The commands and depth of a plain run that finishes, by its arguments.
+fn measure(image: &str, arguments: &[u32]) -> Measure {
+    let image = hex(image);
+    let fed = Fed { image: &image, cores: 1, arguments, parameters: &[0; 32], allowance: 1000 };
+    let (answer, measure) = measured(fed, &mut [0; 992]);
+    assert_eq!(answer, plain(fed, &mut [0; 992]));
+    assert!(matches!(answer, PlainAnswer::Finished { .. }));
+    measure
+}
+
+#[test]
+fn measures() {
+    assert_eq!(measure("01 01 00 02 00 0D 00", &[]), Measure { commands: 1, depth: 1 });
+    assert_eq!(measure(WHOLE, &[]), Measure { commands: 10, depth: 2 });
+    // routine 0 of a count: it calls itself of one less
+    let counting = "01 04 01 1E 00 06 00 1C 00 01 01 01 00 03 00 00 01 01 02 20 00 08 00 03 00 02 0A 02 03 03 01 0D 03 0D 00";
+    for k in [15, 31] {
+        assert_eq!(measure(counting, &[k]), Measure { commands: 8 * k as u64 + 2, depth: k + 1 });
+    }
 }
 
 #[test]

@@ -72,7 +72,7 @@ module _ (i : Input) (t : Takes i) (size v u : ℕ) (m : List ℕ) (h : LoneCore
       few = start-few j (i .cores) (i .arguments) (i .memory);
       ongoing = refl;
     };
-    one = h .cores;
+    one = omega (arith, h .cores);
     alone = start-alone j (i .cores) (i .arguments) (i .memory);
   }
 

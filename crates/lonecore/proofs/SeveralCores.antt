@@ -147,4 +147,4 @@ module _ (i : Input) (t : Takes i) (image : LforksOnly (i .image)) (v u : ℕ) (
         }
 
 pub never-short : (i : Input) → Takes i → (size v u : ℕ) (m : List ℕ) → SeveralCores i size v u m → NeverShort i v u m (scheduledFrom (jobIn i) (startIn i) size)
-never-short i t size v u m h = ends i t (h .image) v u m (h .finishes) size (h .room) (h .buffer) (h .most)
+never-short i t size v u m h = ends i t (h .image) v u m (h .finishes) size (h .room) (omega (arith, h .buffer)) (omega (arith, h .most))

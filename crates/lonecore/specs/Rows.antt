@@ -8,7 +8,7 @@ use Rattle.schedule.specs.declared.Entry.the-variants.{Step}
 use Rattle.rules.specs.State.{going, finished}
 use Rattle.rules.specs.Row.{five, nought, calls, callsTwo}
 use Rattle.rounds.specs.Rows.{ScheduledRow}
-use Rattle.serial.specs.Cases.{counting}
+use Rattle.serial.specs.Cases.{counting, overFive}
 use Rattle.demands.specs.Input.{Input, inputOf}
 use Rattle.lonecore.specs.Depth.{depthIn}
 use Rattle.lonecore.specs.Commands.{commandsIn}
@@ -46,6 +46,25 @@ abbrev pub overTwo : ℕ → ℕ → List ℕ
 overTwo r q =
     (0x03 ∷ 0x03 ∷ 0x00 ∷ 0x11 ∷ 0x00 ∷ 0x02 ∷ 0x00 ∷ 0x0C ∷ 0x00 ∷ 0x01 ∷ 0x00 ∷ 0x06 ∷ 0x00 ∷ []) ++ callsTwo r q ++ calls 2 ++ five
 
+-- 01 2 32; 04 0 2; 05 2 0; 07 to the next; 09 1 0 0 2; 0A; 0D 0: before the fork 1 + 2 + 2 + 1 units
+abbrev pub behindAccess : List ℕ
+behindAccess =
+    overFive 0x15
+    ((0x01 ∷ 0x02 ∷ 0x20 ∷ 0x00 ∷ 0x04 ∷ 0x00 ∷ 0x02 ∷ 0x05 ∷ 0x02 ∷ 0x00 ∷ 0x07 ∷ 0x0D ∷ 0x00 ∷ []) ++ (0x09 ∷ 0x01 ∷ 0x00 ∷ 0x00 ∷ 0x02 ∷ 0x0A ∷ 0x0D ∷ 0x00 ∷ []))
+
+-- 01 2 32; 06 2, which goes on; 0B; 0C; 0A; 08 1 0 0 2; 0A; 0D 0: before the fork 1 + 1 + 3 + 3 + 1 units
+abbrev pub behindPauses : List ℕ
+behindPauses =
+    overFive 0x13
+    ((0x01 ∷ 0x02 ∷ 0x20 ∷ 0x00 ∷ 0x06 ∷ 0x02 ∷ 0x00 ∷ 0x00 ∷ 0x0B ∷ 0x0C ∷ 0x0A ∷ []) ++ (0x08 ∷ 0x01 ∷ 0x00 ∷ 0x00 ∷ 0x02 ∷ 0x0A ∷ 0x0D ∷ 0x00 ∷ []))
+
+-- 01 2 33; 01 0 1; 05 2 0; 04 1 2; 06 1 to the end; 08 1 0 0 2; 0A; 0D 2: it forks if it loads what it stored
+abbrev pub behindStored : List ℕ
+behindStored =
+    overFive 0x1A
+    ((0x01 ∷ 0x02 ∷ 0x21 ∷ 0x00 ∷ 0x01 ∷ 0x00 ∷ 0x01 ∷ 0x00 ∷ 0x05 ∷ 0x02 ∷ 0x00 ∷ 0x04 ∷ 0x01 ∷ 0x02 ∷ [])
+    ++ (0x06 ∷ 0x01 ∷ 0x18 ∷ 0x00 ∷ 0x08 ∷ 0x01 ∷ 0x00 ∷ 0x00 ∷ 0x02 ∷ 0x0A ∷ 0x0D ∷ 0x02 ∷ []))
+
 -- the commands of runs that finish
 abbrev pub commandRows : List PlainRow
 commandRows =
@@ -58,6 +77,8 @@ commandRows =
     -- `counting` of k: 8 of each call that forks, and 2 of the last
     ∷ row counting (3 ∷ []) 100 26
     ∷ row counting (15 ∷ []) 1000 122
+    -- 7 of routine 0, which weigh 20, and 2
+    ∷ row behindAccess [] 100 9
     -- suspend, yield and return weigh 7, and are 3 commands
     ∷ row (oneRoutine (0x0B ∷ 0x0C ∷ 0x0D ∷ 0x00 ∷ [])) [] 7 3
     ∷ []
@@ -77,6 +98,17 @@ depthRows =
     -- at 7 the first fork is paid for and its child's first command is not, at 6 the fork is not
     ∷ row whole [] 7 2
     ∷ row whole [] 6 1
+    -- a fork of 12 behind 6 units, and one of 6 behind 9
+    ∷ row behindAccess [] 18 2
+    ∷ row behindAccess [] 17 1
+    ∷ row behindPauses [] 15 2
+    ∷ row behindPauses [] 14 1
+    -- the first child's fork, behind 1 + 6 + 1, and the second one's, behind 1 + 6 + 2 + 6 + 1
+    ∷ row (overTwo 1 2) [] 14 3
+    ∷ row (overTwo 1 2) [] 13 2
+    ∷ row (overTwo 2 1) [] 22 3
+    ∷ row (overTwo 2 1) [] 21 2
+    ∷ row behindStored [] 100 2
     ∷ []
 
 -- "Whole" on one core has 10 commands: 21 bytes are enough, and of 20 the last command finds 2
