@@ -1,25 +1,23 @@
 -- The balance of waits and wakes: an accepted entry after which the machine goes on makes at most one waiting thread ready, and one that
 -- charges nothing makes a thread wait or takes one off the ready queue (`balanced`). Assumes a sound state that is `Few`, and an image
 -- without 09, 0B and 0C.
-use mathlib.Core.Bool.{true}
 use mathlib.Core.List.{List}
 use mathlib.Core.Path.{_≡_, refl}
 use Prim.Native.Nat.{ℕ}
 use native.Mathlib.Omega.{arith}
 use Rattle.schedule.specs.declared.Entry.{Entry}
-use Rattle.thread.specs.declared.Effect.{Effect}
 use Rattle.thread.specs.declared.Effect.the-variants.{Forks, Suspends, Yields}
 use Rattle.rules.specs.State.{Job, State, going, threadAt}
 use Rattle.rules.specs.declared.ForkKind.the-variants.{Stolen}
-use Rattle.rules.specs.Turn.{turnAt, effectAt}
+use Rattle.rules.specs.Turn.{turnAt}
 use Rattle.rules.specs.Fork.{asked, born, handed}
 use Rattle.rules.specs.Rules.{stealOf, entryOf}
 use Rattle.rules.specs.Sound.{Sound}
-use Rattle.soundness.proofs.EntryCases.{Stepped, Seeded, Forked, StepCases, Cases, steal-by, entry-by}
+use Rattle.soundness.proofs.EntryCases.{Seeded, Forked, StepCases, Cases, steal-by, entry-by}
 use Rattle.soundness.proofs.Tested.{fault-tested}
 use Rattle.soundness.proofs.ThreadsMet.{runner, lent-used}
 use Rattle.lonecore.specs.LforksOnly.{LforksOnly}
-use Rattle.lonecore.proofs.EffectsMet.{calls, met-calls, no-fork, no-suspend, no-yield}
+use Rattle.lonecore.proofs.EffectsMet.{step-calls, no-fork, no-suspend, no-yield}
 use Rattle.lonecore.proofs.FewRunning.{Few}
 pub use Rattle.lonecore.proofs.BalanceChanges.{readyIn, waitingIn, Balanced}
 use Rattle.lonecore.proofs.BalanceChanges.{Shown, Even, even, runs-on, own, bore, took}
@@ -38,9 +36,6 @@ module _ (j : Job) (s : State) (ok : Sound j s) where
       (λ k n q z. let y = fault-tested j s t n q in absurd (let x = y .0 in omega arith)) (λ k r d a w q n ns x xs f z. stolen-even c t k r d a w n ns x xs f)
 
 module _ (j : Job) (s : State) (ok : Sound j s) (only : LforksOnly (j .image)) (few : Few s) where
-  met : (c t : ℕ) → Stepped j s c t → (e : Effect) → effectAt j s (threadAt s t) ≡ e → calls e ≡ true
-  met c t k e q = met-calls j s (ok .job) (ok .placed) only t (runner j s ok c t k) e q
-
   steps : StepCases (Shown s) j s
   unfolding born
   steps = record {
@@ -54,10 +49,10 @@ module _ (j : Job) (s : State) (ok : Sound j s) (only : LforksOnly (j .image)) (
     continues = λ c t k q z e. own j s ok c t _ _ k refl refl refl refl;
     lforks = λ c t k r d a w q n ns x xs f z e. even s _ (bore j s ok c t n ns _ _ _ (runner j s ok c t k) (λ y. let v = runs-on j s ok c t k in omega arith)
         (f .number) refl refl refl refl refl);
-    forks = λ c t k r d a w q n ns x xs f z e. absurd (no-fork r d a w (met c t k (Forks r d a w) q));
+    forks = λ c t k r d a w q n ns x xs f z e. absurd (no-fork r d a w (step-calls j s ok only c t k (Forks r d a w) q));
     joins = λ c t k q z e. own j s ok c t _ _ k refl refl refl refl;
-    suspends = λ c t k q z e. absurd (no-suspend (met c t k Suspends q));
-    yields = λ c t k q z e. absurd (no-yield (met c t k Yields q));
+    suspends = λ c t k q z e. absurd (no-suspend (step-calls j s ok only c t k Suspends q));
+    yields = λ c t k q z e. absurd (no-yield (step-calls j s ok only c t k Yields q));
     returns = λ c t k v q. returned j s ok c t v k;
   }
 

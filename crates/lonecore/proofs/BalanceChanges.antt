@@ -78,7 +78,7 @@ module _ (j : Job) (s : State) (ok : Sound j s) where
       })
 
   -- the number that a child is handed is free
-  head-free : (n : ℕ) (ns : List ℕ) → s .queues .freeThreads ≡ n ∷ ns → (n < 32) × (statusAt s n ≡ 0)
+  pub head-free : (n : ℕ) (ns : List ℕ) → s .queues .freeThreads ≡ n ∷ ns → (n < 32) × (statusAt s n ≡ 0)
   head-free n ns e = let all : Every (λ y. (y < 32) × (statusAt s y ≡ 0)) (n ∷ ns) = rw e at (ok .freeThreads .free) in all .0
 
   -- a child is born of thread t, which does not wait and is lent now; the child runs

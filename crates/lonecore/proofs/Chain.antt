@@ -2,28 +2,26 @@
 -- the thread on core 0 up to the root (`Alone`). Every step keeps that while the machine goes on, no join waits, and an accepted step charges
 -- something (`onward`). Assumes one core and an image without 09, 0B and 0C.
 use mathlib.Core.Bool.{Bool, true, false, cond}
-use mathlib.Core.List.{List, _∷_}
-use mathlib.Core.Logic.{_⊎_, inl, inr, ⊎-elim}
-use mathlib.Core.Path.{_≡_, refl, sym, _∙_, ap, subst}
-use Prim.Native.Nat.{ℕ, zero, suc, _+_, _≤_, _<_}
+use mathlib.Core.List.{List}
+use mathlib.Core.Logic.{_⊎_, inl, inr}
+use mathlib.Core.Path.{_≡_, refl, _∙_, ap}
+use Prim.Native.Nat.{ℕ, zero, suc, _+_, _<_}
 use native.Mathlib.Omega.{arith}
 use borrow.Author.Tests.{lt-ltb}
 use lib.ListN.{getD, set, length, replicate}
 use lib.Seq.{getD-set-same}
 use Rattle.schedule.specs.declared.Entry.the-variants.{Step}
-use Rattle.thread.specs.declared.Effect.{Effect}
 use Rattle.thread.specs.declared.Effect.the-variants.{Forks, Suspends, Yields}
 use Rattle.thread.specs.declared.Thread.{Thread}
 use Rattle.thread.specs.Thread.{statusNumber, none, isRoot, blankThread}
 use Rattle.rules.specs.declared.ForkKind.the-variants.{Called}
 use Rattle.rules.specs.State.{Job, State, After, going, finished, threadAt, onCore}
-use Rattle.rules.specs.Turn.{turnAt, effectAt}
+use Rattle.rules.specs.Turn.{turnAt}
 use Rattle.rules.specs.Update.{accepted, setCore, setOutcome}
 use Rattle.rules.specs.Fork.{born, asked, handed}
 use Rattle.rules.specs.Return.{returnOf, returnToParent, statusAfter, freed}
 use Rattle.rules.specs.Rules.{stepOf}
 use Rattle.rules.specs.Start.{startState}
-use Rattle.rules.specs.Lists.{Every}
 use Rattle.rules.specs.Sound.{Sound, Used, statusAt, parentAt}
 use Rattle.search.specs.Search.{choiceOf}
 use Rattle.soundness.proofs.Changes.{standing, one-changed, two-changed, used-low, used-below}
@@ -33,8 +31,8 @@ use Rattle.soundness.proofs.Parts.{runs}
 use Rattle.soundness.proofs.Tested.{fault-tested}
 use Rattle.soundness.proofs.ThreadsMet.{runner, parent-used, child-not-root, child-not-first}
 use Rattle.lonecore.specs.LforksOnly.{LforksOnly}
-use Rattle.lonecore.proofs.EffectsMet.{calls, met-calls, no-fork, no-suspend, no-yield}
-use Rattle.lonecore.proofs.BalanceChanges.{charged as command-charged}
+use Rattle.lonecore.proofs.EffectsMet.{step-calls, no-fork, no-suspend, no-yield}
+use Rattle.lonecore.proofs.BalanceChanges.{charged as command-charged, head-free}
 
 -- a record of thread u: in use, it runs or is lent, and it is connected, or the root's
 abbrev Chained : ℕ → Thread → Type 0
@@ -113,7 +111,7 @@ module _ (j : Job) (s : State) (ok : Sound j s) (only : LforksOnly (j .image)) (
       h = runner j s ok c t k
 
       head : (n < 32) × (statusAt s n ≡ 0)
-      head = let all : Every (λ y. (y < 32) × (statusAt s y ≡ 0)) (n ∷ ns) = rw (f .number) at (ok .freeThreads .free) in all .0
+      head = head-free j s ok n ns (f .number)
 
       other : ¬ (t ≡ n)
       other z = let y : statusAt s t ≡ 0 = ap (statusAt s) z ∙ head .1 in let w = h in omega arith
@@ -170,9 +168,6 @@ module _ (j : Job) (s : State) (ok : Sound j s) (only : LforksOnly (j .image)) (
         λ _. charged c t k (returnToParent j s (turnAt j s c t) (parentAt s t) (threadAt s (parentAt s t)) v) refl,
       )
 
-  met : (c t : ℕ) → Stepped j s c t → (e : Effect) → effectAt j s (threadAt s t) ≡ e → calls e ≡ true
-  met c t k e q = met-calls j s (ok .job) (ok .placed) only t (runner j s ok c t k) e q
-
   steps : StepCases (Onward s) j s
   steps = record {
     refuses = λ n l m. (λ _. alone, λ z. absurd (omega arith));
@@ -184,10 +179,10 @@ module _ (j : Job) (s : State) (ok : Sound j s) (only : LforksOnly (j .image)) (
     goes = λ c t k p q. own-step c t _ _ k refl refl refl refl refl;
     continues = λ c t k q. own-step c t _ _ k refl refl refl refl refl;
     lforks = λ c t k r d a e q n ns x xs f. lforked c t r d a e n ns x xs k f;
-    forks = λ c t k r d a e q n ns x xs f. absurd (no-fork r d a e (met c t k (Forks r d a e) q));
+    forks = λ c t k r d a e q n ns x xs f. absurd (no-fork r d a e (step-calls j s ok only c t k (Forks r d a e) q));
     joins = λ c t k q. own-step c t _ _ k refl refl refl refl refl;
-    suspends = λ c t k q. absurd (no-suspend (met c t k Suspends q));
-    yields = λ c t k q. absurd (no-yield (met c t k Yields q));
+    suspends = λ c t k q. absurd (no-suspend (step-calls j s ok only c t k Suspends q));
+    yields = λ c t k q. absurd (no-yield (step-calls j s ok only c t k Yields q));
     returns = λ c t k v q. returned c t v k;
   }
 

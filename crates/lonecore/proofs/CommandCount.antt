@@ -4,7 +4,7 @@ use mathlib.Core.Bool.{Bool, true, false, cond, _&&_}
 use mathlib.Core.List.{List, [], _∷_}
 use mathlib.Core.Option.{Option, none, some}
 use mathlib.Core.Path.{_≡_, refl, sym, _∙_, ap, subst, fun-ext}
-use Prim.Native.Nat.{ℕ, zero, suc, _+_, _≤_, _<_}
+use Prim.Native.Nat.{ℕ, zero, suc, _+_, _≤_}
 use native.Mathlib.Omega.{arith}
 use borrow.Author.Tests.{ltb-true, le-leb, eqb-true}
 use lib.Dec.{ltb, leb, eqb}
@@ -15,7 +15,7 @@ use Rattle.command.proofs.Bools.{both}
 use Rattle.image.specs.Layout.{routineCount, codeOf}
 use Rattle.image.specs.Code.{commandsOf, isStart}
 use Rattle.forkjoin.proofs.Confluence.{Steps, stop, then}
-use Rattle.forkjoin.proofs.Language.{Act, Language, halt, fork}
+use Rattle.forkjoin.proofs.Language.{Language}
 use Rattle.forkjoin.proofs.TaskName.{TaskName}
 use Rattle.forkjoin.proofs.TaskTree.{Enabled, State, Step, after, children-of, node-after, word-after}
 use Rattle.forkjoin.proofs.TreeStart.{begin}

@@ -15,7 +15,9 @@ use Rattle.thread.specs.declared.Effect.the-variants.{Faults, Sets, Loads, Stor
 use Rattle.thread.specs.Effect.{Context, anyPending, unlessPending, provided, forking, effectOf}
 use Rattle.rules.specs.State.{Job, State, threadAt}
 use Rattle.rules.specs.Turn.{effectAt}
-use Rattle.rules.specs.Sound.{GoodJob, Positioned, Used}
+use Rattle.rules.specs.Sound.{GoodJob, Positioned, Sound, Used}
+use Rattle.soundness.specs.Numbers.{Stepped}
+use Rattle.soundness.proofs.ThreadsMet.{runner}
 use Rattle.lonecore.specs.LforksOnly.{isExcluded, LforksOnly}
 
 -- a command other than fork, suspend and yield
@@ -103,6 +105,11 @@ met-calls j s g p only t u e q =
     ap calls (sym q) ∙ effect-calls (argumentsOf (j .image)) _ _
     (ap (λ z. isCalling (decodedAt (j .image) (z + threadAt s t .position))) (g .starts (threadAt s t .origin .routine) (p .routine t u))
     ∙ decoded-calls _ _ _ _ _ (only (threadAt s t .origin .routine) (threadAt s t .position) (p .routine t u) (p .position t u)))
+
+-- by a step
+pub step-calls : (j : Job) (s : State) → Sound j s → LforksOnly (j .image) → (c t : ℕ) → Stepped j s c t → (e : Effect)
+    → effectAt j s (threadAt s t) ≡ e → calls e ≡ true
+step-calls j s ok only c t k e q = met-calls j s (ok .job) (ok .placed) only t (runner j s ok c t k) e q
 
 pub no-fork : (r d a e : ℕ) → calls (Forks r d a e) ≡ true → ⊥
 no-fork r d a e h = let z : _≡_ {A = ℕ} 0 1 = cc in omega arith

@@ -1,13 +1,14 @@
--- T-12's conditions can be met: document 01's worked case "Whole" on one core, with 21 bytes (`whole-alone`), so it never runs dry. Assumes nothing.
-use mathlib.Core.Bool.{Bool, true, false, _&&_, _||_, not}
+-- The conditions can be met: document 01's worked case "Whole" on one core with 21 bytes (`whole-alone`), and on two with 60 (`whole-on-two`).
+-- Assumes nothing.
+use mathlib.Core.Bool.{Bool, true, false, _&&_, not}
 use mathlib.Core.List.{List, [], _∷_}
 use mathlib.Core.Logic.{⊎-elim}
-use mathlib.Core.Path.{_≡_, refl, sym, _∙_, ap, subst}
-use Prim.Native.Nat.{ℕ, zero, suc, _+_, _<_}
+use mathlib.Core.Path.{_≡_, refl, sym, _∙_, ap}
+use Prim.Native.Nat.{ℕ, zero, suc, _+_}
 use native.Mathlib.Omega.{arith}
 use borrow.Author.Tests.{eqb-true}
 use lib.Dec.{eqb}
-use lib.ListN.{getD, length, replicate}
+use lib.ListN.{getD, replicate}
 use Rattle.command.specs.Command.{commandAt, decoded}
 use Rattle.command.proofs.Bools.{both}
 use Rattle.image.specs.Cases.{whole}
@@ -18,15 +19,12 @@ use Rattle.window.specs.Rights.{mayStore, mayLoad, cutAt}
 use Rattle.thread.specs.Effect.{run, anyPending, unlessPending, provided, forking, effectOf}
 use Rattle.thread.specs.Thread.{isPending, withPending}
 use Rattle.serial.specs.Serial.{nextEffect, carried, callWithin, callFrom, serialFrom, serialOf}
-use Rattle.demands.specs.Input.{Input, jobIn, startIn}
-use Rattle.demands.specs.Demands.{Takes}
 use Rattle.demands.specs.Cases.{given}
-use Rattle.rounds.specs.Rounds.{scheduledFrom}
 use Rattle.soundness.proofs.EntryCases.{or-true}
 use Rattle.lonecore.specs.LforksOnly.{isExcluded, LforksOnly}
 use Rattle.lonecore.specs.Depth.{carriedDepth, depthWithin}
-use Rattle.lonecore.specs.NeverDry.{LoneCore, NeverDry}
-use Rattle.lonecore.proofs.LoneCore.{never-dry}
+use Rattle.lonecore.specs.NeverDry.{LoneCore}
+use Rattle.lonecore.specs.SeveralCores.{SeveralCores}
 
 -- no command of a list is excluded
 abbrev noneExcluded : List ℕ → ℕ → List Placed → Bool
@@ -62,3 +60,7 @@ whole-alone = record {
   buffer = omega arith;
   most = omega arith;
 }
+
+pub whole-on-two : SeveralCores (given whole 2 100) 60 10 20 (replicate 992 0)
+unfolding commandAt decoded startOf rowsOf startsUpTo commandsFrom commandsOf verdictFrom lastEnds isStart targetsGood routineVerdict rowsGood inRange routinesVerdict imageVerdict mayStore mayLoad cutAt run anyPending unlessPending provided forking effectOf isPending withPending nextEffect carried callWithin callFrom serialFrom serialOf carriedDepth depthWithin
+whole-on-two = record { image = whole-lforks-only; finishes = refl; room = omega arith; buffer = omega arith; most = omega arith }

@@ -2,11 +2,11 @@
 -- thread that waits, and two more for each that is ready (`Fed`). A wait and a take cost two bytes and no command; a step has two of its six, a
 -- steal three; a return that wakes its parent pays for the wait and the take. So each core's try on the way is made, and accepted, or the core
 -- is idle and finds nothing (`try`). Assumes what `Standing` does, and room for the threads.
-use mathlib.Core.Bool.{Bool, true, false, cond, _&&_, _||_, not}
+use mathlib.Core.Bool.{Bool, true, false, cond, _||_}
 use mathlib.Core.List.{List, [], _∷_, _++_}
 use mathlib.Core.Logic.{_⊎_, inl, inr, ⊎-elim}
 use mathlib.Core.Path.{_≡_, refl, sym, _∙_, ap, subst}
-use Prim.Native.Nat.{ℕ, zero, suc, _+_, _-_, _*_, _≤_, _<_}
+use Prim.Native.Nat.{ℕ, suc, _+_, _-_, _*_, _≤_, _<_}
 use native.Mathlib.Omega.{arith}
 use lib.Dec.{eqb}
 use lib.ListN.{length}

@@ -76,17 +76,18 @@ module _ (j : Job) (s : State) (few : Few s) where
             omega arith;
       }
 
+-- the scheduler's test of the ready queue
+pub none-ready : (ts : List ℕ) → ltb 0 (length ts) ≡ false → ts ≡ []
+none-ready [] e = refl
+none-ready (t ∷ ts) e = absurd (let z = ltb-false 0 (suc (length ts)) e in omega arith)
+
 -- what the built-in scheduler chooses: an idle core steals where the ready queue is empty only
 module _ (j : Job) (s : State) (ok : Sound j s) (only : LforksOnly (j .image)) (few : Few s) where
   pub few-choice : (c : ℕ) → StaysFew (entryOf j s (choiceOf j s c))
   unfolding entryOf choiceOf idleChoice
   few-choice c = go (isBusy s c) (ltb 0 (length (s .queues .ready))) refl
     where
-      empty : (ts : List ℕ) → ltb 0 (length ts) ≡ false → ts ≡ []
-      empty [] e = refl
-      empty (t ∷ ts) e = absurd (let z = ltb-false 0 (suc (length ts)) e in omega arith)
-
       go : (b r : Bool) → ltb 0 (length (s .queues .ready)) ≡ r → StaysFew (entryOf j s (cond b (Step c) (cond r (Take c) (Steal c (firstSeed j s)))))
       go true r e = few-step j s ok only few c
       go false true e = few-take s few c
-      go false false e = few-steal j s few c (firstSeed j s) (empty (s .queues .ready) e)
+      go false false e = few-steal j s few c (firstSeed j s) (none-ready (s .queues .ready) e)

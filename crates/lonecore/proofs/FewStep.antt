@@ -7,14 +7,13 @@ use Prim.Native.Nat.{ℕ, _<_}
 use native.Mathlib.Omega.{arith}
 use lib.ListN.{length, set}
 use lib.Seq.{getD-set-same}
-use Rattle.thread.specs.declared.Effect.{Effect}
 use Rattle.thread.specs.declared.Effect.the-variants.{Forks, Suspends, Yields}
 use Rattle.thread.specs.declared.Status.the-variants.{Waiting}
 use Rattle.thread.specs.declared.Thread.{Thread}
 use Rattle.thread.specs.Thread.{blankThread, disconnected, withoutChild, isRoot, none}
 use Rattle.rules.specs.declared.ForkKind.the-variants.{Called}
 use Rattle.rules.specs.State.{Job, State, finished, threadAt, onCore}
-use Rattle.rules.specs.Turn.{turnAt, effectAt}
+use Rattle.rules.specs.Turn.{turnAt}
 use Rattle.rules.specs.Update.{setThread, setCore, setReady, setSlot, setOutcome, accepted}
 use Rattle.rules.specs.Leave.{runs, leaves}
 use Rattle.rules.specs.Fork.{asked, born, handed}
@@ -23,9 +22,8 @@ use Rattle.rules.specs.Rules.{stepOf}
 use Rattle.rules.specs.Sound.{Sound, statusAt}
 use Rattle.soundness.proofs.Changes.{standing}
 use Rattle.soundness.proofs.StepCases.{Stepped, Waits, StepCases, step-by}
-use Rattle.soundness.proofs.ThreadsMet.{runner}
 use Rattle.lonecore.specs.LforksOnly.{LforksOnly}
-use Rattle.lonecore.proofs.EffectsMet.{calls, met-calls, no-fork, no-suspend, no-yield}
+use Rattle.lonecore.proofs.EffectsMet.{step-calls, no-fork, no-suspend, no-yield}
 use Rattle.lonecore.proofs.FewRunning.{Few, StaysFew, busy-one, idle-zero, one-most}
 use Rattle.lonecore.proofs.FewChanges.{Awake, awake-set, awake-after, ready-most, ready-same, few-same, few-changed}
 
@@ -109,9 +107,6 @@ module _ (j : Job) (s : State) (ok : Sound j s) (only : LforksOnly (j .image)) (
       go true e = absurd (let z : _≡_ {A = ℕ} 0 1 = cc in omega arith)
       go false e = returned-to c t v k
 
-  met : (c t : ℕ) → Stepped j s c t → (e : Effect) → effectAt j s (threadAt s t) ≡ e → calls e ≡ true
-  met c t k e q = met-calls j s (ok .job) (ok .placed) only t (runner j s ok c t k) e q
-
   steps : StepCases StaysFew j s
   steps = record {
     refuses = λ n l m e. few;
@@ -123,10 +118,10 @@ module _ (j : Job) (s : State) (ok : Sound j s) (only : LforksOnly (j .image)) (
     goes = λ c t k p q e. own t _ _ refl refl refl refl refl;
     continues = λ c t k q e. own t _ _ refl refl refl refl refl;
     lforks = λ c t k r d a w q n ns x xs f e. lforked c t r d a w n ns x xs k;
-    forks = λ c t k r d a w q n ns x xs f e. absurd (no-fork r d a w (met c t k (Forks r d a w) q));
+    forks = λ c t k r d a w q n ns x xs f e. absurd (no-fork r d a w (step-calls j s ok only c t k (Forks r d a w) q));
     joins = λ c t k q e. own t _ _ refl refl refl refl refl;
-    suspends = λ c t k q e. absurd (no-suspend (met c t k Suspends q));
-    yields = λ c t k q e. absurd (no-yield (met c t k Yields q));
+    suspends = λ c t k q e. absurd (no-suspend (step-calls j s ok only c t k Suspends q));
+    yields = λ c t k q e. absurd (no-yield (step-calls j s ok only c t k Yields q));
     returns = λ c t k v q. returned c t v k;
   }
 

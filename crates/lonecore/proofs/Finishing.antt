@@ -1,6 +1,6 @@
 -- The scheduler on several cores finishes (`finishing`): each round writes an entry or reaches the end, for where all cores were idle and no thread
 -- ready, a sound machine would have finished. Assumes what `Feeding` does.
-use mathlib.Core.Bool.{Bool, true, false, cond, _&&_, _||_, not}
+use mathlib.Core.Bool.{true, cond, _&&_, _||_, not}
 use mathlib.Core.List.{List, []}
 use mathlib.Core.Path.{_≡_, refl, sym, _∙_, ap, subst}
 use Prim.Native.Nat.{ℕ, zero, suc, _+_, _-_, _*_, _≤_, _<_}

@@ -15,11 +15,10 @@ use Rattle.forkjoin.proofs.Arrays.{words-from}
 use Rattle.forkjoin.proofs.Language.{Act, fork, halt, ret}
 use Rattle.forkjoin.proofs.ScheduleIndependence.{Job as TheoryJob}
 use Rattle.forkjoin.proofs.Deeper.{deeper-job, deeper-step, does-other, does-below, does-beyond}
-use Rattle.forkjoin.proofs.Follow.{Follows, Ends, no-halt, shallow, deep-most, follow, steps-most, units-most, paid-for, last-step}
+use Rattle.forkjoin.proofs.Follow.{Follows, Ends, no-halt, shallow, deep-most, follow, steps-most, paid-for, last-step}
 use Rattle.schedule.specs.declared.Entry.{Entry}
 use Rattle.window.specs.declared.Window.{Window}
 use Rattle.window.proofs.Instance.{windows}
-use Rattle.thread.specs.declared.Effect.{Effect}
 use Rattle.thread.specs.declared.Effect.the-variants.{Faults, Lforks}
 use Rattle.thread.specs.Thread.{none}
 use Rattle.thread.proofs.ThreadState.{ThreadState, started, behind-fork, by-return, split, actOf, effect}

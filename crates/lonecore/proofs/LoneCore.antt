@@ -2,7 +2,7 @@
 -- steps; demand 3 gives the end. Assumes an input that a run takes, and what T-12 does.
 use mathlib.Core.List.{List}
 use mathlib.Core.Path.{_≡_, refl, sym, _∙_, ap, subst}
-use Prim.Native.Nat.{ℕ, _+_, _*_, _≤_, _<_}
+use Prim.Native.Nat.{ℕ, _+_, _≤_, _<_}
 use native.Mathlib.Omega.{arith}
 use lib.ListN.{replicate}
 use Rattle.forkjoin.proofs.Arrays.{words-from}
@@ -13,10 +13,9 @@ use Rattle.rules.specs.Start.{startState}
 use Rattle.rules.specs.Sound.{GoodJob}
 use Rattle.soundness.proofs.StartSound.{start-sound}
 use Rattle.simulation.proofs.StartPool.{start-pool}
-use Rattle.serial.specs.Serial.{done}
 use Rattle.rounds.specs.Rounds.{usable, beginning, scheduledFrom}
 use Rattle.demands.specs.Input.{Input, jobIn, startIn}
-use Rattle.demands.specs.Demands.{Takes, serialIn}
+use Rattle.demands.specs.Demands.{Takes}
 use Rattle.demands.proofs.Passing.{good}
 use Rattle.demands.proofs.Demands.{demand-3}
 use Rattle.lonecore.specs.Depth.{depthIn}

@@ -1,7 +1,6 @@
 -- A plain run that finishes and goes at most 32 - k deep: begun k levels down it ends the same, it is a run of the tree begun there that
 -- finishes within the allowance (`ending`, `enough`), and its commands carried out are that run's steps (`commands-are-steps`). Assumes an
 -- input that a run takes.
-use mathlib.Core.Bool.{cond}
 use mathlib.Core.List.{List, []}
 use mathlib.Core.Path.{_≡_, refl, sym, _∙_, ap, subst}
 use Prim.Native.Nat.{ℕ, suc, _+_, _≤_, _<_}

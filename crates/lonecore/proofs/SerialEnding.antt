@@ -2,7 +2,7 @@
 -- arguments as routine 0 takes and 992 memory words.
 use mathlib.Core.List.{List, []}
 use mathlib.Core.Path.{_≡_, sym, _∙_, ap, subst}
-use Prim.Native.Nat.{ℕ, suc, _+_, _≤_, _<_}
+use Prim.Native.Nat.{ℕ, suc, _+_, _≤_}
 use native.Mathlib.Omega.{arith}
 use lib.ListN.{length}
 use Rattle.forkjoin.proofs.Arrays.{words-from}
@@ -13,7 +13,7 @@ use Rattle.forkjoin.proofs.DeliveredRun.{Agree, agree, delivered-from}
 use Rattle.forkjoin.proofs.Language.{Language}
 use Rattle.forkjoin.proofs.Carried.{Carried}
 use Rattle.forkjoin.proofs.ScheduleIndependence.{Job as TheoryJob}
-use Rattle.forkjoin.proofs.Deeper.{deeper, serial-deeper}
+use Rattle.forkjoin.proofs.Deeper.{serial-deeper}
 use Rattle.forkjoin.proofs.Follow.{beginning}
 use Rattle.image.specs.Layout.{argumentsOf}
 use Rattle.window.specs.Rights.{rootWindow}

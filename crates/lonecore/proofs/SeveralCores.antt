@@ -15,7 +15,7 @@ use Rattle.rules.specs.Start.{startState}
 use Rattle.rules.specs.Sound.{GoodJob}
 use Rattle.soundness.proofs.StartSound.{start-sound}
 use Rattle.serial.specs.Serial.{done}
-use Rattle.rounds.specs.Rounds.{Progress, usable, beginning, scheduledFrom}
+use Rattle.rounds.specs.Rounds.{usable, beginning, scheduledFrom}
 use Rattle.demands.specs.Input.{Input, jobIn, startIn}
 use Rattle.demands.specs.Demands.{Takes, serialIn, stateAfter}
 use Rattle.demands.proofs.Passing.{good}

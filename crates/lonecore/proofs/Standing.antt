@@ -3,7 +3,7 @@
 -- (`choice-taken`), and an accepted one leads on or to the end (`goes`). Assumes an image without 09, 0B and 0C, and a run of the tree begun k
 -- levels down that finishes within the allowance.
 use mathlib.Core.Bool.{Bool, true, false, cond}
-use mathlib.Core.List.{List, [], _∷_}
+use mathlib.Core.List.{List, []}
 use mathlib.Core.Logic.{_⊎_, inl, inr, ⊎-elim}
 use mathlib.Core.Path.{_≡_, refl, ap}
 use Prim.Native.Nat.{ℕ, suc, _+_, _-_, _*_, _≤_, _<_}
@@ -29,7 +29,7 @@ use Rattle.lonecore.specs.LforksOnly.{LforksOnly}
 use Rattle.lonecore.proofs.EffectsMet.{met-calls, no-fork}
 use Rattle.lonecore.proofs.Followed.{Followed, Ending, Next, rests, goes-on, has-ended, depth, depths, no-fault, within, fork-deep, paid, leads}
 use Rattle.lonecore.proofs.FewRunning.{Few}
-use Rattle.lonecore.proofs.FewKept.{few-choice}
+use Rattle.lonecore.proofs.FewKept.{none-ready, few-choice}
 use Rattle.lonecore.proofs.Crowd.{room-step, room-steal}
 
 module _ (j : Job) (good : GoodJob j) (arguments memory : List ℕ) (k : ℕ) (low : k ≤ 31) (only : LforksOnly (j .image))
@@ -118,10 +118,6 @@ module _ (j : Job) (good : GoodJob j) (arguments memory : List ℕ) (k : ℕ) (l
     unfolding entryOf choiceOf idleChoice
     choice-taken small c core = go (isBusy s c) refl (ltb 0 (length (s .queues .ready))) refl
       where
-        empty : (ts : List ℕ) → ltb 0 (length ts) ≡ false → ts ≡ []
-        empty [] e = refl
-        empty (t ∷ ts) e = absurd (let z = ltb-false 0 (suc (length ts)) e in omega arith)
-
         go : (b : Bool) → isBusy s c ≡ b → (r : Bool) → ltb 0 (length (s .queues .ready)) ≡ r
             → Told c (entryOf j s (cond b (Step c) (cond r (Take c) (Steal c (firstSeed j s)))) .log)
         go true f r e = inl (step-taken small c core (ltb-true _ _ f))
@@ -129,8 +125,8 @@ module _ (j : Job) (good : GoodJob j) (arguments memory : List ℕ) (k : ℕ) (l
             inl (take-taken c core (ltb-false _ _ f) (λ q. let z = ltb-true 0 (length (s .queues .ready)) e in let y = ap length q in omega arith))
         go false f false e =
             let idle = ltb-false _ _ f in
-            let none-ready = empty (s .queues .ready) e in
-            ⊎-elim (λ z. inl z) (λ z. inr (z, idle, none-ready)) (steal-taken small c (firstSeed j s) core idle none-ready)
+            let empty = none-ready (s .queues .ready) e in
+            ⊎-elim (λ z. inl z) (λ z. inr (z, idle, empty)) (steal-taken small c (firstSeed j s) core idle empty)
 
   -- what an accepted try leads to
   pub data Goes (n : ℕ) (s s' : State) : Type 0 where

@@ -6,7 +6,7 @@ use Prim.Native.Nat.{ℕ, zero, suc, _+_, _-_, _*_, _≤_, _<_}
 use native.Mathlib.Omega.{arith}
 use lib.ListN.{replicate}
 use Rattle.schedule.specs.declared.Entry.the-variants.{Step}
-use Rattle.rules.specs.State.{Job, State, finished, onCore}
+use Rattle.rules.specs.State.{Job, State, finished}
 use Rattle.rules.specs.Rules.{entryOf}
 use Rattle.rules.specs.Runs.{runFrom}
 use Rattle.rules.specs.Sound.{GoodJob}

@@ -5,7 +5,7 @@ use mathlib.Core.Bool.{Bool, true, false, cond, _&&_, _||_, not}
 use mathlib.Core.List.{List, [], _∷_, _++_, append-nil}
 use mathlib.Core.Logic.{_⊎_, inl, inr, ⊎-elim}
 use mathlib.Core.Path.{_≡_, refl, sym, _∙_, ap, subst}
-use Prim.Native.Nat.{ℕ, zero, suc, _+_, _-_, _≤_, _<_}
+use Prim.Native.Nat.{ℕ, zero, suc, _+_, _-_, _≤_}
 use native.Mathlib.Omega.{arith}
 use borrow.Author.Tests.{eqb-true, leb-true, ltb-true}
 use lib.Dec.{ltb, leb, eqb}
@@ -26,7 +26,6 @@ use Rattle.search.specs.Search.{choiceOf, suspendedFrom, lowestSuspended}
 use Rattle.rounds.specs.Rounds.{Progress, isWritten, mayTry, recorded, tried, turns, fresh, round, playsOn, wakened, rounds}
 use Rattle.soundness.proofs.EntryCases.{not-over, or-true}
 use Rattle.soundness.proofs.KeepSized.{keep-count}
-use Rattle.soundness.proofs.LentThreads.{not-both}
 use Rattle.simulation.proofs.EntryMoves.{entry-moves, faulted-moves}
 use Rattle.lonecore.specs.LforksOnly.{LforksOnly}
 use Rattle.lonecore.proofs.Followed.{Ending}

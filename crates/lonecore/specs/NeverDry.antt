@@ -1,5 +1,5 @@
 -- T-12, "A lone core never runs dry": of which jobs it speaks, and what the built-in scheduler, document 01's house run, promises of them.
-use mathlib.Core.List.{List, []}
+use mathlib.Core.List.{List}
 use mathlib.Core.Path.{_≡_}
 use Prim.Native.Nat.{ℕ, _+_, _*_, _≤_, _<_}
 use lib.ListN.{replicate}
@@ -10,7 +10,7 @@ use Rattle.search.specs.Search.{choiceOf}
 use Rattle.rounds.specs.Rounds.{Progress}
 use Rattle.serial.specs.Serial.{done}
 use Rattle.demands.specs.Input.{Input, jobIn}
-use Rattle.demands.specs.Demands.{Takes, serialIn, stateAfter}
+use Rattle.demands.specs.Demands.{serialIn, stateAfter}
 use Rattle.lonecore.specs.LforksOnly.{LforksOnly}
 use Rattle.lonecore.specs.Depth.{depthIn}
 use Rattle.lonecore.specs.Commands.{commandsIn}
