@@ -33,7 +33,7 @@ abbrev pub FewInUse : Input → Progress → Type 0
 FewInUse i end = (before after : List Entry) → end .written ≡ before ++ after → usedIn (stateAfter i before) ≤ mostUsed i
 
 -- an image without 09, 0B and 0C, whose plain run finishes with result v, memory m and units u; room for its threads; and a buffer of six bytes for
--- each command carried out: a step has two, a steal three, and a join that waits is met again by a take and a step
+-- each command carried out: a command has two, a stolen fork three, and a join that waited six, by its wait, the take behind it and its step
 pub record SeveralCores (i : Input) (size v u : ℕ) (m : List ℕ) : Type 0 where
   pub image : LforksOnly (i .image)
   pub finishes : serialIn i ≡ done v m u
