@@ -1,6 +1,6 @@
 -- T-12: "the commands carried out" by the plain run. Document 01: "Units are the sum of the weights of commands carried out", so where each
--- command weighs 1 the units are their number. A run that finishes within its allowance also does so with these weights, for document 01's
--- are at least 1. `NeverDry` is a second witness: so many steps are written.
+-- command weighs 1 the units are their number. It is asked of a run that finishes, which also does so with these weights, for document 01's are
+-- at least 1 (one that stops by 22 may go further). `NeverDry` is a second witness: so many steps are written.
 use mathlib.Core.List.{List, [], _∷_}
 use Prim.Native.Nat.{ℕ}
 use Rattle.thread.specs.Job.{Job}
