@@ -1,5 +1,6 @@
--- How deep the plain run goes, told in another way: begun k levels down, so that k levels fewer are left before a fork meets 26, it finishes
--- exactly where its depth is at most 32 - k, and then it ends as it does from the first level (`depth-exact`). Assumes nothing.
+-- How deep the plain run goes, told in another way. Begun k levels down, so that k levels fewer are left before a fork meets 26, it ends as it does
+-- from the first level where its depth is at most 32 - k, and where it finishes there its depth is at most that (`depth-exact`). So a plain run
+-- that finishes does so with k levels fewer exactly where its depth is at most 32 - k. Assumes nothing.
 use mathlib.Core.Bool.{Bool, true, false, cond}
 use mathlib.Core.List.{List}
 use mathlib.Core.Path.{_≡_, refl, _∙_, ap, subst}

@@ -1,5 +1,5 @@
--- The conditions can be met: document 01's worked case "Whole" on one core with 21 bytes (`whole-alone`), and on two with 60 (`whole-on-two`).
--- Assumes nothing.
+-- The conditions can be met: document 01's worked case "Whole" on one core with 21 bytes (`whole-alone`), and on two with 60 (`whole-on-two`); and
+-- at their edges, so that none is stricter than it says (`sixteen-deep`, `sixteen-threads`). Assumes nothing.
 use mathlib.Core.Bool.{Bool, true, false, _&&_, not}
 use mathlib.Core.List.{List, [], _∷_}
 use mathlib.Core.Logic.{⊎-elim}
@@ -19,6 +19,8 @@ use Rattle.window.specs.Rights.{mayStore, mayLoad, cutAt}
 use Rattle.thread.specs.Effect.{run, anyPending, unlessPending, provided, forking, effectOf}
 use Rattle.thread.specs.Thread.{isPending, withPending}
 use Rattle.serial.specs.Serial.{nextEffect, carried, callWithin, callFrom, serialFrom, serialOf}
+use Rattle.serial.specs.Cases.{counting}
+use Rattle.demands.specs.Input.{inputOf}
 use Rattle.demands.specs.Cases.{given}
 use Rattle.soundness.proofs.EntryCases.{or-true}
 use Rattle.lonecore.specs.LforksOnly.{isExcluded, LforksOnly}
@@ -64,3 +66,19 @@ whole-alone = record {
 pub whole-on-two : SeveralCores (given whole 2 100) 60 10 20 (replicate 992 0)
 unfolding commandAt decoded startOf rowsOf startsUpTo commandsFrom commandsOf verdictFrom lastEnds isStart targetsGood routineVerdict rowsGood inRange routinesVerdict imageVerdict mayStore mayLoad cutAt run anyPending unlessPending provided forking effectOf isPending withPending nextEffect carried callWithin callFrom serialFrom serialOf carriedDepth depthWithin
 whole-on-two = record { image = whole-lforks-only; finishes = refl; room = omega arith; buffer = omega arith; most = omega arith }
+
+-- AT THE EDGES. A job of one routine that calls itself
+counting-lforks-only : LforksOnly counting
+unfolding commandAt decoded startOf commandsFrom commandsOf isStart
+counting-lforks-only zero p l h = included counting 5 (commandsOf (codeOf counting 0)) refl p h
+counting-lforks-only (suc r) p l h = absurd (omega arith)
+
+-- 16 deep on one core: 122 commands, and exactly twice so many bytes and one more, with exactly its units
+pub sixteen-deep : LoneCore (inputOf counting 1 (15 ∷ []) (replicate 32 0) (replicate 992 0) 197) 245 15 197 (replicate 992 0)
+unfolding commandAt decoded startOf rowsOf startsUpTo commandsFrom commandsOf verdictFrom lastEnds isStart targetsGood routineVerdict rowsGood inRange routinesVerdict imageVerdict mayStore mayLoad cutAt run anyPending unlessPending provided forking effectOf isPending withPending nextEffect carried callWithin callFrom serialFrom serialOf carriedDepth depthWithin
+sixteen-deep = record { image = counting-lforks-only; finishes = refl; shallow = omega arith; cores = refl; buffer = omega arith; most = omega arith }
+
+-- 6 deep on three cores, whose bound is 16: 42 commands, and exactly six times so many bytes
+pub sixteen-threads : SeveralCores (inputOf counting 3 (5 ∷ []) (replicate 32 0) (replicate 992 0) 67) 252 5 67 (replicate 992 0)
+unfolding commandAt decoded startOf rowsOf startsUpTo commandsFrom commandsOf verdictFrom lastEnds isStart targetsGood routineVerdict rowsGood inRange routinesVerdict imageVerdict mayStore mayLoad cutAt run anyPending unlessPending provided forking effectOf isPending withPending nextEffect carried callWithin callFrom serialFrom serialOf carriedDepth depthWithin
+sixteen-threads = record { image = counting-lforks-only; finishes = refl; room = omega arith; buffer = omega arith; most = omega arith }

@@ -1,7 +1,7 @@
 -- T-12: a plain run that "goes at most 16 routines deep". How deep it goes is told clause by clause beside the plain run itself
 -- (`carried` and `callWithin` of crate `serial`), with the same calls, routines, memory and units, "the root being 1": a routine is as deep as
--- its number n says, and a fork goes as deep as its child does and as the routine does behind it. `depth-exact` (proofs) is a second witness:
--- the same run with k levels fewer finishes exactly where this number is at most 32 - k.
+-- its number n says, and a fork goes as deep as its child does and as the routine does behind it. `depth-exact` (proofs) is a second witness: a
+-- plain run that finishes does so with k levels fewer exactly where this number is at most 32 - k.
 use mathlib.Core.Bool.{cond}
 use mathlib.Core.List.{List}
 use Prim.Native.Nat.{ℕ, zero, suc, _+_, _-_, max}

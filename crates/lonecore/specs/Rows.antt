@@ -1,17 +1,21 @@
--- Worked rows of T-12's numbers, by hand: how many commands a plain run carries out and how deep it goes, and what a lone core writes with a byte
--- more than twice the commands and with twice the commands. A second witness of their definitions (proofs/Rows.antt computes them).
+-- Worked rows of T-12's numbers, by hand: how many commands a plain run carries out and how deep it goes, what a lone core writes with a byte more
+-- than twice the commands and with twice the commands, and how many threads are in use and may be. A second witness of their definitions
+-- (proofs/Rows.antt computes them).
 use mathlib.Core.List.{List, [], _∷_, _++_}
 use Prim.Native.Nat.{ℕ}
 use lib.ListN.{replicate}
 use Rattle.image.specs.Cases.{oneRoutine, whole}
-use Rattle.schedule.specs.declared.Entry.the-variants.{Step}
+use Rattle.schedule.specs.declared.Entry.the-variants.{Step, Steal}
 use Rattle.rules.specs.State.{going, finished}
 use Rattle.rules.specs.Row.{five, nought, calls, callsTwo}
 use Rattle.rounds.specs.Rows.{ScheduledRow}
 use Rattle.serial.specs.Cases.{counting, overFive}
 use Rattle.demands.specs.Input.{Input, inputOf}
+use Rattle.demands.specs.Demands.{stateAfter}
+use Rattle.demands.specs.Cases.{given}
 use Rattle.lonecore.specs.Depth.{depthIn}
 use Rattle.lonecore.specs.Commands.{commandsIn}
+use Rattle.lonecore.specs.SeveralCores.{usedIn, mostUsed}
 
 -- a plain run on words that start zero
 pub record PlainRow : Type 0 where
@@ -117,3 +121,27 @@ loneRows =
     record { image = whole; cores = 1; allowance = 100; size = 21; written = replicate 10 (Step 0); outcome = finished 10; units = 20 }
     ∷ record { image = whole; cores = 1; allowance = 100; size = 20; written = replicate 9 (Step 0); outcome = going; units = 19 }
     ∷ []
+
+-- the bound on threads in use, by the definition and by hand: 2, 2, 3 and 1 routines deep on 2, 4, 3 and 4 cores
+abbrev pub bounds : List ℕ
+bounds =
+    mostUsed (given whole 2 100)
+    ∷ mostUsed (given whole 4 100)
+    ∷ mostUsed (given (overTwo 1 2) 3 100)
+    ∷ mostUsed (given (oneRoutine nought) 4 100)
+    ∷ []
+
+abbrev pub boundsByHand : List ℕ
+boundsByHand = 3 ∷ 5 ∷ 7 ∷ 1 ∷ []
+
+-- the threads in use in "Whole" on 2 cores: at Start, behind its first command, its first lfork and the steal of its second, where the bound is reached
+abbrev pub used : List ℕ
+used =
+    usedIn (stateAfter (given whole 2 100) [])
+    ∷ usedIn (stateAfter (given whole 2 100) (Step 0 ∷ []))
+    ∷ usedIn (stateAfter (given whole 2 100) (Step 0 ∷ Step 0 ∷ []))
+    ∷ usedIn (stateAfter (given whole 2 100) (Step 0 ∷ Step 0 ∷ Steal 1 0 ∷ []))
+    ∷ []
+
+abbrev pub usedByHand : List ℕ
+usedByHand = 1 ∷ 1 ∷ 2 ∷ 3 ∷ []

@@ -1,7 +1,7 @@
--- Beyond T-12: such images on any number of cores. Each core is the end of at most one chain of threads in use, from a thread that runs or is
--- ready up to the root, which all chains share; so by the built-in scheduler threads in use are at most cores * (depth - 1) + 1 at every state.
--- Where that is at most 16, no thread number and no stacklet is ever short, and the run finishes. It rests on the order of sources: an idle
--- core takes a ready thread before it steals.
+-- Beyond T-12: such images on any number of cores. Running and ready threads are together at most as many as the cores, and every thread in use is
+-- one of them or an ancestor of one; these chains share the root. So by the built-in scheduler threads in use are at most cores * (depth - 1) + 1
+-- at every state. Where that is at most 16, no thread number and no stacklet is ever short, and the run finishes. It rests on the order of sources:
+-- an idle core takes a ready thread before it steals.
 use mathlib.Core.List.{List, _++_}
 use mathlib.Core.Logic.{_⊎_}
 use mathlib.Core.Path.{_≡_}
