@@ -55,6 +55,9 @@ impl Code {
     pub fn yields(&mut self) {
         self.bytes.push(YIELD);
     }
+    pub fn share(&mut self, a: u8) {
+        self.bytes.extend([SHARE, a]);
+    }
     pub fn returns(&mut self, a: u8) {
         self.bytes.extend([RETURN, a]);
     }

@@ -67,7 +67,7 @@ fn filler(random: &mut Random, code: &mut Code, spare: u8, lazy: u64) {
 fn slip(random: &mut Random, code: &mut Code, slots: u8) {
     let any = |random: &mut Random| random.below(slots as u64) as u8;
     let (a, b, c) = (any(random), any(random), any(random));
-    match random.below(8) {
+    match random.below(9) {
         0 => code.returns(a),
         1 => code.add(a, b, c),
         2 => code.subtract(a, b, c),
@@ -78,6 +78,7 @@ fn slip(random: &mut Random, code: &mut Code, slots: u8) {
             let out = code.if_zero(a);
             code.land(out);
         }
+        7 => code.share(a),
         _ => code.join(),
     }
 }
@@ -91,8 +92,8 @@ struct Stand {
     children: u8,
 }
 
-/// A slip at an edge: a load, a store or a fork's cut at lo, at the mark or at hi, or just beside it; a pending slot in each place of a
-/// command; a return with pending slots. About half of them are good commands after all.
+/// A slip at an edge: a load, a store, a share or a fork's cut at lo, at the mark or at hi, or just beside it; a pending slot in each place of
+/// a command; a return with pending slots. About half of them are good commands after all.
 fn aimed(random: &mut Random, code: &mut Code, stand: &Stand) {
     // slot 6 becomes the address; 5 is free here
     let base = random.pick(&[0, 0, 2]);
@@ -108,7 +109,7 @@ fn aimed(random: &mut Random, code: &mut Code, stand: &Stand) {
     let early = 7 + random.below(stand.forked.max(1) as u64) as u8;
     let next = stand.level + 1;
     let op = fork_byte(random);
-    match random.below(16) {
+    match random.below(19) {
         0 | 1 => code.load(6, 6),
         2 | 3 => code.store(6, 5),
         4 | 5 => code.fork(op, next, child, 4, 6),
@@ -135,6 +136,8 @@ fn aimed(random: &mut Random, code: &mut Code, stand: &Stand) {
             code.land(out);
         }
         14 => code.returns(5),
+        15 | 16 => code.share(6),
+        17 => code.share(early),
         _ => slip(random, code, stand.slots),
     }
 }
@@ -166,7 +169,15 @@ fn tree(random: &mut Random, slips: u64) -> Vec<u8> {
         code.set(3, part);
         let again = code.here();
         filler(random, &mut code, 6, lazy);
+        // what no child gets may be shared, in two goes
+        let (kept, mut ceiling) = (children as u16 * part, size);
         for child in 0..children {
+            if random.one_in(4) {
+                ceiling = random.range(kept as u64, ceiling as u64) as u16;
+                code.set(6, ceiling);
+                code.add(6, 0, 6);
+                code.share(6);
+            }
             code.set(5, 0);
             code.add(4, if child == 0 { 0 } else { 2 }, 5);
             code.set(5, random.below(40) as u16);
@@ -249,15 +260,22 @@ fn deep(random: &mut Random) -> (Vec<u8>, Vec<u32>) {
     let out = code.if_zero(0);
     code.set(1, 1);
     code.subtract(0, 0, 1);
-    if count > 29 && random.one_in(2) {
+    let cut = random.pick(&[32, 32, 32, 1024]);
+    let falling = count > 29 && random.one_in(2);
+    if falling {
         // the cut is what is left of the count, above 32; it is out of range from about 32 deep on
         code.set(2, 32 + random.range(30, 32) as u16 - count as u16);
         code.add(2, 0, 2);
         code.set(1, 0);
     } else {
-        code.set(2, random.pick(&[32, 32, 32, 1024]));
+        code.set(2, cut);
     }
     let lazy = random.one_in(2);
+    let shared = random.one_in(3);
+    if shared {
+        // from the cut up: all that the root has, or no word
+        code.share(2);
+    }
     for call in 0..calls {
         let op = if kind == 0 { random.pick(&[LFORK, FORK]) } else { kind };
         code.fork(op, 0, 3 + call, 0, 2);
@@ -273,6 +291,10 @@ fn deep(random: &mut Random) -> (Vec<u8>, Vec<u32>) {
     code.land(out);
     if lazy && random.one_in(2) {
         code.suspend();
+    }
+    if shared && cut == 32 && !falling {
+        code.set(1, random.range(32, 1023) as u16);
+        code.load(0, 1);
     }
     code.returns(0);
     (image(&[Routine { slots, arguments: 1, code: code.bytes }]), vec![count as u32])
@@ -391,6 +413,9 @@ fn caller(random: &mut Random, calls: &[(u8, u16)]) -> Routine {
         code.add(slot + 1, slot, spare);
     }
     for (slot, (to, _)) in (0..).zip(calls) {
+        if random.one_in(8) {
+            code.share(own);
+        }
         code.fork(LFORK, *to, slot, slot, slot + 1);
         // an lfork right after another is a seed
         if random.one_in(4) {
@@ -408,6 +433,153 @@ fn caller(random: &mut Random, calls: &[(u8, u16)]) -> Routine {
     code.store(own, spare);
     code.returns(spare);
     Routine { slots: frame(random, spare as u64 + 1), arguments: 1, code: code.bytes }
+}
+
+/// How the routines of a tree that shares are made.
+struct Habit {
+    lazy: u64,
+    slips: u64,
+    /// lforks alone, and no suspend or yield
+    called: bool,
+}
+
+impl Habit {
+    fn op(&self, random: &mut Random) -> u8 {
+        if self.called { LFORK } else { random.pick(&[LFORK, FORK]) }
+    }
+    fn slips(&self, random: &mut Random) -> bool {
+        self.slips != 0 && random.one_in(self.slips)
+    }
+}
+
+/// A tree of calls, a routine for each level, in which routines share the tops of their windows and read what was shared above them.
+/// Slots: 0 lo, 1 hi, 2 the address of a word to read, 3 spare, 4 to 6 a child's first three, 7 a sum, 8 one, 9 spare, 10 on results.
+fn shares(random: &mut Random, slips: u64) -> Vec<u8> {
+    let called = random.one_in(3);
+    let lazy = if called { u64::MAX } else { random.pick(&[1, 2, 8, 1000]) };
+    let habit = Habit { lazy, slips, called };
+    let levels = random.range(1, 3) as u8;
+    let mut size = 992u16;
+    let mut routines = Vec::new();
+    for level in 0..levels {
+        let (routine, part) = sharer(random, &habit, level, size);
+        routines.push(routine);
+        size = part;
+    }
+    routines.push(reader(random, &habit, size));
+    image(&routines)
+}
+
+/// A routine of a tree that shares, by its level and the words of its window, and the words of its children's windows.
+fn sharer(random: &mut Random, habit: &Habit, level: u8, size: u16) -> (Routine, u16) {
+    let children = random.range(1, 4) as u8;
+    let table = random.pick(&[0, 1, 1, 2, 8]).min(size);
+    let part = (size - table) / (children as u16 + random.below(2) as u16);
+    let mut code = Code::default();
+    if level == 0 {
+        code.set(0, 32);
+        code.set(1, 1024);
+        code.set(2, random.below(32) as u16);
+    }
+    code.set(8, 1);
+    for _ in 0..random.pick(&[1, 1, 2]) {
+        forks_that_share(random, habit, &mut code, level, [size, part, children as u16]);
+        code.join();
+        for child in 0..children {
+            code.add(7, 7, 10 + child);
+        }
+        // the highest word, which mostly was shared
+        if size > 0 && random.one_in(2) {
+            code.subtract(9, 1, 8);
+            code.store(9, 7);
+        }
+    }
+    code.load(9, 2);
+    code.add(7, 7, 9);
+    code.returns(7);
+    let arguments = if level == 0 { 0 } else { 3 };
+    (Routine { slots: frame(random, 11 + children as u64), arguments, code: code.bytes }, part)
+}
+
+/// The forks of a routine by the words of its window and of a child's, and the number of its children. Before each it may share more.
+fn forks_that_share(random: &mut Random, habit: &Habit, code: &mut Code, level: u8, [size, part, children]: [u16; 3]) {
+    let mut ceiling = size;
+    code.set(9, 0);
+    code.add(5, 0, 9);
+    code.add(6, 2, 9);
+    for child in 0..children as u8 {
+        if random.one_in(2) {
+            ceiling = random.range((part * children) as u64, ceiling as u64) as u16;
+            code.set(9, ceiling);
+            code.add(9, 0, 9);
+            code.share(9);
+            if ceiling < size {
+                code.set(6, random.range(ceiling as u64, size as u64 - 1) as u16);
+                code.add(6, 0, 6);
+            }
+        }
+        code.set(9, 0);
+        code.add(4, 5, 9);
+        code.set(9, part);
+        code.add(5, 4, 9);
+        code.fork(habit.op(random), level + 1, 10 + child, 4, 5);
+        if habit.slips(random) {
+            let fork = [habit.op(random), level + 1, 10 + children as u8];
+            missed(random, code, Some(fork), 10 + child);
+        }
+        filler(random, code, 9, habit.lazy);
+    }
+    // the sharer reads on in what it shares
+    if random.one_in(3) && part * children < size {
+        code.subtract(9, 1, 8);
+        code.load(9, 9);
+    }
+}
+
+/// The lowest routine of a tree that shares, by the words of its window.
+fn reader(random: &mut Random, habit: &Habit, size: u16) -> Routine {
+    let mut code = Code::default();
+    code.set(8, 1);
+    code.load(7, 2);
+    filler(random, &mut code, 9, habit.lazy);
+    if random.one_in(4) {
+        code.share(random.pick(&[0, 1]));
+        code.join();
+    }
+    if habit.slips(random) {
+        missed(random, &mut code, None, 7);
+    }
+    if size > 0 && random.one_in(2) {
+        code.store(0, 7);
+    }
+    code.load(9, 2);
+    code.add(7, 7, 9);
+    code.returns(7);
+    Routine { slots: frame(random, 10), arguments: 3, code: code.bytes }
+}
+
+/// A slip about what is shared: a share, a load, a store or a fork's cut at lo, at hi, at the mark, at a word to read or at one that is
+/// shared, or up to two words beside it; a share of 65,536 more; a share of a pending slot. About half of them are good after all.
+fn missed(random: &mut Random, code: &mut Code, fork: Option<[u8; 3]>, pending: u8) {
+    let base = random.pick(&[0, 1, 2, 5, 6, 6]);
+    code.set(9, random.pick(&[0, 0, 1, 2]));
+    if random.one_in(2) { code.add(9, base, 9) } else { code.subtract(9, base, 9) }
+    match (random.below(10), fork) {
+        (0..=2, _) => code.share(9),
+        (3, _) => {
+            code.set(3, 65_535);
+            code.add(9, 9, 3);
+            code.add(9, 9, 8);
+            code.share(9);
+        }
+        (4 | 5, _) => {
+            code.load(9, 9);
+            code.add(7, 7, 9);
+        }
+        (6, _) => code.store(9, 8),
+        (7 | 8, Some([op, r, d])) => code.fork(op, r, d, 4, 9),
+        _ => code.share(pending),
+    }
 }
 
 /// Random commands, all in range, with targets at commands' starts.
@@ -428,7 +600,7 @@ fn wild(random: &mut Random) -> (Vec<u8>, Vec<u32>) {
         let slot = |random: &mut Random| random.below(slots as u64) as u8;
         for _ in 0..length {
             starts.push(code.len() as u16);
-            match random.below(16) {
+            match random.below(18) {
                 0..=3 => {
                     code.extend([SET, slot(random)]);
                     code.extend(edge(random).to_le_bytes());
@@ -459,6 +631,15 @@ fn wild(random: &mut Random) -> (Vec<u8>, Vec<u32>) {
                 }
                 12 | 13 => code.push(JOIN),
                 14 => code.push(random.pick(&[SUSPEND, YIELD])),
+                15 | 16 => {
+                    let s = slot(random);
+                    if !random.one_in(4) {
+                        code.extend([SET, s]);
+                        code.extend((random.range(30, 90) as u16).to_le_bytes());
+                        starts.push(code.len() as u16);
+                    }
+                    code.extend([SHARE, s]);
+                }
                 _ => code.extend([RETURN, slot(random)]),
             }
         }
@@ -489,7 +670,7 @@ fn value(random: &mut Random) -> u32 {
 
 /// A job that a run takes.
 pub fn job(random: &mut Random) -> Case {
-    let (image, arguments) = match random.below(22) {
+    let (image, arguments) = match random.below(30) {
         0..=3 => (tree(random, 0), vec![]),
         4..=5 => (tree(random, 4), vec![]),
         6..=9 => (tree(random, 25), vec![]),
@@ -497,7 +678,10 @@ pub fn job(random: &mut Random) -> Case {
         13..=14 => crowded(random),
         15..=16 => (many(random), vec![]),
         17..=18 => lforks(random),
-        _ => wild(random),
+        19..=21 => wild(random),
+        22..=24 => (shares(random, 0), vec![]),
+        25..=26 => (shares(random, 3), vec![]),
+        _ => (shares(random, 12), vec![]),
     };
     let parameters = (0..32).map(|_| value(random)).collect();
     let memory = (0..992).map(|_| value(random)).collect();
@@ -506,7 +690,7 @@ pub fn job(random: &mut Random) -> Case {
     let ended = plain(case.fed(), &mut case.memory.clone());
     case.allowance = match (ended, random.below(6)) {
         // the command that faults, just not paid for or just paid for
-        (PlainAnswer::Stopped { number: 9..=12, units }, 0..=2) => units + random.pick(&[0, 0, 1, 1, 2, 5, 6, 11, 12]),
+        (PlainAnswer::Stopped { number: 9..=12 | 31, units }, 0..=2) => units + random.pick(&[0, 0, 1, 1, 2, 5, 6, 11, 12]),
         (_, 0) => random.below(60) as u32,
         // near what the plain run takes
         (PlainAnswer::Finished { units, .. } | PlainAnswer::Stopped { units, .. }, 1 | 2) => {
@@ -530,9 +714,10 @@ fn runs_on(case: &Case) -> bool {
 
 /// An image that is accepted.
 pub fn good_image(random: &mut Random) -> Vec<u8> {
-    match random.below(3) {
+    match random.below(4) {
         0 => wild(random).0,
         1 => tree(random, 9),
+        2 => shares(random, 9),
         _ => many(random),
     }
 }
@@ -568,7 +753,7 @@ pub fn damaged_image(random: &mut Random) -> Vec<u8> {
 fn end_damaged(random: &mut Random, bytes: &mut [u8]) {
     let n = bytes.len();
     if n > 2 {
-        bytes[n - 2] = random.pick(&[RETURN, JOIN, SUSPEND, 0x0E, GO, SET]);
+        bytes[n - 2] = random.pick(&[RETURN, JOIN, SUSPEND, SHARE, 0x0F, GO, SET]);
         if random.one_in(2) {
             bytes[n - 1] = random.pick(&[0, JOIN, YIELD, RETURN, 15, 16]);
         }
@@ -607,12 +792,13 @@ pub fn large_image(random: &mut Random) -> Vec<u8> {
     for r in 0..count {
         let length = total / count + if r == 0 { total % count } else { 0 };
         let mut code = Code::default();
-        let kind = random.below(5);
+        let kind = random.below(6);
         while code.here() + 7 <= length {
             match kind {
                 0 => code.join(),
                 1 => code.add(0, 1, 2),
                 2 => code.fork(LFORK, random.below(count as u64) as u8, 3, 0, 4),
+                5 => code.share(0),
                 3 => {
                     let target = random.pick(&[0, code.here()]);
                     code.go(target);

@@ -23,7 +23,7 @@ const WORDS: [(&str, &str); 12] = [
     ("Lent", "Running"),
     ("Free", "Ready"),
 ];
-const SIGNS: [(&str, &str); 12] = [
+const SIGNS: [(&str, &str); 19] = [
     (" && ", " || "),
     (" || ", " && "),
     (" + ", " - "),
@@ -34,8 +34,15 @@ const SIGNS: [(&str, &str); 12] = [
     (" .lo", " .mark"),
     (" .hi", " .mark"),
     (" .hi", " .lo"),
+    (" .hi", " .ceiling"),
     (" .mark", " .lo"),
     (" .mark", " .hi"),
+    (" .ceiling", " .hi"),
+    (" .ceiling", " .mark"),
+    (" .from", " .to"),
+    (" .from", " .ceiling"),
+    (" .to", " .from"),
+    (" .to", " .hi"),
 ];
 
 /// Where each name that a change may bring in comes from.

@@ -238,8 +238,10 @@ fn runs() -> Vec<Row> {
     let (four, in_turn) = workload::hot_on_four();
     let (thieves, stolen) = workload::steals();
     let (yielding, taken) = workload::yields();
+    let (scrubbing, scrubbed) = workload::scrubs();
     let one_in = |schedule: &[u8], byte: u8| entries(schedule) as f64 / workload::entries_of(schedule, byte) as f64;
     let steals = format!("four cores, one steal in {:.1} entries", one_in(&stolen, 3));
+    let scrubs = format!("shared table, four cores, one steal in {:.0} entries", one_in(&scrubbed, 3));
     let takes = format!("two cores, 09 and yield, one take in {:.1} entries", one_in(&taken, 2));
     vec![
         run("hot", "hot steps, one core", workload::hot(), steps.clone(), HOT),
@@ -247,6 +249,7 @@ fn runs() -> Vec<Row> {
         run("calls", "lfork, return, join, go to", workload::calls(), steps, TASKS),
         run("steals", &steals, thieves.clone(), stolen, TASKS),
         run("yields", &takes, yielding.clone(), taken, TASKS),
+        run("shared-table", &scrubs, scrubbing, scrubbed, TASKS),
         scheduled("scheduled-steals", "built-in scheduler, four cores with steals", thieves),
         scheduled("scheduled-yields", "built-in scheduler, two cores with 09 and yield", yielding),
     ]
@@ -257,6 +260,7 @@ pub fn rows() -> Vec<Row> {
     rows.extend([
         serial("serial-loop", "serial run, loop", workload::counted(2000)),
         serial("serial-fibonacci", "serial run, Fibonacci 15", workload::fibonacci(15)),
+        serial("serial-table", "serial run, shared table", workload::scrubs().0),
         check("check-02", "image of 4,096 bytes, 02", workload::large(ADD), "a byte", 4096),
         check("check-08", "image of 4,096 bytes, 08", workload::large(LFORK), "a byte", 4096),
         check("check-07", "image of 4,096 bytes, 07", workload::large(GO), "a byte", 4096),

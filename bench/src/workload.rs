@@ -129,6 +129,54 @@ pub fn yields() -> (Case, Vec<u8>) {
     (case, schedule)
 }
 
+/// Four scrubs read one wear table of eight words while each writes its own part, 60 times over: the root shares the table and lforks them,
+/// and after the join it writes a word of the table. With four cores idle ones steal three of the four.
+/// Slots: 1 the table, 2 one, 3 the words of a part, 4 the last word's address, 6 on the parts and their end, 11 on results, 15 a count.
+pub fn scrubs() -> (Case, Vec<u8>) {
+    let mut root = Code::default();
+    for (slot, value) in [(1, 1016), (2, 1), (3, 246), (4, 1023), (6, 32), (15, 60)] {
+        root.set(slot, value);
+    }
+    for part in 6..10 {
+        root.add(part + 1, part, 3);
+    }
+    let again = root.here();
+    root.share(1);
+    for scrub in 0..4 {
+        root.fork(LFORK, 1, 11 + scrub, 6 + scrub, 7 + scrub);
+    }
+    root.join();
+    root.store(4, 15);
+    root.subtract(15, 15, 2);
+    let out = root.if_zero(15);
+    root.go(again);
+    root.land(out);
+    root.returns(14);
+    let case = case(image(&[Routine { slots: 16, arguments: 0, code: root.bytes }, scrub()]), 4, vec![]);
+    let schedule = scheduled(&case);
+    (case, schedule)
+}
+
+/// A scrub of its part's first word: it adds up the words of the table and stores each sum there.
+/// Slots: 0 the part, 1 a word of the table, 2 one, 3 the table's end, 4 the word, 5 the sum, 6 how many are left.
+fn scrub() -> Routine {
+    let mut code = Code::default();
+    code.set(1, 1016);
+    code.set(2, 1);
+    code.set(3, 1024);
+    let again = code.here();
+    code.load(4, 1);
+    code.add(5, 5, 4);
+    code.store(0, 5);
+    code.add(1, 1, 2);
+    code.subtract(6, 3, 1);
+    let out = code.if_zero(6);
+    code.go(again);
+    code.land(out);
+    code.returns(5);
+    Routine { slots: 7, arguments: 1, code: code.bytes }
+}
+
 /// The entries that the house run writes.
 pub fn scheduled(case: &Case) -> Vec<u8> {
     let mut buffer = vec![0; 32_768];
@@ -251,7 +299,7 @@ pub fn large(kind: u8) -> Vec<u8> {
     image(&[Routine { slots: 16, arguments: 0, code: code.bytes }])
 }
 
-/// An image of 4,096 bytes with every command in turn.
+/// An image of 4,096 bytes with every command of document 01 in turn.
 pub fn mixed() -> Vec<u8> {
     let mut code = Code::default();
     let length = 4096 - 5;

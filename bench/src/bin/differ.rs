@@ -7,22 +7,28 @@
 //! alike is found too, a finished run of the proved crates must end as the serial run does and leave every word of the stacklets zero, and a run
 //! by the built-in scheduler that is promised to finish must do so (`src/finish.rs`).
 //!
-//! It ends with a table of how often each number was met, and with status 1 at a difference or where a number or a promise was never met.
+//! It ends with a table of how often each number was met, and with status 1 at a difference or where a number or a promise was never met, or
+//! where no child of a finished run loaded a shared word.
 #[path = "../library.rs"]
 mod library;
 
 use bench::finish;
 use bench::generate::{damage, damaged_image, job, large_image, schedule, Case};
 use bench::peer::image::number;
-use bench::peer::plain::plain;
+use bench::peer::plain::{measured, plain};
 use bench::peer::run::{entries, run, Ran};
 use bench::peer::{Answer, PlainAnswer};
 use bench::random::Random;
 
+/// The numbers that runs and images meet; those between are of Intel HEX.
+fn numbers() -> impl Iterator<Item = usize> {
+    (1..=26).chain([31])
+}
+
 /// What was compared, and which numbers were met.
 #[derive(Default)]
 struct Tally {
-    met: [u64; 27],
+    met: [u64; 32],
     entries: u64,
     accepted: u64,
     runs: u64,
@@ -35,6 +41,9 @@ struct Tally {
     /// runs of either kind whose end has all words of the stacklets zero, and those that leave some
     wiped: u64,
     kept: u64,
+    /// serial runs and finished runs by schedule in which a child loaded a shared word
+    serial_shared: u64,
+    shared: u64,
     promised: finish::Jobs,
 }
 
@@ -87,12 +96,13 @@ fn compare_images(tally: &mut Tally, image: &[u8]) {
 
 fn compare_serial(tally: &mut Tally, case: &Case) -> PlainAnswer {
     let (mut a, mut b) = (case.memory.clone(), case.memory.clone());
-    let peer = plain(case.fed(), &mut a);
+    let (peer, measure) = measured(case.fed(), &mut a);
     let ours = library::serial(case.fed(), &mut b);
     if peer != ours || a != b {
         differs("a serial run", case, &[], format!("{peer:?}"), format!("{ours:?}, memory equal: {}", a == b));
     }
     tally.serial += 1;
+    tally.serial_shared += (measure.shared > 0) as u64;
     if let PlainAnswer::Stopped { number, .. } = peer {
         tally.met[number as usize] += 1;
         if matches!(number, 1..=8 | 24 | 25) && a != case.memory {
@@ -162,7 +172,7 @@ fn check_end(tally: &mut Tally, case: &Case, schedule: &[u8], ours: &Ran, after:
         Answer::Finished { result, units } => {
             tally.finished += 1;
             let mut memory = case.memory.clone();
-            plain(case.fed(), &mut memory);
+            tally.shared += (measured(case.fed(), &mut memory).1.shared > 0) as u64;
             serial == (PlainAnswer::Finished { result, units }) && memory == after && ours.counts[0] == 32
         }
         Answer::Faulted { .. } => {
@@ -264,16 +274,21 @@ fn main() {
     println!("finished {}, faulted {}, open {}", tally.finished, tally.faulted, tally.open);
     println!("stacklets: runs that end with all 1,024 words zero {}, with words left {}", tally.wiped, tally.kept);
     println!("entries {}, accepted {}", tally.entries, tally.accepted);
+    println!("shared words loaded by children: serial runs {}, finished runs {}", tally.serial_shared, tally.shared);
     let finish::Jobs { met, full, deep } = &tally.promised;
     println!("promised to finish on 1 to 4 cores {:?}, with as many threads in use as are let be {:?}", &met[1..], &full[1..]);
     println!("promised to finish on one core, by depth from 1 to 16 {:?}", &deep[1..]);
     let mut never = false;
-    for (number, count) in tally.met.iter().enumerate().skip(1) {
-        println!("number {number:2}: {count}");
-        never |= *count == 0;
+    for number in numbers() {
+        println!("number {number:2}: {}", tally.met[number]);
+        never |= tally.met[number] == 0;
     }
     if never {
         println!("a number was never met");
+        std::process::exit(1);
+    }
+    if tally.shared == 0 {
+        println!("no child of a finished run loaded a shared word");
         std::process::exit(1);
     }
     if !tally.promised.complete() {

@@ -13,12 +13,13 @@ pub const JOIN: u8 = 0x0A;
 pub const SUSPEND: u8 = 0x0B;
 pub const YIELD: u8 = 0x0C;
 pub const RETURN: u8 = 0x0D;
+pub const SHARE: u8 = 0x0E;
 
 /// Weights by command byte.
-pub const WEIGHTS: [u32; 16] = [0, 1, 1, 1, 2, 2, 1, 1, 6, 12, 1, 3, 3, 1, 0, 0];
+pub const WEIGHTS: [u32; 16] = [0, 1, 1, 1, 2, 2, 1, 1, 6, 12, 1, 3, 3, 1, 1, 0];
 
 /// Bytes of a command, by command byte.
-pub const SIZES: [u16; 16] = [0, 4, 4, 4, 3, 3, 4, 3, 5, 5, 1, 1, 1, 2, 0, 0];
+pub const SIZES: [u16; 16] = [0, 4, 4, 4, 3, 3, 4, 3, 5, 5, 1, 1, 1, 2, 2, 0];
 
 /// A command's first eight bytes, the command byte lowest. What lies behind a short command is never looked at.
 #[derive(Clone, Copy)]

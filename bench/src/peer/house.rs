@@ -20,14 +20,14 @@ impl Housed {
 /// The tries by their log bytes, and the most threads in use at any state. It leaves out enabling, which is never refused and takes no thread.
 #[derive(Clone, Copy, Debug, PartialEq, Eq)]
 pub struct Tries {
-    pub by_number: [u64; 27],
+    pub by_number: [u64; 32],
     pub threads: u8,
 }
 
 impl Tries {
     /// The number of the first kind of try that was not accepted.
     pub fn not_accepted(&self) -> Option<usize> {
-        (1..27).find(|number| self.by_number[*number] != 0)
+        (1..32).find(|number| self.by_number[*number] != 0)
     }
 }
 
@@ -57,7 +57,7 @@ pub fn house(fed: Fed, memory: &mut [u32], buffer: &mut [u8]) -> Housed {
 
 /// The house run with its tries; Start's state has one thread.
 pub fn tried(fed: Fed, memory: &mut [u32], buffer: &mut [u8]) -> (Housed, Tries) {
-    let mut tries = Tries { by_number: [0; 27], threads: 1 };
+    let mut tries = Tries { by_number: [0; 32], threads: 1 };
     (watched(fed, memory, buffer, &mut tries), tries)
 }
 
@@ -133,7 +133,7 @@ impl Written<'_> {
 /// Whether an entry with this log byte is written: accepted or faulting.
 #[inline(always)]
 fn stands(number: u8) -> bool {
-    number < 13
+    number < 13 || number == 31
 }
 
 /// The rounds of any number of cores; a function of its own, with all registers to itself.

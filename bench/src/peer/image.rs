@@ -132,7 +132,7 @@ fn walk<const N: usize>(program: &Program, row: Row, found: &mut Found<N>) -> Re
                 let run = c as u32 + program.row(a).arguments as u32;
                 (5, a < program.count && b < slots && d < slots && run <= slots as u32)
             }
-            RETURN => (2, a < slots),
+            RETURN | SHARE => (2, a < slots),
             _ => return Err(4),
         };
         at += size;

@@ -3,6 +3,7 @@
 use super::command::*;
 use super::image::{Program, Row};
 use super::run::Ran;
+use super::window::Window;
 use super::Answer;
 
 pub const IDLE: u8 = 32;
@@ -28,9 +29,7 @@ pub struct Thread {
     pub at: u16,
     pub base: u16,
     pub pending: u16,
-    pub lo: u16,
-    pub mark: u16,
-    pub hi: u16,
+    pub window: Window,
     pub status: Status,
     pub connected: bool,
     pub routine: u8,
@@ -132,9 +131,7 @@ impl Machine {
         let row = program.row(0);
         self.threads[0] = Thread {
             at: row.start,
-            lo: 32,
-            mark: 32,
-            hi: 1024,
+            window: Window::ROOT,
             status: Status::Running,
             parent: NOBODY,
             ..Thread::default()
@@ -201,8 +198,12 @@ impl Machine {
     #[inline(always)]
     pub fn carry(&mut self, job: &Job, memory: &mut [u32; 992], core: u8, t: u8) -> u8 {
         let thread = &mut self.threads[t as usize & 31];
-        match carry_hot(job, thread, slots(&mut self.words, thread.base), memory, &mut self.left) {
-            Ok(()) => 0,
+        let mut at = thread.at;
+        match carry_hot(job, thread, &mut at, slots(&mut self.words, thread.base), memory, &mut self.left) {
+            Ok(()) => {
+                thread.at = at;
+                0
+            }
             Err(undone) => self.carry_undone(job, core, t, undone),
         }
     }
@@ -217,7 +218,7 @@ impl Machine {
         }
     }
 
-    /// Commands 08 to 0D.
+    /// Commands 08 to 0E.
     pub fn carry_other(&mut self, job: &Job, core: u8, t: u8, word: Word) -> u8 {
         let op = word.op();
         let thread = *self.thread(t);
@@ -237,7 +238,7 @@ impl Machine {
                 self.left -= weight;
                 let thread = self.thread(t);
                 thread.at += 1;
-                thread.mark = thread.lo;
+                thread.window.rejoin();
                 thread.pending = 0;
             }
             SUSPEND => {
@@ -255,6 +256,7 @@ impl Machine {
                 self.ready.give(t);
                 self.leave(core, t);
             }
+            SHARE => return self.share(t, word.byte(1)),
             _ => {
                 if thread.pending != 0 {
                     return self.fault(12, t);
@@ -263,6 +265,21 @@ impl Machine {
                 self.give_back(job, core, t, thread, self.slot(thread.base, word.byte(1)));
             }
         }
+        0
+    }
+
+    /// A share by thread t, whose weight fits: 9, 31.
+    fn share(&mut self, t: u8, a: u8) -> u8 {
+        let thread = &mut self.threads[t as usize & 31];
+        if waits(thread.pending as u32, [a]) {
+            return self.fault(9, t);
+        }
+        let s = slots(&mut self.words, thread.base)[a as usize & 15];
+        if !thread.window.share(s) {
+            return self.fault(31, t);
+        }
+        thread.at += 2;
+        self.left -= WEIGHTS[SHARE as usize];
         0
     }
 
@@ -320,10 +337,9 @@ impl Machine {
         if parent.pending as u32 & asked != 0 {
             return self.fault(9, t);
         }
-        let cut = self.slot(parent.base, w);
-        if cut < parent.mark as u32 || cut > parent.hi as u32 {
+        let Some(window) = parent.window.part(self.slot(parent.base, w)) else {
             return self.fault(11, t);
-        }
+        };
         if self.free_threads.is_empty() {
             return 20;
         }
@@ -341,9 +357,7 @@ impl Machine {
             at: row.start,
             base,
             pending: 0,
-            lo: parent.mark,
-            mark: parent.mark,
-            hi: cut as u16,
+            window,
             status,
             connected: placed == Placed::Called,
             routine,
@@ -353,7 +367,7 @@ impl Machine {
         };
         let thread = self.thread(t);
         thread.at += 5;
-        thread.mark = cut as u16;
+        thread.window.cut_off(&window);
         thread.pending |= bit(d) as u16;
         thread.children += 1;
         match placed {
@@ -525,58 +539,66 @@ fn pass<const N: usize>(thread: &Thread, left: u32, weight: u32, asked: [u8; N])
     Ok(weight)
 }
 
-/// The word at an address of a thread's window, or 10.
+/// The word that a load reads: a parameter, or one that the window lets be loaded; else 10.
 #[inline(always)]
-fn cell<'a>(thread: &Thread, memory: &'a mut [u32; 992], address: u32) -> Result<&'a mut u32, Undone> {
-    if address < thread.mark as u32 || address >= thread.hi as u32 {
+fn loaded(job: &Job, thread: &Thread, memory: &[u32; 992], address: u32) -> Result<u32, Undone> {
+    match job.parameters.get(address as usize) {
+        Some(parameter) => Ok(*parameter),
+        None if thread.window.may_load(address) => Ok(memory[address as usize - 32]),
+        None => Err(Undone::Met(10)),
+    }
+}
+
+/// The word that a store writes, or 10.
+#[inline(always)]
+fn stored<'a>(thread: &Thread, memory: &'a mut [u32; 992], address: u32) -> Result<&'a mut u32, Undone> {
+    if !thread.window.may_store(address) {
         return Err(Undone::Met(10));
     }
     Ok(&mut memory[address as usize - 32])
 }
 
-/// The word that a load reads: a parameter, or one of the window.
+/// A thread's next command, which is at `next`, if it is one of 01 to 07: 22, then 9, then 10. Of the thread it changes that position alone.
 #[inline(always)]
-fn loaded(job: &Job, thread: &Thread, memory: &mut [u32; 992], address: u32) -> Result<u32, Undone> {
-    match job.parameters.get(address as usize) {
-        Some(parameter) => Ok(*parameter),
-        None => cell(thread, memory, address).copied(),
-    }
-}
-
-/// A thread's next command, if it is one of 01 to 07: 22, then 9, then 10. Of the thread it changes the position alone.
-#[inline(always)]
-fn carry_hot(job: &Job, thread: &mut Thread, slots: &mut [u32; 16], memory: &mut [u32; 992], left: &mut u32) -> Result<(), Undone> {
-    let word = job.program.word(thread.at);
+fn carry_hot(
+    job: &Job,
+    thread: &Thread,
+    next: &mut u16,
+    slots: &mut [u32; 16],
+    memory: &mut [u32; 992],
+    left: &mut u32,
+) -> Result<(), Undone> {
+    let word = job.program.word(*next);
     let (a, b, c) = (word.byte(1), word.byte(2), word.byte(3));
     let at = |s: u8| s as usize & 15;
     let weight;
-    (weight, thread.at) = match word.op() {
+    (weight, *next) = match word.op() {
         SET => {
             let weight = pass(thread, *left, 1, [a])?;
             slots[at(a)] = word.half(2) as u32;
-            (weight, thread.at + 4)
+            (weight, *next + 4)
         }
         ADD => {
             let weight = pass(thread, *left, 1, [a, b, c])?;
             slots[at(a)] = slots[at(b)].wrapping_add(slots[at(c)]);
-            (weight, thread.at + 4)
+            (weight, *next + 4)
         }
         SUBTRACT => {
             let weight = pass(thread, *left, 1, [a, b, c])?;
             slots[at(a)] = slots[at(b)].wrapping_sub(slots[at(c)]);
-            (weight, thread.at + 4)
+            (weight, *next + 4)
         }
         LOAD => {
             let weight = pass(thread, *left, 2, [a, b])?;
             slots[at(a)] = loaded(job, thread, memory, slots[at(b)])?;
-            (weight, thread.at + 3)
+            (weight, *next + 3)
         }
         STORE => {
             let weight = pass(thread, *left, 2, [a, b])?;
-            *cell(thread, memory, slots[at(a)])? = slots[at(b)];
-            (weight, thread.at + 3)
+            *stored(thread, memory, slots[at(a)])? = slots[at(b)];
+            (weight, *next + 3)
         }
-        IF_ZERO => (pass(thread, *left, 1, [a])?, if slots[at(a)] == 0 { word.half(2) } else { thread.at + 4 }),
+        IF_ZERO => (pass(thread, *left, 1, [a])?, if slots[at(a)] == 0 { word.half(2) } else { *next + 4 }),
         GO => (pass(thread, *left, 1, [])?, word.half(1)),
         _ => return Err(Undone::Other(word)),
     };
@@ -594,10 +616,11 @@ impl Machine {
                 Ok(t) => t,
                 Err(number) => return (most - more, number),
             };
-            let (mut thread, mut left) = (self.threads[t as usize & 31], self.left);
+            let thread = &self.threads[t as usize & 31];
+            let (mut at, mut left) = (thread.at, self.left);
             let slots = slots(&mut self.words, thread.base);
             let met = loop {
-                if let Err(undone) = carry_hot(job, &mut thread, slots, memory, &mut left) {
+                if let Err(undone) = carry_hot(job, thread, &mut at, slots, memory, &mut left) {
                     break Some(undone);
                 }
                 more -= 1;
@@ -605,7 +628,7 @@ impl Machine {
                     break None;
                 }
             };
-            self.thread(t).at = thread.at;
+            self.thread(t).at = at;
             self.left = left;
             if let Some(undone) = met {
                 let number = self.carry_undone(job, core, t, undone);

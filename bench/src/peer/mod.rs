@@ -10,8 +10,13 @@ pub mod image;
 pub mod machine;
 pub mod plain;
 pub mod run;
+pub mod window;
 #[cfg(test)]
 mod hex_tests;
+#[cfg(test)]
+mod order_tests;
+#[cfg(test)]
+mod share_tests;
 #[cfg(test)]
 mod stacklet_tests;
 #[cfg(test)]

@@ -3,6 +3,7 @@
 use super::command::*;
 use super::image::{read, Program};
 use super::run::Fed;
+use super::window::Window;
 use super::PlainAnswer;
 
 struct Plain<'a, T> {
@@ -13,17 +14,19 @@ struct Plain<'a, T> {
     trace: T,
 }
 
-/// The commands carried out, and how many routines deep the run went, the root being 1.
+/// The commands carried out, how many routines deep the run went, the root being 1, and the loads from a read span.
 #[derive(Clone, Copy, Debug, Default, PartialEq, Eq)]
 pub struct Measure {
     pub commands: u64,
     pub depth: u32,
+    pub shared: u64,
 }
 
 /// What hears of a run's commands and routines; `()` does not, so that a run with it costs nothing more.
 trait Trace: Default {
     fn command(&mut self);
     fn routine(&mut self, depth: u32);
+    fn shared(&mut self);
 }
 
 impl Trace for () {
@@ -31,6 +34,8 @@ impl Trace for () {
     fn command(&mut self) {}
     #[inline(always)]
     fn routine(&mut self, _depth: u32) {}
+    #[inline(always)]
+    fn shared(&mut self) {}
 }
 
 impl Trace for Measure {
@@ -39,6 +44,9 @@ impl Trace for Measure {
     }
     fn routine(&mut self, depth: u32) {
         self.depth = self.depth.max(depth);
+    }
+    fn shared(&mut self) {
+        self.shared += 1;
     }
 }
 
@@ -69,7 +77,7 @@ fn traced<T: Trace>(fed: Fed, memory: &mut [u32]) -> (PlainAnswer, T) {
         *slot = *argument;
     }
     let mut run = Plain { program: &program, parameters, memory, left: fed.allowance, trace: T::default() };
-    let ended = run.routine(program.row(0).start, &mut slots, 32, 1024, 1);
+    let ended = run.routine(program.row(0).start, &mut slots, &mut { Window::ROOT }, 1);
     let units = fed.allowance - run.left;
     let answer = match ended {
         Ok(result) => PlainAnswer::Finished { result, units },
@@ -97,11 +105,25 @@ impl<T: Trace> Plain<'_, T> {
         self.trace.command();
     }
 
+    /// The word that a load reads, or 10.
+    #[inline(always)]
+    fn loaded(&mut self, window: &Window, address: u32) -> Result<u32, u8> {
+        if let Some(parameter) = self.parameters.get(address as usize) {
+            return Ok(*parameter);
+        }
+        if !window.has(address) {
+            if !window.may_read(address) {
+                return Err(10);
+            }
+            self.trace.shared();
+        }
+        Ok(self.memory[address as usize - 32])
+    }
+
     /// A routine from its first command to its return, or the number that it ends by.
-    fn routine(&mut self, start: u16, slots: &mut [u32; 16], lo: u32, hi: u32, depth: u32) -> Result<u32, u8> {
+    fn routine(&mut self, start: u16, slots: &mut [u32; 16], window: &mut Window, depth: u32) -> Result<u32, u8> {
         self.trace.routine(depth);
         let mut at = start;
-        let mut mark = lo;
         let mut pending = 0u32;
         loop {
             let word = self.program.word(at);
@@ -132,14 +154,7 @@ impl<T: Trace> Plain<'_, T> {
                     self.afford(2)?;
                     free(pending, [a, b])?;
                     let address = slots[b as usize & 15];
-                    let value = if address < 32 {
-                        self.parameters[address as usize]
-                    } else if address >= mark && address < hi {
-                        self.memory[address as usize - 32]
-                    } else {
-                        return Err(10);
-                    };
-                    slots[a as usize & 15] = value;
+                    slots[a as usize & 15] = self.loaded(window, address)?;
                     self.charge(2);
                     at += 3;
                 }
@@ -147,7 +162,7 @@ impl<T: Trace> Plain<'_, T> {
                     self.afford(2)?;
                     free(pending, [a, b])?;
                     let address = slots[a as usize & 15];
-                    if address < mark || address >= hi {
+                    if !window.may_store(address) {
                         return Err(10);
                     }
                     self.memory[address as usize - 32] = slots[b as usize & 15];
@@ -174,10 +189,7 @@ impl<T: Trace> Plain<'_, T> {
                     if pending & (run | bit(b) | bit(w)) != 0 {
                         return Err(9);
                     }
-                    let cut = slots[w as usize & 15];
-                    if cut < mark || cut > hi {
-                        return Err(11);
-                    }
+                    let mut part = window.part(slots[w as usize & 15]).ok_or(11)?;
                     if depth >= 32 {
                         return Err(26);
                     }
@@ -187,22 +199,31 @@ impl<T: Trace> Plain<'_, T> {
                         child[i & 15] = slots[(c as usize + i) & 15];
                     }
                     pending |= bit(b);
-                    let value = self.routine(row.start, &mut child, mark, cut, depth + 1)?;
+                    window.cut_off(&part);
+                    let value = self.routine(row.start, &mut child, &mut part, depth + 1)?;
                     slots[b as usize & 15] = value;
-                    mark = cut;
                     at += 5;
                 }
                 JOIN => {
                     self.afford(1)?;
                     self.charge(1);
                     pending = 0;
-                    mark = lo;
+                    window.rejoin();
                     at += 1;
                 }
                 SUSPEND | YIELD => {
                     self.afford(3)?;
                     self.charge(3);
                     at += 1;
+                }
+                SHARE => {
+                    self.afford(1)?;
+                    free(pending, [a])?;
+                    if !window.share(slots[a as usize & 15]) {
+                        return Err(31);
+                    }
+                    self.charge(1);
+                    at += 2;
                 }
                 _ => {
                     self.afford(1)?;

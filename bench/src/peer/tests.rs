@@ -84,12 +84,12 @@ fn measure(image: &str, arguments: &[u32]) -> Measure {
 
 #[test]
 fn measures() {
-    assert_eq!(measure("01 01 00 02 00 0D 00", &[]), Measure { commands: 1, depth: 1 });
-    assert_eq!(measure(WHOLE, &[]), Measure { commands: 10, depth: 2 });
+    assert_eq!(measure("01 01 00 02 00 0D 00", &[]), Measure { commands: 1, depth: 1, shared: 0 });
+    assert_eq!(measure(WHOLE, &[]), Measure { commands: 10, depth: 2, shared: 0 });
     // routine 0 of a count: it calls itself of one less
     let counting = "01 04 01 1E 00 06 00 1C 00 01 01 01 00 03 00 00 01 01 02 20 00 08 00 03 00 02 0A 02 03 03 01 0D 03 0D 00";
     for k in [15, 31] {
-        assert_eq!(measure(counting, &[k]), Measure { commands: 8 * k as u64 + 2, depth: k + 1 });
+        assert_eq!(measure(counting, &[k]), Measure { commands: 8 * k as u64 + 2, depth: k + 1, shared: 0 });
     }
 }
 

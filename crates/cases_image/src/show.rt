@@ -54,7 +54,7 @@ fn print_byte(n: u8) {
 
 fn named(name: usize, a: u8, b: u8, c: u8, d: u8) {
     cases::print_format(
-        b" add # # #/ subtract # # #/ load # #/ store # #/ lfork # # # #/ fork # # # #/ join/ suspend/ yield/ return #",
+        b" add # # #/ subtract # # #/ load # #/ store # #/ lfork # # # #/ fork # # # #/ join/ suspend/ yield/ return #/ share #",
         name,
         a as u64,
         b as u64,
@@ -100,5 +100,6 @@ pub fn print_command(c: Command) {
         Command::Suspend => named(7, 0, 0, 0, 0),
         Command::Yield => named(8, 0, 0, 0, 0),
         Command::Return(a) => named(9, a, 0, 0, 0),
+        Command::Share(a) => named(10, a, 0, 0, 0),
     }
 }

@@ -1,4 +1,5 @@
--- A thread's record as 18 bytes: position (2), status, connected, routine, parent, result, children, base (2), lo (2), mark (2), hi (2), pending (2).
+-- A thread's record as 24 bytes: position (2), status, connected, routine, parent, result, children, base (2), lo (2), mark (2), ceiling (2), hi (2),
+-- from (2), to (2), pending (2).
 use mathlib.Core.Bool.{Bool, cond, not}
 use mathlib.Core.List.{List, [], _∷_, _++_}
 use Prim.Native.Nat.{ℕ, _+_, _*_, _/_, _%_}
@@ -23,7 +24,10 @@ abbrev pub windowAt : List ℕ → ℕ → Window
 windowAt xs a = record {
   lo = getD xs (a + 10) 0 + 256 * getD xs (a + 11) 0;
   mark = getD xs (a + 12) 0 + 256 * getD xs (a + 13) 0;
-  hi = getD xs (a + 14) 0 + 256 * getD xs (a + 15) 0;
+  ceiling = getD xs (a + 14) 0 + 256 * getD xs (a + 15) 0;
+  hi = getD xs (a + 16) 0 + 256 * getD xs (a + 17) 0;
+  from = getD xs (a + 18) 0 + 256 * getD xs (a + 19) 0;
+  to = getD xs (a + 20) 0 + 256 * getD xs (a + 21) 0;
 }
 
 -- the record at a place
@@ -38,12 +42,14 @@ recordAt xs a = record {
   status = statusOf (getD xs (a + 2) 0);
   connected = not (eqb (getD xs (a + 3) 0) 0);
   position = getD xs (a + 0) 0 + 256 * getD xs (a + 1) 0;
-  family = record { children = getD xs (a + 7) 0; window = windowAt xs a; pending = getD xs (a + 16) 0 + 256 * getD xs (a + 17) 0 };
+  family = record { children = getD xs (a + 7) 0; window = windowAt xs a; pending = getD xs (a + 22) 0 + 256 * getD xs (a + 23) 0 };
 }
 
 -- the cells of a window
 abbrev pub windowCells : Window → List ℕ
-windowCells w = (w .lo % 256) ∷ (w .lo / 256) ∷ (w .mark % 256) ∷ (w .mark / 256) ∷ (w .hi % 256) ∷ (w .hi / 256) ∷ []
+windowCells w =
+    (w .lo % 256) ∷ (w .lo / 256) ∷ (w .mark % 256) ∷ (w .mark / 256) ∷ (w .ceiling % 256) ∷ (w .ceiling / 256) ∷ (w .hi % 256) ∷ (w .hi / 256)
+    ∷ (w .from % 256) ∷ (w .from / 256) ∷ (w .to % 256) ∷ (w .to / 256) ∷ []
 
 -- the cells of a record
 abbrev pub cellsOf : Thread → List ℕ

@@ -1,4 +1,4 @@
-// A thread's record as its 18 bytes: how it is read and how it is stored. Where the records stand is the tables' matter. Nothing is asked of the
+// A thread's record as its 24 bytes: how it is read and how it is stored. Where the records stand is the tables' matter. Nothing is asked of the
 // caller: another number of bytes is read as a free record and never changed.
 use thread::Family;
 use thread::Origin;
@@ -15,7 +15,7 @@ ghost use Rattle.thread.specs.Thread.{blankThread};
 ghost use Rattle.cells.specs.Record.{statusOf, bitOf, recordAt, windowCells, cellsOf};
 
 // The bytes of a record.
-pub const WIDE: usize = 18;
+pub const WIDE: usize = 24;
 
 // Numbers of one and two bytes.
 pub fn two(lo: u8, hi: u8) -> u16
@@ -69,7 +69,7 @@ fn bit(b: bool) -> u8
 
 // The record in its cells; of any other number of cells, a free one.
 pub fn read_record(cells: &[u8]) -> Thread
-    ensures { λ r. ⌜ (length (now (cells .entry)) ≡ 18 → r ≡ recordAt (now (cells .entry)) 0) × ((length (now (cells .entry)) ≡ 18 → ⊥) → r ≡ blankThread) ⌝ }
+    ensures { λ r. ⌜ (length (now (cells .entry)) ≡ 24 → r ≡ recordAt (now (cells .entry)) 0) × ((length (now (cells .entry)) ≡ 24 → ⊥) → r ≡ blankThread) ⌝ }
 {
     if cells.len() != WIDE {
         return blank_thread();
@@ -77,7 +77,10 @@ pub fn read_record(cells: &[u8]) -> Thread
     let window = Window {
         lo: two(cells[10], cells[11]),
         mark: two(cells[12], cells[13]),
-        hi: two(cells[14], cells[15]),
+        ceiling: two(cells[14], cells[15]),
+        hi: two(cells[16], cells[17]),
+        from: two(cells[18], cells[19]),
+        to: two(cells[20], cells[21]),
     };
     let status = status_of(cells[2]);
     let origin = Origin {
@@ -89,7 +92,7 @@ pub fn read_record(cells: &[u8]) -> Thread
     let family = Family {
         children: cells[7],
         window,
-        pending: two(cells[16], cells[17]),
+        pending: two(cells[22], cells[23]),
     };
     Thread {
         origin,
@@ -102,20 +105,26 @@ pub fn read_record(cells: &[u8]) -> Thread
 
 // A window goes into its cells of a record.
 fn write_window(cells: &mut [u8], window: Window)
-    requires { ⌜ length (now cells) ≡ 18 ⌝ }
-    ensures { λ _. ⌜ (now (cells .exit) ≡ sets (now (cells .entry)) 10 (windowCells window)) × (length (now (cells .exit)) ≡ 18) ⌝ }
+    requires { ⌜ length (now cells) ≡ 24 ⌝ }
+    ensures { λ _. ⌜ (now (cells .exit) ≡ sets (now (cells .entry)) 10 (windowCells window)) × (length (now (cells .exit)) ≡ 24) ⌝ }
 {
     cells[10] = low(window.lo);
     cells[11] = high(window.lo);
     cells[12] = low(window.mark);
     cells[13] = high(window.mark);
-    cells[14] = low(window.hi);
-    cells[15] = high(window.hi);
+    cells[14] = low(window.ceiling);
+    cells[15] = high(window.ceiling);
+    cells[16] = low(window.hi);
+    cells[17] = high(window.hi);
+    cells[18] = low(window.from);
+    cells[19] = high(window.from);
+    cells[20] = low(window.to);
+    cells[21] = high(window.to);
 }
 
 // A record goes into its cells; any other number of cells stays as it is.
 pub fn write_record(cells: &mut [u8], th: Thread)
-    ensures { λ _. ⌜ (length (now (cells .entry)) ≡ 18 → now (cells .exit) ≡ sets (now (cells .entry)) 0 (cellsOf th)) × ((length (now (cells .entry)) ≡ 18 → ⊥) → now (cells .exit) ≡ now (cells .entry)) ⌝ }
+    ensures { λ _. ⌜ (length (now (cells .entry)) ≡ 24 → now (cells .exit) ≡ sets (now (cells .entry)) 0 (cellsOf th)) × ((length (now (cells .entry)) ≡ 24 → ⊥) → now (cells .exit) ≡ now (cells .entry)) ⌝ }
 {
     if cells.len() != WIDE {
         return;
@@ -133,6 +142,6 @@ pub fn write_record(cells: &mut [u8], th: Thread)
     cells[8] = low(th.origin.base);
     cells[9] = high(th.origin.base);
     write_window(cells, window);
-    cells[16] = low(th.family.pending);
-    cells[17] = high(th.family.pending);
+    cells[22] = low(th.family.pending);
+    cells[23] = high(th.family.pending);
 }

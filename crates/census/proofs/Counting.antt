@@ -111,24 +111,24 @@ module _ (bytes : List ℕ) where
   pub long : (n : ℕ) → length (recordsUpTo bytes n) ≡ n
   unfolding recordsUpTo
   long zero = refl
-  long (suc n) = length-append (recordsUpTo bytes n) (recordAt bytes (18 * n) ∷ []) ∙ omega (arith, long n)
+  long (suc n) = length-append (recordsUpTo bytes n) (recordAt bytes (24 * n) ∷ []) ∙ omega (arith, long n)
 
-  pub record-of : (n t : ℕ) → t < n → getD (recordsUpTo bytes n) t blankThread ≡ recordAt bytes (18 * t)
+  pub record-of : (n t : ℕ) → t < n → getD (recordsUpTo bytes n) t blankThread ≡ recordAt bytes (24 * t)
   unfolding recordsUpTo
   record-of zero t h = absurd (omega arith)
   record-of (suc n) t h =
       let last : n ≡ length (recordsUpTo bytes n) + 0 = omega (arith, long n) in
-      below-more (λ k. getD (recordsUpTo bytes n ++ (recordAt bytes (18 * n) ∷ [])) k blankThread ≡ recordAt bytes (18 * k)) n
+      below-more (λ k. getD (recordsUpTo bytes n ++ (recordAt bytes (24 * n) ∷ [])) k blankThread ≡ recordAt bytes (24 * k)) n
       (λ k l. List·getD-append (recordsUpTo bytes n) _ blankThread k (omega (arith, long n)) ∙ record-of n k l)
-      (ap (λ (k : ℕ). getD (recordsUpTo bytes n ++ (recordAt bytes (18 * n) ∷ [])) k blankThread) last
-      ∙ getD-append-add (recordsUpTo bytes n) (recordAt bytes (18 * n) ∷ []) 0 blankThread)
+      (ap (λ (k : ℕ). getD (recordsUpTo bytes n ++ (recordAt bytes (24 * n) ∷ [])) k blankThread) last
+      ∙ getD-append-add (recordsUpTo bytes n) (recordAt bytes (24 * n) ∷ []) 0 blankThread)
       t (omega arith)
 
   -- a record in its part of the bytes
-  pub part-long : (a : ℕ) → a + 18 ≤ length bytes → length (take (a + 18 - a) (drop a bytes)) ≡ 18
+  pub part-long : (a : ℕ) → a + 24 ≤ length bytes → length (take (a + 24 - a) (drop a bytes)) ≡ 24
   part-long a fits = simp (length-take, length-drop) (omega arith)
 
-  part-record : (a k : ℕ) → k ≡ 18 → recordAt (take k (drop a bytes)) 0 ≡ recordAt bytes a
+  part-record : (a k : ℕ) → k ≡ 24 → recordAt (take k (drop a bytes)) 0 ≡ recordAt bytes a
   part-record a k e =
       record-same bytes (take k (drop a bytes)) a 0
       (λ i h. ap (λ (j : ℕ). getD (take k (drop a bytes)) j 0) (zero-add i) ∙ getD-take k (drop a bytes) i 0 (omega arith) ∙ getD-drop a bytes i 0)
@@ -141,14 +141,14 @@ module _ (bytes : List ℕ) where
     )
 
     -- all records are counted
-    pub census : n ≡ length bytes / 18
+    pub census : n ≡ length bytes / 24
         → record { free = f; running = getD xs 1 0; ready = getD xs 2 0; suspended = getD xs 3 0; waiting = getD xs 4 0; lent = getD xs 5 0 } ≡ censusOf (recordsOf bytes)
     census e = rw (s .free, s .others, e)
 
     -- one record more: it was read in its part, and its state is k
-    module _ (a : ℕ) (at : a ≡ 18 * n) (h : Thread) (read : h ≡ recordAt (take (a + 18 - a) (drop a bytes)) 0) (k : ℕ) (state : k ≡ statusNumber (h .status)) where
-      here : h ≡ recordAt bytes (18 * n)
-      here = read ∙ part-record a (a + 18 - a) (omega arith) ∙ ap (recordAt bytes) at
+    module _ (a : ℕ) (at : a ≡ 24 * n) (h : Thread) (read : h ≡ recordAt (take (a + 24 - a) (drop a bytes)) 0) (k : ℕ) (state : k ≡ statusNumber (h .status)) where
+      here : h ≡ recordAt bytes (24 * n)
+      here = read ∙ part-record a (a + 24 - a) (omega arith) ∙ ap (recordAt bytes) at
 
       next : recordsUpTo bytes n ++ (h ∷ []) ≡ recordsUpTo bytes (n + 1)
       unfolding recordsUpTo

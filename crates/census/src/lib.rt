@@ -27,7 +27,7 @@ fn state_of(thread: Thread) -> usize
     status_number(status) as usize
 }
 
-// The records of a lent table in each state, in one pass. It takes bytes of any number: record after record, 18 bytes each, and fewer behind
+// The records of a lent table in each state, in one pass. It takes bytes of any number: record after record, 24 bytes each, and fewer behind
 // the last one are none. Most records of a table are free: these are counted apart from the others, in a register.
 pub fn count(records: &[u8]) -> Census
     ensures { λ r. ⌜ r ≡ censusOf (recordsOf (now (records .entry))) ⌝ }

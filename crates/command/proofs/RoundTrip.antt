@@ -10,7 +10,7 @@ use lib.Dec.{leb, ltb, eqb}
 use lib.ListN.{length, take, drop, getD}
 use lib.Seq.{drop-cons}
 use Rattle.command.specs.declared.Command.{Command}
-use Rattle.command.specs.declared.Command.the-variants.{Set, Add, Subtract, Load, Store, JumpIfZero, Jump, Lfork, Fork, Join, Suspend, Yield, Return}
+use Rattle.command.specs.declared.Command.the-variants.{Set, Add, Subtract, Load, Store, JumpIfZero, Jump, Lfork, Fork, Join, Suspend, Yield, Return, Share}
 use Rattle.command.specs.declared.CommandRead.{CommandRead}
 use Rattle.command.specs.declared.CommandRead.the-variants.{Found, Unknown, CutOff}
 use Rattle.command.specs.Encoded.{OperandsFit}
@@ -42,6 +42,7 @@ reads-back Join rest h = accepts (bytesOfCommand Join ++ rest) 0 0 refl (omega a
 reads-back Suspend rest h = accepts (bytesOfCommand Suspend ++ rest) 0 0 refl (omega arith)
 reads-back Yield rest h = accepts (bytesOfCommand Yield ++ rest) 0 0 refl (omega arith)
 reads-back (Return a) rest h = accepts (bytesOfCommand (Return a) ++ rest) 0 1 refl (omega arith)
+reads-back (Share a) rest h = accepts (bytesOfCommand (Share a) ++ rest) 0 1 refl (omega arith)
 
 -- what a found command says of the bytes
 pub record Stands (s : List ℕ) (at : ℕ) (command : Command) (n : ℕ) : Type 0 where
@@ -125,7 +126,8 @@ module _ (x y z w : ℕ) (hx : x < 256) (hy : y < 256) (hz : z < 256) where
   encoded-again (suc (suc (suc (suc (suc (suc (suc (suc (suc (suc (suc zero))))))))))) h = refl
   encoded-again (suc (suc (suc (suc (suc (suc (suc (suc (suc (suc (suc (suc zero)))))))))))) h = refl
   encoded-again (suc (suc (suc (suc (suc (suc (suc (suc (suc (suc (suc (suc (suc zero))))))))))))) h = refl
-  encoded-again (suc (suc (suc (suc (suc (suc (suc (suc (suc (suc (suc (suc (suc (suc k)))))))))))))) h = absurd (omega arith)
+  encoded-again (suc (suc (suc (suc (suc (suc (suc (suc (suc (suc (suc (suc (suc (suc zero)))))))))))))) h = refl
+  encoded-again (suc (suc (suc (suc (suc (suc (suc (suc (suc (suc (suc (suc (suc (suc (suc k))))))))))))))) h = absurd (omega arith)
 
 -- every byte of a list is below 256
 abbrev pub Bytes : List ℕ → Type 0
@@ -173,7 +175,8 @@ decoded-needs x y z w x' y' z' w' (suc (suc (suc (suc (suc (suc (suc (suc (suc (
 decoded-needs x y z w x' y' z' w' (suc (suc (suc (suc (suc (suc (suc (suc (suc (suc (suc zero))))))))))) n a b c d = refl
 decoded-needs x y z w x' y' z' w' (suc (suc (suc (suc (suc (suc (suc (suc (suc (suc (suc (suc zero)))))))))))) n a b c d = refl
 decoded-needs x y z w x' y' z' w' (suc (suc (suc (suc (suc (suc (suc (suc (suc (suc (suc (suc (suc zero))))))))))))) n a b c d = rw (a (omega arith))
-decoded-needs x y z w x' y' z' w' (suc (suc (suc (suc (suc (suc (suc (suc (suc (suc (suc (suc (suc (suc k)))))))))))))) n a b c d = absurd (omega arith)
+decoded-needs x y z w x' y' z' w' (suc (suc (suc (suc (suc (suc (suc (suc (suc (suc (suc (suc (suc (suc zero)))))))))))))) n a b c d = rw (a (omega arith))
+decoded-needs x y z w x' y' z' w' (suc (suc (suc (suc (suc (suc (suc (suc (suc (suc (suc (suc (suc (suc (suc k))))))))))))))) n a b c d = absurd (omega arith)
 
 -- the same bytes at another place are the same command
 pub found-alike : (s t : List ℕ) (at at' n : ℕ) (command : Command) → commandAt s at ≡ Found command n → at' + n ≤ length t

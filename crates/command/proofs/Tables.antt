@@ -46,6 +46,10 @@ weight-lfork = refl
 pub weight-fork : weightOf standardWeights 9 ≡ 12
 weight-fork = refl
 
+-- T-04: "A new command 0E a (weight 1)"
+pub weight-share : weightOf standardWeights 14 ≡ 1
+weight-share = refl
+
 pub weight-least : (byte : ℕ) → 1 ≤ widthOf byte → 1 ≤ weightOf standardWeights byte
 weight-least byte some =
     leb-true _ _

@@ -7,13 +7,13 @@ use Prim.Native.Nat.{ℕ, _+_, _-_, _*_, _/_, _%_, _≤_, _<_}
 use lib.Dec.{ltb, leb, eqb}
 use lib.ListN.{getD, length, take, drop}
 use Rattle.command.specs.declared.Command.{Command}
-use Rattle.command.specs.declared.Command.the-variants.{Set, Add, Subtract, Load, Store, JumpIfZero, Jump, Lfork, Fork, Join, Suspend, Yield, Return}
+use Rattle.command.specs.declared.Command.the-variants.{Set, Add, Subtract, Load, Store, JumpIfZero, Jump, Lfork, Fork, Join, Suspend, Yield, Return, Share}
 use Rattle.command.specs.declared.CommandRead.{CommandRead}
 use Rattle.command.specs.declared.CommandRead.the-variants.{Found, Unknown, CutOff}
 
--- the number of bytes of each command, by its first byte, from 00 (no command) to 0D
+-- the number of bytes of each command, by its first byte, from 00 (no command) to 0E
 abbrev pub widths : List ℕ
-widths = 0 ∷ 4 ∷ 4 ∷ 4 ∷ 3 ∷ 3 ∷ 4 ∷ 3 ∷ 5 ∷ 5 ∷ 1 ∷ 1 ∷ 1 ∷ 2 ∷ []
+widths = 0 ∷ 4 ∷ 4 ∷ 4 ∷ 3 ∷ 3 ∷ 4 ∷ 3 ∷ 5 ∷ 5 ∷ 1 ∷ 1 ∷ 1 ∷ 2 ∷ 2 ∷ []
 
 -- the number of bytes of a command; 0 for a byte that is no command
 abbrev pub widthOf : ℕ → ℕ
@@ -38,7 +38,8 @@ decoded byte x y z w =
     (cond (eqb byte 10) Join
     (cond (eqb byte 11) Suspend
     (cond (eqb byte 12) Yield
-    (Return x))))))))))))
+    (cond (eqb byte 13) (Return x)
+    (Share x)))))))))))))
 
 -- the command whose first byte stands at a position, taken as whole: bytes past the end read as 0
 abbrev pub decodedAt : List ℕ → ℕ → Command
@@ -84,6 +85,7 @@ bytesOfCommand Join = 10 ∷ []
 bytesOfCommand Suspend = 11 ∷ []
 bytesOfCommand Yield = 12 ∷ []
 bytesOfCommand (Return a) = 13 ∷ a ∷ []
+bytesOfCommand (Share a) = 14 ∷ a ∷ []
 
 -- what `read` gives: what stands there, each number exactly under its condition, which does not cite the row of tests, and "an accepted
 -- command's bytes are written again unchanged"

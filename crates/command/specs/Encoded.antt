@@ -4,7 +4,7 @@ use mathlib.Core.Path.{_≡_}
 use Prim.Native.Nat.{ℕ, _≤_, _<_}
 use lib.ListN.{length, take}
 use Rattle.command.specs.declared.Command.{Command}
-use Rattle.command.specs.declared.Command.the-variants.{Set, Add, Subtract, Load, Store, JumpIfZero, Jump, Lfork, Fork, Join, Suspend, Yield, Return}
+use Rattle.command.specs.declared.Command.the-variants.{Set, Add, Subtract, Load, Store, JumpIfZero, Jump, Lfork, Fork, Join, Suspend, Yield, Return, Share}
 use Rattle.command.specs.Command.{bytesOfCommand}
 
 -- the operands that stand in two bytes fit them, as every value of the enum has it
@@ -22,6 +22,7 @@ OperandsFit Join = Unit {0}
 OperandsFit Suspend = Unit {0}
 OperandsFit Yield = Unit {0}
 OperandsFit (Return a) = Unit {0}
+OperandsFit (Share a) = Unit {0}
 
 -- the first `width` of these bytes are the command's
 pub record Encodes (command : Command) (width : ℕ) (bytes : List ℕ) : Type 0 where

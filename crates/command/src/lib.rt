@@ -1,4 +1,4 @@
-// The thirteen commands of an image: read from bytes, written to bytes, and their weights.
+// The fourteen commands of an image: read from bytes, written to bytes, and their weights.
 ghost use mathlib.Core.Path.{_≡_};
 ghost use mathlib.Core.List.{[], _∷_};
 ghost use lib.ListN.{getD};
@@ -45,6 +45,8 @@ pub enum Command {
     Yield,
     // 0D a: return slot a
     Return(u8),
+    // 0E a: words from slot a's value up to hi are shared for reading
+    Share(u8),
 }
 
 // What reading one command finds.
@@ -71,16 +73,16 @@ struct Encoded {
     width: u8,
 }
 
-const WIDTHS: [u8; 14] = [0, 4, 4, 4, 3, 3, 4, 3, 5, 5, 1, 1, 1, 2];
+const WIDTHS: [u8; 15] = [0, 4, 4, 4, 3, 3, 4, 3, 5, 5, 1, 1, 1, 2, 2];
 
-const WEIGHTS: [u8; 14] = [0, 1, 1, 1, 2, 2, 1, 1, 6, 12, 1, 3, 3, 1];
+const WEIGHTS: [u8; 15] = [0, 1, 1, 1, 2, 2, 1, 1, 6, 12, 1, 3, 3, 1, 1];
 
 // The number of bytes of the command with this first byte; 0 where there is none.
 pub fn width(byte: u8) -> u8
     ensures { λ r. ⌜ r ≡ widthOf byte ⌝ }
 {
     let i = byte as usize;
-    if i < 14 {
+    if i < 15 {
         return WIDTHS[i];
     }
     0
@@ -91,14 +93,14 @@ pub fn weight(byte: u8) -> u8
     ensures { λ r. ⌜ r ≡ weightOf standardWeights byte ⌝ }
 {
     let i = byte as usize;
-    if i < 14 {
+    if i < 15 {
         return WEIGHTS[i];
     }
     0
 }
 
 // The table of weights, by first byte, for a loop that reads one for each command.
-pub fn weights() -> [u8; 14]
+pub fn weights() -> [u8; 15]
     ensures { λ r. ⌜ r ≡ standardWeights ⌝ }
 {
     WEIGHTS
@@ -148,7 +150,8 @@ fn decode(byte: u8, x: u8, y: u8, z: u8, w: u8) -> Command
         10 => Command::Join,
         11 => Command::Suspend,
         12 => Command::Yield,
-        _ => Command::Return(x),
+        13 => Command::Return(x),
+        _ => Command::Share(x),
     }
 }
 
@@ -264,6 +267,7 @@ fn encode(command: Command) -> Encoded
         Command::Suspend => first_bytes(1, 11, 0, 0, 0, 0),
         Command::Yield => first_bytes(1, 12, 0, 0, 0, 0),
         Command::Return(a) => first_bytes(2, 13, a, 0, 0, 0),
+        Command::Share(a) => first_bytes(2, 14, a, 0, 0, 0),
     }
 }
 

@@ -14,7 +14,7 @@ use Rattle.command.specs.Command.{decodedAt, widthOf}
 use Rattle.command.specs.Weight.{weightOf}
 use Rattle.image.specs.Layout.{argumentsOf, startOf}
 use Rattle.window.specs.declared.Window.{Window}
-use Rattle.window.specs.Rights.{childOf, restOf, rejoined}
+use Rattle.window.specs.Rights.{childOf, restOf, sharingOf, rejoined}
 use Rattle.window.proofs.Instance.{windows}
 use Rattle.stacklets.specs.Frames.{slotOf}
 use Rattle.forkjoin.proofs.Update.{update}
@@ -23,10 +23,10 @@ use Rattle.thread.specs.Effect.{effectOf}
 use Rattle.thread.specs.View.{contextOf}
 use Rattle.thread.specs.Thread.{isPending}
 use Rattle.thread.specs.Job.{Job, GoodJob, offsetAt, byteAt}
-use Rattle.thread.proofs.ThreadState.{ThreadState, effect, onward, started, behind-fork, behind-join, deliver}
+use Rattle.thread.proofs.ThreadState.{ThreadState, effect, onward, started, behind-fork, behind-join, behind-share, deliver}
 use Rattle.thread.proofs.MarkedWindows.{window-tests}
 use Rattle.serial.specs.declared.Routine.{Routine}
-use Rattle.serial.specs.Serial.{assigned, advanced, joined, forked, startedOn, argumentsFrom, weightAt, nextEffect}
+use Rattle.serial.specs.Serial.{assigned, advanced, joined, shared, forked, startedOn, argumentsFrom, weightAt, nextEffect}
 use Rattle.serial.specs.Steps.{GoodRoutine, firstSlots}
 use Rattle.serial.proofs.CommandMet.{nextOf, length-first}
 use Rattle.serial.proofs.FirstSlots.{first-at}
@@ -118,6 +118,16 @@ module _ (j : Job) (good : GoodJob j) (l : Routine) (g : GoodRoutine j l) where
     slots = listed (l .slots) 0;
     pending = sym none-pending ι;
     window = rejoined (l .window);
+  }
+
+  -- behind a 0E
+  pub share-is : (x : ℕ) → behind-share (codeOf j good) (stateOf l) (sharingOf (l .window) x) ≡ stateOf (advanced j (shared x l))
+  share-is x = λ ι. record {
+    routine = l .routine;
+    position = next-here ι;
+    slots = listed (l .slots) 0;
+    pending = isPending (l .pending);
+    window = sharingOf (l .window) x;
   }
 
   -- a fork's child

@@ -10,7 +10,7 @@ use lib.Dec.{ltb, leb, eqb}
 use lib.ListN.{length, set}
 use Rattle.command.specs.Command.{decodedAt}
 use Rattle.command.specs.declared.Command.{Command}
-use Rattle.command.specs.declared.Command.the-variants.{Set, Add, Subtract, Load, Store, JumpIfZero, Jump, Lfork, Fork, Join, Suspend, Yield, Return}
+use Rattle.command.specs.declared.Command.the-variants.{Set, Add, Subtract, Load, Store, JumpIfZero, Jump, Lfork, Fork, Join, Suspend, Yield, Return, Share}
 use Rattle.image.specs.declared.Verdict.{Verdict}
 use Rattle.image.specs.declared.Verdict.the-variants.{Accepted, Rejected}
 use Rattle.image.specs.Layout.{argumentsOf}
@@ -18,22 +18,22 @@ use Rattle.image.specs.Image.{imageVerdict, numberIn, numberOfRefusal}
 use Rattle.window.specs.Rights.{rootWindow, childOf}
 use Rattle.stacklets.specs.Frames.{slotOf}
 use Rattle.thread.specs.declared.Effect.{Effect}
-use Rattle.thread.specs.declared.Effect.the-variants.{Faults, Sets, Loads, Stores, Goes, Continues, Lforks, Forks, Joins, Suspends, Yields, Returns}
-use Rattle.thread.specs.Effect.{Context, anyPending, unlessPending, provided, forking, effectOf, asked}
+use Rattle.thread.specs.declared.Effect.the-variants.{Faults, Sets, Loads, Stores, Goes, Continues, Lforks, Forks, Joins, Suspends, Yields, Returns, Shares}
+use Rattle.thread.specs.Effect.{IsFault, Context, anyPending, unlessPending, provided, forking, effectOf, asked}
 use Rattle.thread.specs.Thread.{isPending}
 use Rattle.thread.specs.View.{contextOf}
 use Rattle.thread.specs.Job.{Job, offsetAt, wordAt}
 use Rattle.serial.specs.declared.Routine.{Routine}
-use Rattle.serial.specs.Serial.{Ended, done, stopped, andThen, Call, jumpedTo, assigned, advanced, joined, forked, startedOn, argumentsFrom, weightAt, nextEffect, forkCalled, carried, callWithin, callFrom, serialFrom}
+use Rattle.serial.specs.Serial.{Ended, done, stopped, andThen, Call, jumpedTo, assigned, advanced, joined, shared, forked, startedOn, argumentsFrom, weightAt, nextEffect, forkCalled, carried, callWithin, callFrom, serialFrom}
 use Rattle.serial.proofs.Whole.{refused, wrong-count, wrong-parameters, wrong-memory, all-right}
 use Rattle.demands.proofs.WholeRun.{refusal-range}
 use Rattle.demands.specs.Input.{Input, jobIn}
 use Rattle.demands.specs.Demands.{serialIn}
 use Rattle.demands.specs.WholeRun.{GoodImage, GoodArguments, RightWords, WrongWords, SerialNumbers}
 
--- A COMMAND'S FAULT is 9 to 12
+-- A COMMAND'S FAULT is 9 to 12, or 31
 abbrev Low : Effect → Type 0
-Low (Faults n) = (9 ≤ n) × (n ≤ 12)
+Low (Faults n) = IsFault n
 Low (Sets d v) = Unit {0}
 Low (Loads d a) = Unit {0}
 Low (Stores a v) = Unit {0}
@@ -45,23 +45,24 @@ Low Joins = Unit {0}
 Low Suspends = Unit {0}
 Low Yields = Unit {0}
 Low (Returns v) = Unit {0}
+Low (Shares x) = Unit {0}
 
 -- a record, so that the effect can be read off it
 record FaultLow (e : Effect) : Type 0 where
   low : Low e
 
-fault-unless : (n : ℕ) → 9 ≤ n → n ≤ 12 → (p : ℕ → Bool) (ks : List ℕ) (e : Effect) → FaultLow e → FaultLow (unlessPending n p ks e)
+fault-unless : (n : ℕ) → IsFault n → (p : ℕ → Bool) (ks : List ℕ) (e : Effect) → FaultLow e → FaultLow (unlessPending n p ks e)
 unfolding unlessPending
-fault-unless n l m p ks e f = go (anyPending p ks)
+fault-unless n l p ks e f = go (anyPending p ks)
   where
     go : (t : Bool) → FaultLow (cond t (Faults n) e)
-    go true = record { low = (l, m) }
+    go true = record { low = l }
     go false = f
 
-fault-provided : (t : Bool) (n : ℕ) → 9 ≤ n → n ≤ 12 → (e : Effect) → FaultLow e → FaultLow (provided t n e)
+fault-provided : (t : Bool) (n : ℕ) → IsFault n → (e : Effect) → FaultLow e → FaultLow (provided t n e)
 unfolding provided
-fault-provided true n l m e f = f
-fault-provided false n l m e f = record { low = (l, m) }
+fault-provided true n l e f = f
+fault-provided false n l e f = record { low = l }
 
 fault-choice : (t : Bool) (x y : Effect) → FaultLow x → FaultLow y → FaultLow (cond t x y)
 fault-choice true x y f g = f
@@ -70,28 +71,29 @@ fault-choice false x y f g = g
 module _ (arguments : ℕ → ℕ) (own : Context) where
   fault-fork : (r d a w : ℕ) (e : Effect) → FaultLow e → FaultLow (forking arguments own r d a w e)
   unfolding forking
-  fault-fork r d a w e f = fault-unless 9 (omega arith) (omega arith) _ _ _ (fault-provided _ 11 (omega arith) (omega arith) _ f)
+  fault-fork r d a w e f = fault-unless 9 (inl (omega arith, omega arith)) _ _ _ (fault-provided _ 11 (inl (omega arith, omega arith)) _ f)
 
   fault-low : (c : Command) → FaultLow (effectOf arguments own c)
   unfolding effectOf
-  fault-low (Set d v) = fault-unless 9 (omega arith) (omega arith) _ _ _ (record { low = tt })
-  fault-low (Add d a b) = fault-unless 9 (omega arith) (omega arith) _ _ _ (record { low = tt })
-  fault-low (Subtract d a b) = fault-unless 9 (omega arith) (omega arith) _ _ _ (record { low = tt })
-  fault-low (Load d a) = fault-unless 9 (omega arith) (omega arith) _ _ _ (fault-provided _ 10 (omega arith) (omega arith) _ (record { low = tt }))
-  fault-low (Store a b) = fault-unless 9 (omega arith) (omega arith) _ _ _ (fault-provided _ 10 (omega arith) (omega arith) _ (record { low = tt }))
+  fault-low (Set d v) = fault-unless 9 (inl (omega arith, omega arith)) _ _ _ (record { low = tt })
+  fault-low (Add d a b) = fault-unless 9 (inl (omega arith, omega arith)) _ _ _ (record { low = tt })
+  fault-low (Subtract d a b) = fault-unless 9 (inl (omega arith, omega arith)) _ _ _ (record { low = tt })
+  fault-low (Load d a) = fault-unless 9 (inl (omega arith, omega arith)) _ _ _ (fault-provided _ 10 (inl (omega arith, omega arith)) _ (record { low = tt }))
+  fault-low (Store a b) = fault-unless 9 (inl (omega arith, omega arith)) _ _ _ (fault-provided _ 10 (inl (omega arith, omega arith)) _ (record { low = tt }))
   fault-low (JumpIfZero a t) =
-      fault-unless 9 (omega arith) (omega arith) _ _ _ (fault-choice (eqb (own .slot a) 0) (Goes t) Continues (record { low = tt }) (record { low = tt }))
+      fault-unless 9 (inl (omega arith, omega arith)) _ _ _ (fault-choice (eqb (own .slot a) 0) (Goes t) Continues (record { low = tt }) (record { low = tt }))
   fault-low (Jump t) = record { low = tt }
   fault-low (Lfork r d a w) = fault-fork r d a w _ (record { low = tt })
   fault-low (Fork r d a w) = fault-fork r d a w _ (record { low = tt })
   fault-low Join = record { low = tt }
   fault-low Suspend = record { low = tt }
   fault-low Yield = record { low = tt }
-  fault-low (Return a) = fault-unless 12 (omega arith) (omega arith) _ _ _ (record { low = tt })
+  fault-low (Return a) = fault-unless 12 (inl (omega arith, omega arith)) _ _ _ (record { low = tt })
+  fault-low (Share a) = fault-unless 9 (inl (omega arith, omega arith)) _ _ _ (fault-provided _ 31 (inr refl) _ (record { low = tt }))
 
--- A ROUTINE ends by a command's number: "22, 12, 9, 10 or 11, 26"
+-- A ROUTINE ends by a command's number: "22, 12, 9, 10 or 11, 26", or 31
 abbrev OfCommand : ℕ → Type 0
-OfCommand n = ((9 ≤ n) × (n ≤ 12)) ⊎ ((n ≡ 22) ⊎ (n ≡ 26))
+OfCommand n = IsFault n ⊎ ((n ≡ 22) ⊎ (n ≡ 26))
 
 data Ends : Ended → Type 0 where
   returns : {v : ℕ} {m : List ℕ} {u : ℕ} → Ends (done v m u)
@@ -134,6 +136,7 @@ module _ (j : Job) where
   carried-ends f ih n l m u Suspends k = ih n (advanced j l) m (u + weightAt j l)
   carried-ends f ih n l m u Yields k = ih n (advanced j l) m (u + weightAt j l)
   carried-ends f ih n l m u (Returns v) k = returns
+  carried-ends f ih n l m u (Shares x) k = ih n (advanced j (shared x l)) m (u + weightAt j l)
 
   next-low : (l : Routine) → FaultLow (nextEffect j l)
   unfolding nextEffect
@@ -227,7 +230,7 @@ module _ (i : Input) where
     image : (k : ℕ) → 1 ≤ k → k ≤ 8 → n ≡ k → imageNumber ≡ k
     number24 : n ≡ 24 → GoodImage i × (¬ (GoodArguments i))
     number25 : n ≡ 25 → GoodImage i × GoodArguments i × WrongWords i
-    others : ((1 ≤ n) × (n ≤ 8)) ⊎ (((9 ≤ n) × (n ≤ 12)) ⊎ ((n ≡ 22) ⊎ ((24 ≤ n) × (n ≤ 26))))
+    others : ((1 ≤ n) × (n ≤ 8)) ⊎ (IsFault n ⊎ ((n ≡ 22) ⊎ ((24 ≤ n) × (n ≤ 26))))
 
   means : {n : ℕ} → Met n → Means n
   means (byImage low high h) = record {
@@ -248,11 +251,17 @@ module _ (i : Input) where
     number25 = λ e. (a, r, h);
     others = inr (inr (inr (omega arith, omega arith)));
   }
-  means (byCommand (inl x)) = record {
+  means (byCommand (inl (inl x))) = record {
     image = λ k l m e. absurd (omega (arith, x .0));
     number24 = λ e. absurd (omega (arith, x .1));
     number25 = λ e. absurd (omega (arith, x .1));
-    others = inr (inl x);
+    others = inr (inl (inl x));
+  }
+  means (byCommand (inl (inr x))) = record {
+    image = λ k l m e. absurd (omega arith);
+    number24 = λ e. absurd (omega arith);
+    number25 = λ e. absurd (omega arith);
+    others = inr (inl (inr x));
   }
   means (byCommand (inr (inl x))) = record {
     image = λ k l m e. absurd (omega arith);

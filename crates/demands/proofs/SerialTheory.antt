@@ -15,28 +15,28 @@ use Rattle.image.specs.Layout.{argumentsOf}
 use Rattle.image.proofs.Accepted.{accepted}
 use Rattle.image.proofs.Laws.{slots-most, arguments-most}
 use Rattle.window.specs.declared.Window.{Window}
-use Rattle.window.specs.Rights.{rootWindow, childOf, restOf, cutAt}
-use Rattle.window.proofs.Laws.{cut-made, root-fits}
-use Rattle.window.proofs.Instance.{windows, partsOf}
+use Rattle.window.specs.Rights.{rootWindow, childOf, restOf, sharingOf, cutAt}
+use Rattle.window.proofs.Laws.{cut-made, share-made, root-fits}
+use Rattle.window.proofs.Instance.{windows, partsOf, sharedOf}
 use Rattle.forkjoin.proofs.Update.{update}
 use Rattle.forkjoin.proofs.Arrays.{words-from, words-set}
 use Rattle.forkjoin.proofs.SerialRun.{Outcome as TheoryOutcome, done as t-done, stopped as t-stopped, and-then}
 use Rattle.thread.specs.declared.Effect.{Effect}
-use Rattle.thread.specs.declared.Effect.the-variants.{Faults, Sets, Loads, Stores, Goes, Continues, Lforks, Forks, Joins, Suspends, Yields, Returns}
+use Rattle.thread.specs.declared.Effect.the-variants.{Faults, Sets, Loads, Stores, Goes, Continues, Lforks, Forks, Joins, Suspends, Yields, Returns, Shares}
 use Rattle.thread.specs.Job.{Job, GoodJob, wordAt}
 use Rattle.thread.proofs.ThreadState.{ThreadState, effect, onward}
 use Rattle.thread.proofs.MarkedWindows.{window-tests}
-use Rattle.thread.proofs.SerialSteps.{serial, serial-short, serial-faults, serial-sets, serial-loads-parameter, serial-loads, serial-stores, serial-goes, serial-continues, serial-suspends, serial-yields, serial-joins, serial-returns, serial-lforks, serial-forks, serial-lforks-deep, serial-forks-deep, then-child}
+use Rattle.thread.proofs.SerialSteps.{serial, serial-short, serial-faults, serial-sets, serial-loads-parameter, serial-loads, serial-stores, serial-goes, serial-continues, serial-suspends, serial-yields, serial-shares, serial-joins, serial-returns, serial-lforks, serial-forks, serial-lforks-deep, serial-forks-deep, then-child}
 use Rattle.thread.specs.Effect.{asked}
 use Rattle.serial.specs.declared.Routine.{Routine}
-use Rattle.serial.specs.Serial.{Ended, done, stopped, andThen, jumpedTo, assigned, advanced, joined, forked, startedOn, argumentsFrom, weightAt, nextEffect, forkCalled, carried, callFrom, serialFrom}
+use Rattle.serial.specs.Serial.{Ended, done, stopped, andThen, jumpedTo, assigned, advanced, joined, shared, forked, startedOn, argumentsFrom, weightAt, nextEffect, forkCalled, carried, callFrom, serialFrom}
 use Rattle.serial.specs.Steps.{GoodRoutine}
 use Rattle.serial.proofs.CommandMet.{ForkMet, Known, Next, next-met, weighs, met, slots-few, fresh}
 use Rattle.serial.proofs.Unrolled.{Between, between, between-done, unrolled}
 use Rattle.simulation.proofs.JobCode.{codeOf}
 use Rattle.simulation.proofs.EntriesRun.{theoryJob, serialRun}
 use Rattle.simulation.proofs.PendingSlots.{none-pending}
-use Rattle.demands.proofs.RoutineState.{stateOf, first-listed, weight-here, effect-here, onward-is, set-is, join-is, child-is, parent-is}
+use Rattle.demands.proofs.RoutineState.{stateOf, first-listed, weight-here, effect-here, onward-is, set-is, join-is, share-is, child-is, parent-is}
 
 -- how a serial run ended, as the theory says it: memory words as a function of the address
 abbrev pub asOutcome : Ended → TheoryOutcome
@@ -193,6 +193,9 @@ module _ (j : Job) (good : GoodJob j) where
           ∙ ap (t-done v ws) charged);
       size = all;
     }
+    by-effect (Shares x) e k g' = goes (advanced j (shared x l)) m _ ws g' all (share-is j good l g x) refl
+        (serial-shares windows window-tests (codeOf j good) (j .allowance) n (stateOf l) ws u paid-here x (sharingOf (l .window) x) (met-here (Shares x) e)
+        (ap sharedOf (share-made (l .window) x (k .told .facts .0 .low) (k .told .facts .0 .high))))
 
   by-test : (f : ℕ) → Agree f → (n : ℕ) (l : Routine) (m : List ℕ) (u : ℕ) → GoodRoutine j l → length m ≡ 992 → j .allowance < u + suc f → (b : Bool)
       → ltb (j .allowance - u) (weightAt j l) ≡ b

@@ -11,6 +11,7 @@ use Rattle.image.specs.Layout.{argumentsOf}
 use Rattle.image.specs.Image.{imageVerdict, numberIn}
 use Rattle.schedule.specs.declared.Entry.{Entry}
 use Rattle.schedule.specs.Meaning.{entries, malformed, scheduleOf, IsSchedule, WellFormed}
+use Rattle.thread.specs.Effect.{IsFault}
 use Rattle.serial.specs.Serial.{stopped, serialFrom}
 use Rattle.demands.specs.Input.{Input, jobIn, refusalOf}
 use Rattle.demands.specs.Demands.{Takes, serialIn}
@@ -89,6 +90,6 @@ pub record SerialNumbers (i : Input) : Type 0 where
   pub number25 : StopsExactly i 25 (GoodImage i × GoodArguments i × WrongWords i)
   -- none of them: routine 0 is run
   pub runs : GoodImage i → GoodArguments i → RightWords i → serialIn i ≡ serialFrom (jobIn i) (i .arguments) (i .memory)
-  -- besides these it ends only by a command's number: "per command 22, 12, 9, 10 or 11, 26"
+  -- besides these it ends only by a command's number: "per command 22, 12, 9, 10 or 11, 26", and T-04's 31
   pub others : (n : ℕ) (m : List ℕ) (u : ℕ) → serialIn i ≡ stopped n m u
-      → ((1 ≤ n) × (n ≤ 8)) ⊎ (((9 ≤ n) × (n ≤ 12)) ⊎ ((n ≡ 22) ⊎ ((24 ≤ n) × (n ≤ 26))))
+      → ((1 ≤ n) × (n ≤ 8)) ⊎ (IsFault n ⊎ ((n ≡ 22) ⊎ ((24 ≤ n) × (n ≤ 26))))

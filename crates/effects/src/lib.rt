@@ -9,6 +9,7 @@ use thread::pending::any_pending;
 use thread::pending::is_pending;
 use thread::pending::some_pending;
 use window::Cut;
+use window::Share;
 use window::Window;
 ghost use mathlib.Core.Path.{_≡_};
 ghost use mathlib.Core.Bool.{cond};
@@ -17,9 +18,9 @@ ghost use lib.Dec.{eqb};
 ghost use Rattle.image.specs.Layout.{argumentsOf};
 ghost use Rattle.window.specs.Rights.{mayLoad, mayStore};
 ghost use Rattle.stacklets.specs.Frames.{slotOf};
-ghost use Rattle.thread.specs.declared.Effect.the-variants.{Sets, Loads, Stores, Goes, Continues, Lforks, Forks, Returns};
+ghost use Rattle.thread.specs.declared.Effect.the-variants.{Sets, Loads, Stores, Goes, Continues, Lforks, Forks, Returns, Shares};
 ghost use Rattle.thread.specs.Effect.{run, anyPending, unlessPending, provided, sum, difference, forking, effectOf};
-ghost use Rattle.thread.specs.View.{mayCut, contextOf};
+ghost use Rattle.thread.specs.View.{mayCut, mayShare, contextOf};
 ghost use Rattle.thread.specs.Thread.{isPending};
 
 // Is a cut at e in the window's range?
@@ -30,6 +31,17 @@ fn may_cut(window: Window, e: u32) -> bool
     match cut {
         Cut::Parts { child: _, rest: _ } => true,
         Cut::BadCut => false,
+    }
+}
+
+// Are the words from s up to hi the window's to share?
+fn may_share(window: Window, s: u32) -> bool
+    ensures { λ r. ⌜ r ≡ mayShare window s ⌝ }
+{
+    let shared = window.share(s);
+    match shared {
+        Share::Shared(_) => true,
+        Share::BadShare => false,
     }
 }
 
@@ -213,6 +225,19 @@ fn give_back(pending: u16, value: u32) -> Effect
     Effect::Returns(value)
 }
 
+// 0E: the words from slot a's value up to hi are shared for reading.
+fn share(pending: u16, window: Window, a: u8, value: u32) -> Effect
+    ensures { λ r. ⌜ r ≡ unlessPending 9 (isPending pending) (a ∷ []) (provided (mayShare window value) 31 (Shares value)) ⌝ }
+{
+    if is_pending(pending, a) {
+        return Effect::Faults(9);
+    }
+    if may_share(window, value) {
+        return Effect::Shares(value);
+    }
+    Effect::Faults(31)
+}
+
 // The effect of a command on a thread whose frame is at a base, with these pending slots and this window.
 pub fn effect(
     command: Command,
@@ -248,5 +273,6 @@ pub fn effect(
         Command::Suspend => Effect::Suspends,
         Command::Yield => Effect::Yields,
         Command::Return(a) => give_back(pending, slot(words, base, a)),
+        Command::Share(a) => share(pending, window, a, slot(words, base, a)),
     }
 }

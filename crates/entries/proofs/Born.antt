@@ -116,7 +116,7 @@ spot-low false p x free spot l h f g = head-below free 16 x h (sym f ∙ g)
 pub cut-parts : (w : Window) (e : ℕ) (c : Cut) (child rest : Window) → c ≡ cutAt w e → c ≡ Parts child rest → (child ≡ childOf w e) × (rest ≡ restOf w e)
 cut-parts w e c child rest f g = let m = cut-means w e child rest (sym f ∙ g) in (m .is-child, m .is-rest)
 
-pub cut-never : (w : Window) (e : ℕ) (c : Cut) → w .mark ≤ e → e ≤ w .hi → c ≡ cutAt w e → c ≡ BadCut → ⊥
+pub cut-never : (w : Window) (e : ℕ) (c : Cut) → w .mark ≤ e → e ≤ w .ceiling → c ≡ cutAt w e → c ≡ BadCut → ⊥
 cut-never w e c l h f g = let k = cut-made w e l h in let z : _≡_ {A = ℕ} 0 1 = cc in omega arith
 
 -- a new frame on a stacklet below 16

@@ -201,7 +201,7 @@ module _ {image starts parameters : List ℕ} {allowance : ℕ} {xs ws₀ ms₀ 
       byte-is : byteOf j (movedTo p th₀) ≡ byte
       byte-is = sym (at .first ∙ ap (λ (i : ℕ). getD image i 0) (at .there))
 
-      pub byte-low : byte < 14
+      pub byte-low : byte < 15
       byte-low = rw byte-is at (known-byte j (held p left ws ms) sound t (movedTo p th₀) met used)
 
       pub place-fits : place < 65536

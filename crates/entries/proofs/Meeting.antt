@@ -13,7 +13,7 @@ use Rattle.window.specs.declared.Window.{Window}
 use Rattle.window.proofs.Laws.{store-means}
 use Rattle.thread.specs.declared.Thread.{Thread}
 use Rattle.thread.specs.declared.Effect.{Effect}
-use Rattle.thread.specs.declared.Effect.the-variants.{Faults, Sets, Loads, Stores, Goes, Continues, Lforks, Forks, Joins, Suspends, Yields, Returns}
+use Rattle.thread.specs.declared.Effect.the-variants.{Faults, Sets, Loads, Stores, Goes, Continues, Lforks, Forks, Joins, Suspends, Yields, Returns, Shares}
 use Rattle.thread.specs.Effect.{Context, effectOf}
 use Rattle.thread.specs.Bytes.{bytesBy}
 use Rattle.thread.specs.View.{contextOf}
@@ -25,7 +25,7 @@ use Rattle.rules.specs.Turn.{offsetOf, byteOf}
 use Rattle.rules.specs.Return.{returnOf, returnToParent}
 use Rattle.rules.specs.Rules.{carriedOf}
 use Rattle.rules.specs.Sound.{Sound, Used}
-use Rattle.met.proofs.CommandMet.{cut-inside, place-small, next-small, byte-few, operands-few, tested-here, width-here}
+use Rattle.met.proofs.CommandMet.{cut-inside, share-inside, place-small, next-small, byte-few, operands-few, tested-here, width-here}
 use Rattle.tables.specs.Meaning.{meaning}
 use Rattle.entries.specs.Own.{Stored, IsOther}
 use Rattle.entries.specs.Given.{Seated, Carrying, recordIn, turnWith}
@@ -82,6 +82,7 @@ carried-wide j s c t w offset p n h Joins k l = let e : n ≡ 1 = k .is in rw (e
 carried-wide j s c t w offset p n h Suspends k l = let e : n ≡ 1 = k .is in rw (e, small (p + 1) (omega arith))
 carried-wide j s c t w offset p n h Yields k l = let e : n ≡ 1 = k .is in rw (e, small (p + 1) (omega arith))
 carried-wide j s c t w offset p n h (Returns v) k l = refl
+carried-wide j s c t w offset p n h (Shares x) k l = let e : n ≡ 2 = k .is in rw (e, small (p + 2) (omega arith))
 
 -- what was tested is what carrying out relies on
 module _ (arguments slot : ℕ → ℕ) (pending : ℕ → Bool) (w : Window) where
@@ -98,6 +99,7 @@ module _ (arguments slot : ℕ → ℕ) (pending : ℕ → Bool) (w : Window) wh
   stored Suspends g = tt
   stored Yields g = tt
   stored (Returns v) g = tt
+  stored (Shares x) g = tt
 
   module _ (xs : List ℕ) (c t weight : ℕ) (is-window : w ≡ recordIn xs t .family .window) (seated : Seated xs c t weight)
       (linked : recordIn xs t .connected ≡ true → recordIn xs t .origin .parent < 32) (other : recordIn xs t .origin .parent ≡ t → ⊥)
@@ -132,3 +134,5 @@ module _ (arguments slot : ℕ → ℕ) (pending : ℕ → Bool) (w : Window) wh
     carrying Suspends g o = record { seated = seated; linked = linked }
     carrying Yields g o = record { seated = seated; linked = linked }
     carrying (Returns v) g o = record { seated = seated; other = other }
+    carrying (Shares x) g o = let inside = share-inside w x (g .facts) in
+        record { seated = seated; low = rw is-window at (inside .0); high = rw is-window at (inside .1) }

@@ -12,11 +12,11 @@ use Rattle.queue.specs.Contents.{tailOf}
 use Rattle.window.specs.Rights.{childOf, restOf}
 use Rattle.thread.specs.declared.Thread.{Thread}
 use Rattle.thread.specs.declared.Effect.{Effect}
-use Rattle.thread.specs.declared.Effect.the-variants.{Faults, Sets, Loads, Stores, Goes, Continues, Lforks, Forks, Joins, Suspends, Yields, Returns}
+use Rattle.thread.specs.declared.Effect.the-variants.{Faults, Sets, Loads, Stores, Goes, Continues, Lforks, Forks, Joins, Suspends, Yields, Returns, Shares}
 use Rattle.thread.specs.Effect.{forking}
 use Rattle.thread.specs.View.{contextOf}
 use Rattle.thread.specs.declared.Status.{Status}
-use Rattle.thread.specs.Thread.{originOf, newThread, behindFork, joinedAt, isPending}
+use Rattle.thread.specs.Thread.{originOf, newThread, behindFork, joinedAt, sharedAt, isPending}
 use Rattle.rules.specs.State.{jobOf, State, threadAt}
 use Rattle.rules.specs.Update.{setThread, setFreeThreads, setFreeStacklets, setReady}
 use Rattle.rules.specs.Turn.{Turn, completed, goesOn}
@@ -68,7 +68,13 @@ pub record Forking (xs : List ℕ) (c t weight d e : ℕ) : Type 0 where
   pub stacklets : HeadBelow 16 (meaning xs [] [] .queues .freeStacklets)
   pub result : d < 16
   pub low : recordIn xs t .family .window .mark ≤ e
-  pub high : e ≤ recordIn xs t .family .window .hi
+  pub high : e ≤ recordIn xs t .family .window .ceiling
+
+-- a 0E, what it shares being in range
+pub record Sharing (xs : List ℕ) (c t weight x : ℕ) : Type 0 where
+  pub seated : Seated xs c t weight
+  pub low : recordIn xs t .family .window .mark ≤ x
+  pub high : x ≤ recordIn xs t .family .window .ceiling
 
 -- both records of a fork can be stored: the numbers are in the tables, the slot and the cut in range
 pub record Cutting (th : Thread) (t n d e : ℕ) : Type 0 where
@@ -77,7 +83,7 @@ pub record Cutting (th : Thread) (t n d e : ℕ) : Type 0 where
   pub children : th .family .children < 255
   pub result : d < 16
   pub low : th .family .window .mark ≤ e
-  pub high : e ≤ th .family .window .hi
+  pub high : e ≤ th .family .window .ceiling
 
 -- thread t's record behind a fork, which was th, and its child's, thread n with its frame at a base
 abbrev pub bothRecords : ForkKind → ℕ → ℕ → Thread → ℕ → Asked → ℕ → State → State
@@ -125,6 +131,7 @@ SeedMet xs c t weight Joins = ⊥
 SeedMet xs c t weight Suspends = ⊥
 SeedMet xs c t weight Yields = ⊥
 SeedMet xs c t weight (Returns v) = ⊥
+SeedMet xs c t weight (Shares x) = ⊥
 
 -- what a steal relies on: a sound state, with some parameter words and memory
 pub record Stealing (image starts : List ℕ) (allowance : ℕ) (xs words : List ℕ) : Type 0 where
@@ -152,10 +159,15 @@ Carrying xs c t weight Joins = Seated xs c t weight
 Carrying xs c t weight Suspends = Stands xs c t weight
 Carrying xs c t weight Yields = Stands xs c t weight
 Carrying xs c t weight (Returns v) = Returning xs c t weight
+Carrying xs c t weight (Shares x) = Sharing xs c t weight x
 
 -- a join passes
 abbrev pub passes : Turn → State → State
 passes o s = completed o (joinedAt (o .next) (o .thread)) s
+
+-- words are shared
+abbrev pub sharesAs : Turn → ℕ → State → State
+sharesAs o x s = completed o (sharedAt (o .next) x (o .thread)) s
 
 -- the command is completed, and the thread leaves its core
 abbrev pub leavesAs : Turn → Status → State → State

@@ -3,7 +3,7 @@ use mathlib.Core.List.{List}
 use mathlib.Core.Path.{_≡_}
 use Prim.Native.Nat.{ℕ, _+_, _%_, _≤_, _^_}
 use Rattle.thread.specs.declared.Effect.{Effect}
-use Rattle.thread.specs.declared.Effect.the-variants.{Faults, Sets, Loads, Stores, Goes, Continues, Lforks, Forks, Joins, Suspends, Yields, Returns}
+use Rattle.thread.specs.declared.Effect.the-variants.{Faults, Sets, Loads, Stores, Goes, Continues, Lforks, Forks, Joins, Suspends, Yields, Returns, Shares}
 use Rattle.thread.specs.Thread.{movedTo}
 use Rattle.thread.specs.Bytes.{bytesBy}
 use Rattle.rules.specs.State.{Job, State}
@@ -27,6 +27,7 @@ Stored Joins = Unit {0}
 Stored Suspends = Unit {0}
 Stored Yields = Unit {0}
 Stored (Returns v) = Unit {0}
+Stored (Shares x) = Unit {0}
 
 -- an effect of another kind
 abbrev pub IsOther : Effect → Type 0
@@ -42,6 +43,7 @@ IsOther Joins = Unit {0}
 IsOther Suspends = Unit {0}
 IsOther Yields = Unit {0}
 IsOther (Returns v) = Unit {0}
+IsOther (Shares x) = Unit {0}
 
 -- the state with these words and this memory
 abbrev pub withBoth : List ℕ → List ℕ → State → State

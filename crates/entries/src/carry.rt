@@ -1,4 +1,4 @@
-// The other commands of a step: forks, joins that pass, suspends, yields, returns and faults.
+// The other commands of a step: forks, joins that pass, suspends, yields, returns, shares and faults.
 use crate::fork::fork;
 use crate::leave::leave;
 use crate::returning::return_value;
@@ -14,6 +14,7 @@ use tables::records::thread_at;
 use thread::Effect;
 use thread::Status;
 use thread::record::joined_at;
+use thread::record::shared_at;
 ghost use mathlib.Core.List.{List};
 ghost use mathlib.Core.Path.{_≡_};
 ghost use Prim.Native.Nat.{ℕ, _+_, _%_, _^_};
@@ -24,7 +25,7 @@ ghost use Rattle.rules.specs.Turn.{goesOn};
 ghost use Rattle.rules.specs.Rules.{carriedOf};
 ghost use Rattle.tables.specs.Meaning.{meaning};
 ghost use Rattle.tables.specs.Change.{Becomes};
-ghost use Rattle.entries.specs.Given.{Seated, Stands, Carrying, turnIn, passes, leavesAs};
+ghost use Rattle.entries.specs.Given.{Seated, Sharing, Stands, Carrying, turnIn, passes, sharesAs, leavesAs};
 ghost use Rattle.dispatch.specs.Orderly.{after};
 
 // The command of thread t is done, and its next one is at a position.
@@ -36,14 +37,26 @@ pub fn go_on(tables: &mut [u8], t: u8, weight: u8, next: u16)
     charge(tables, weight);
 }
 
-// 0A: a join passes.
-fn pass_join(tables: &mut [u8], t: u8, weight: u8, next: u16)
+// 0A: a join passes. The log byte is given.
+fn pass_join(tables: &mut [u8], t: u8, weight: u8, next: u16) -> u8
     requires { ⌜ ((c : ℕ) × Seated (now tables) c t weight) ⌝ }
-    ensures { λ _. ⌜ ((c offset : ℕ) → Becomes (now (tables .entry)) (now (tables .exit)) (passes (turnIn (now (tables .entry)) c t weight next offset))) ⌝ }
+    ensures { λ r. ⌜ (r ≡ 0) × ((c offset : ℕ) → Becomes (now (tables .entry)) (now (tables .exit)) (passes (turnIn (now (tables .entry)) c t weight next offset))) ⌝ }
 {
     let th = thread_at(tables, t);
     put_thread(tables, t, joined_at(th, next));
     charge(tables, weight);
+    0
+}
+
+// 0E: words are shared for reading. The log byte is given.
+fn share(tables: &mut [u8], t: u8, weight: u8, next: u16, s: u32) -> u8
+    requires { ⌜ ((c : ℕ) × Sharing (now tables) c t weight s) ⌝ }
+    ensures { λ r. ⌜ (r ≡ 0) × ((c offset : ℕ) → Becomes (now (tables .entry)) (now (tables .exit)) (sharesAs (turnIn (now (tables .entry)) c t weight next offset) s)) ⌝ }
+{
+    let th = thread_at(tables, t);
+    put_thread(tables, t, shared_at(th, next, s));
+    charge(tables, weight);
+    0
 }
 
 // 0B and 0C: the command is done, and the thread leaves its core.
@@ -83,10 +96,7 @@ pub fn carry_other(
             let kind = ForkKind::Queued;
             fork(tables, words, kind, c, t, weight, past, image, r, d, a, e)
         }
-        Effect::Joins => {
-            pass_join(tables, t, weight, next);
-            0
-        }
+        Effect::Joins => pass_join(tables, t, weight, next),
         Effect::Suspends => {
             go_off(tables, c, t, weight, next, Status::Suspended);
             0
@@ -100,6 +110,7 @@ pub fn carry_other(
             return_value(tables, words, c, t, weight, v, image);
             0
         }
+        Effect::Shares(s) => share(tables, t, weight, wrapping_add_u16(position, 2), s),
         Effect::Faults(n) => {
             fail(tables, n, t, place);
             n

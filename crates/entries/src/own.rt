@@ -80,5 +80,6 @@ pub fn carry_own(
         Effect::Suspends => Own::Other,
         Effect::Yields => Own::Other,
         Effect::Returns(v) => Own::Other,
+        Effect::Shares(s) => Own::Other,
     }
 }

@@ -77,6 +77,7 @@ fn carry_seed(
         Effect::Suspends => 18,
         Effect::Yields => 18,
         Effect::Returns(v) => 18,
+        Effect::Shares(s) => 18,
     }
 }
 

@@ -18,9 +18,9 @@ beyond byte zero none h = h
 beyond byte (suc n) none h = let d = none .1 in let l : n < byte = beyond byte n (none .0) h in omega arith
 
 -- a byte that is no command has no width
-pub no-width : (byte : ℕ) → NoneOf byte 13 → widthOf byte ≡ 0
+pub no-width : (byte : ℕ) → NoneOf byte 14 → widthOf byte ≡ 0
 no-width zero none = refl
-no-width (suc k) none = let past : length widths ≤ suc k = beyond (suc k) 13 none (omega arith) in List·getD-eq-default widths 0 past
+no-width (suc k) none = let past : length widths ≤ suc k = beyond (suc k) 14 none (omega arith) in List·getD-eq-default widths 0 past
 
 module _ (x y z w : ℕ) where
   -- only 06 and 07 have a target
@@ -40,7 +40,8 @@ module _ (x y z w : ℕ) where
   no-target start (suc (suc (suc (suc (suc (suc (suc (suc (suc (suc (suc zero))))))))))) h n m = refl
   no-target start (suc (suc (suc (suc (suc (suc (suc (suc (suc (suc (suc (suc zero)))))))))))) h n m = refl
   no-target start (suc (suc (suc (suc (suc (suc (suc (suc (suc (suc (suc (suc (suc zero))))))))))))) h n m = refl
-  no-target start (suc (suc (suc (suc (suc (suc (suc (suc (suc (suc (suc (suc (suc (suc k)))))))))))))) h n m = absurd (omega arith)
+  no-target start (suc (suc (suc (suc (suc (suc (suc (suc (suc (suc (suc (suc (suc (suc zero)))))))))))))) h n m = refl
+  no-target start (suc (suc (suc (suc (suc (suc (suc (suc (suc (suc (suc (suc (suc (suc (suc k))))))))))))))) h n m = absurd (omega arith)
 
   -- 07 and 0D may stand last
   pub end-byte : (byte : ℕ) → 1 ≤ widthOf byte → mayEnd byte ≡ ends (decoded byte x y z w)
@@ -59,4 +60,5 @@ module _ (x y z w : ℕ) where
   end-byte (suc (suc (suc (suc (suc (suc (suc (suc (suc (suc (suc zero))))))))))) h = refl
   end-byte (suc (suc (suc (suc (suc (suc (suc (suc (suc (suc (suc (suc zero)))))))))))) h = refl
   end-byte (suc (suc (suc (suc (suc (suc (suc (suc (suc (suc (suc (suc (suc zero))))))))))))) h = refl
-  end-byte (suc (suc (suc (suc (suc (suc (suc (suc (suc (suc (suc (suc (suc (suc k)))))))))))))) h = absurd (omega arith)
+  end-byte (suc (suc (suc (suc (suc (suc (suc (suc (suc (suc (suc (suc (suc (suc zero)))))))))))))) h = refl
+  end-byte (suc (suc (suc (suc (suc (suc (suc (suc (suc (suc (suc (suc (suc (suc (suc k))))))))))))))) h = absurd (omega arith)

@@ -5,7 +5,7 @@ use Prim.Native.Nat.{ℕ, zero, suc, _+_}
 use lib.Dec.{leb, eqb}
 use lib.ListN.{length}
 use Rattle.command.specs.declared.Command.{Command}
-use Rattle.command.specs.declared.Command.the-variants.{Set, Add, Subtract, Load, Store, JumpIfZero, Jump, Lfork, Fork, Join, Suspend, Yield, Return}
+use Rattle.command.specs.declared.Command.the-variants.{Set, Add, Subtract, Load, Store, JumpIfZero, Jump, Lfork, Fork, Join, Suspend, Yield, Return, Share}
 use Rattle.command.specs.declared.CommandRead.{CommandRead}
 use Rattle.command.specs.declared.CommandRead.the-variants.{Found, Unknown, CutOff}
 use Rattle.command.specs.Command.{commandAt}
@@ -61,6 +61,7 @@ ends Join = false
 ends Suspend = false
 ends Yield = false
 ends (Return a) = true
+ends (Share a) = false
 
 -- may the last of these commands stand last? `before` says so of the command before them
 unfoldable pub lastEnds : Bool → List Placed → Bool
@@ -87,6 +88,7 @@ targetGood start Join = true
 targetGood start Suspend = true
 targetGood start Yield = true
 targetGood start (Return a) = true
+targetGood start (Share a) = true
 
 unfoldable pub targetsGood : (ℕ → Bool) → List Placed → Bool
 targetsGood start [] = true

@@ -5,7 +5,7 @@ use Prim.Native.Nat.{ℕ, zero, suc, _+_}
 use lib.Dec.{ltb, leb, eqb}
 use lib.ListN.{length}
 use Rattle.command.specs.declared.Command.{Command}
-use Rattle.command.specs.declared.Command.the-variants.{Set, Add, Subtract, Load, Store, JumpIfZero, Jump, Lfork, Fork, Join, Suspend, Yield, Return}
+use Rattle.command.specs.declared.Command.the-variants.{Set, Add, Subtract, Load, Store, JumpIfZero, Jump, Lfork, Fork, Join, Suspend, Yield, Return, Share}
 use Rattle.image.specs.declared.Verdict.{Verdict}
 use Rattle.image.specs.declared.Verdict.the-variants.{Accepted, Rejected}
 use Rattle.image.specs.declared.Refusal.{Refusal}
@@ -64,6 +64,7 @@ inRange s slots Join = true
 inRange s slots Suspend = true
 inRange s slots Yield = true
 inRange s slots (Return a) = allSlots slots (a ∷ [])
+inRange s slots (Share a) = allSlots slots (a ∷ [])
 
 -- n routines, from routine r on, one after the other
 unfoldable pub routinesVerdict : List ℕ → ℕ → ℕ → Verdict

@@ -115,6 +115,7 @@ pub fn test_at(image: &[u8], code: &[u8], slots: u8, at: usize) -> Tested
         11 => Tested::Width(1),
         12 => Tested::Width(1),
         13 => slot_at(code, slots, at, 2),
+        14 => slot_at(code, slots, at, 2),
         _ => Tested::Fails(Refusal::UnknownByte),
     }
 }

@@ -2,6 +2,7 @@
 -- charges nothing makes a thread wait or takes one off the ready queue (`balanced`). Assumes a sound state that is `Few`, and an image
 -- without 09, 0B and 0C.
 use mathlib.Core.List.{List}
+use mathlib.Core.Logic.{inl}
 use mathlib.Core.Path.{_≡_, refl}
 use Prim.Native.Nat.{ℕ}
 use native.Mathlib.Omega.{arith}
@@ -14,7 +15,7 @@ use Rattle.rules.specs.Fork.{asked, born, handed}
 use Rattle.rules.specs.Rules.{stealOf, entryOf}
 use Rattle.rules.specs.Sound.{Sound}
 use Rattle.soundness.proofs.EntryCases.{Seeded, Forked, StepCases, Cases, steal-by, entry-by}
-use Rattle.soundness.proofs.Tested.{fault-tested}
+use Rattle.soundness.proofs.Tested.{fault-tested, no-fault}
 use Rattle.soundness.proofs.ThreadsMet.{runner, lent-used}
 use Rattle.lonecore.specs.LforksOnly.{LforksOnly}
 use Rattle.lonecore.proofs.EffectsMet.{step-calls, no-fork, no-suspend, no-yield}
@@ -33,7 +34,7 @@ module _ (j : Job) (s : State) (ok : Sound j s) where
 
   pub steal-even : (c t : ℕ) → stealOf j s c t .log ≡ 0 → Even s (stealOf j s c t .state)
   steal-even c t = steal-by (λ a. a .log ≡ 0 → Even s (a .state)) j s (λ n l m z. absurd (omega arith)) c t
-      (λ k n q z. let y = fault-tested j s t n q in absurd (let x = y .0 in omega arith)) (λ k r d a w q n ns x xs f z. stolen-even c t k r d a w n ns x xs f)
+      (λ k n q z. absurd (no-fault n (fault-tested j s t n q) (inl (omega arith)))) (λ k r d a w q n ns x xs f z. stolen-even c t k r d a w n ns x xs f)
 
 module _ (j : Job) (s : State) (ok : Sound j s) (only : LforksOnly (j .image)) (few : Few s) where
   steps : StepCases (Shown s) j s
@@ -54,6 +55,7 @@ module _ (j : Job) (s : State) (ok : Sound j s) (only : LforksOnly (j .image)) (
     suspends = λ c t k q z e. absurd (no-suspend (step-calls j s ok only c t k Suspends q));
     yields = λ c t k q z e. absurd (no-yield (step-calls j s ok only c t k Yields q));
     returns = λ c t k v q. returned j s ok c t v k;
+    shares = λ c t k x q z e. own j s ok c t _ _ k refl refl refl refl;
   }
 
   cases : Cases (Shown s) j s

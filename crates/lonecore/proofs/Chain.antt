@@ -28,7 +28,7 @@ use Rattle.soundness.proofs.Changes.{standing, one-changed, two-changed, used-l
 use Rattle.soundness.proofs.StepCases.{Stepped, Waits, Forked, StepCases, step-by}
 use Rattle.soundness.proofs.ForkTree.{among-some, child-some}
 use Rattle.soundness.proofs.Parts.{runs}
-use Rattle.soundness.proofs.Tested.{fault-tested}
+use Rattle.soundness.proofs.Tested.{fault-tested, no-fault}
 use Rattle.soundness.proofs.ThreadsMet.{runner, parent-used, child-not-root, child-not-first}
 use Rattle.lonecore.specs.LforksOnly.{LforksOnly}
 use Rattle.lonecore.proofs.EffectsMet.{step-calls, no-fork, no-suspend, no-yield}
@@ -171,7 +171,7 @@ module _ (j : Job) (s : State) (ok : Sound j s) (only : LforksOnly (j .image)) (
   steps : StepCases (Onward s) j s
   steps = record {
     refuses = λ n l m. (λ _. alone, λ z. absurd (omega arith));
-    fault = λ c t k n q. (λ z. let y : _≡_ {A = ℕ} 0 1 = cc in absurd (omega arith), λ z. let y = fault-tested j s t n q in absurd (let x = y .0 in omega arith));
+    fault = λ c t k n q. (λ z. let y : _≡_ {A = ℕ} 0 1 = cc in absurd (omega arith), λ z. absurd (no-fault n (fault-tested j s t n q) (inl (omega arith))));
     waiting = λ c t w. absurd (no-wait c t w);
     sets = λ c t k d v q. own-step c t _ _ k refl refl refl refl refl;
     loads = λ c t k d a q. own-step c t _ _ k refl refl refl refl refl;
@@ -184,6 +184,7 @@ module _ (j : Job) (s : State) (ok : Sound j s) (only : LforksOnly (j .image)) (
     suspends = λ c t k q. absurd (no-suspend (step-calls j s ok only c t k Suspends q));
     yields = λ c t k q. absurd (no-yield (step-calls j s ok only c t k Yields q));
     returns = λ c t k v q. returned c t v k;
+    shares = λ c t k x q. own-step c t _ _ k refl refl refl refl refl;
   }
 
   pub onward : (c : ℕ) → Onward s (stepOf j s c)

@@ -22,7 +22,7 @@ use Rattle.forkjoin.proofs.TreeStart.{begin}
 use Rattle.forkjoin.proofs.Units.{step-units}
 use Rattle.forkjoin.proofs.Deeper.{deeper}
 use Rattle.thread.specs.declared.Effect.{Effect}
-use Rattle.thread.specs.declared.Effect.the-variants.{Faults, Sets, Loads, Stores, Goes, Continues, Lforks, Forks, Joins, Suspends, Yields, Returns}
+use Rattle.thread.specs.declared.Effect.the-variants.{Faults, Sets, Loads, Stores, Goes, Continues, Lforks, Forks, Joins, Suspends, Yields, Returns, Shares}
 use Rattle.thread.proofs.Routines.{Code}
 use Rattle.thread.proofs.ThreadState.{ThreadState, effect, by-join, split, actOf}
 use Rattle.thread.proofs.LawfulThreads.{threads}
@@ -102,6 +102,7 @@ module _ (j : Job) (good : GoodJob j) where
   act-same n l Suspends = refl
   act-same n l Yields = refl
   act-same n l (Returns v) = refl
+  act-same n l (Shares x) = refl
 
   module _ (k : ℕ) where
     abbrev pub weighed : Language

@@ -12,11 +12,11 @@ use lib.Dec.{ltb}
 use lib.ListN.{set}
 use Rattle.window.specs.Rights.{childOf}
 use Rattle.thread.specs.declared.Effect.{Effect}
-use Rattle.thread.specs.declared.Effect.the-variants.{Faults, Sets, Loads, Stores, Goes, Continues, Lforks, Forks, Joins, Suspends, Yields, Returns}
+use Rattle.thread.specs.declared.Effect.the-variants.{Faults, Sets, Loads, Stores, Goes, Continues, Lforks, Forks, Joins, Suspends, Yields, Returns, Shares}
 use Rattle.thread.specs.Effect.{Asked, asked}
 use Rattle.thread.specs.Job.{Job, wordAt}
 use Rattle.serial.specs.declared.Routine.{Routine}
-use Rattle.serial.specs.Serial.{Ended, done, stopped, Call, andThen, jumpedTo, weightAt, advanced, assigned, joined, forked, startedOn, argumentsFrom, nextEffect, forkCalled, carried, callWithin}
+use Rattle.serial.specs.Serial.{Ended, done, stopped, Call, andThen, jumpedTo, weightAt, advanced, assigned, joined, shared, forked, startedOn, argumentsFrom, nextEffect, forkCalled, carried, callWithin}
 use Rattle.lonecore.specs.Depth.{Depth, behindChild, forkDepth, carriedDepth, depthWithin}
 
 abbrev pub Finishes : Ended → Type 0
@@ -116,6 +116,7 @@ module _ (j : Job) where
   carried-exact f ih k n l m u h Joins = ih k n (advanced j (joined l)) m (u + weightAt j l) h
   carried-exact f ih k n l m u h Suspends = ih k n (advanced j l) m (u + weightAt j l) h
   carried-exact f ih k n l m u h Yields = ih k n (advanced j l) m (u + weightAt j l) h
+  carried-exact f ih k n l m u h (Shares x) = ih k n (advanced j (shared x l)) m (u + weightAt j l) h
   carried-exact f ih k n l m u h (Returns v) = (record { same = λ _. refl; fits = λ _. h }, omega arith)
 
   all-exact : (f : ℕ) → AllExact f

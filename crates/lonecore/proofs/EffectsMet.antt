@@ -6,12 +6,12 @@ use Prim.Native.Nat.{ℕ, _+_}
 use native.Mathlib.Omega.{arith}
 use lib.Dec.{eqb}
 use Rattle.command.specs.declared.Command.{Command}
-use Rattle.command.specs.declared.Command.the-variants.{Set, Add, Subtract, Load, Store, JumpIfZero, Jump, Lfork, Fork, Join, Suspend, Yield, Return}
+use Rattle.command.specs.declared.Command.the-variants.{Set, Add, Subtract, Load, Store, JumpIfZero, Jump, Lfork, Fork, Join, Suspend, Yield, Return, Share}
 use Rattle.command.specs.Command.{decoded, decodedAt}
 use Rattle.command.proofs.Bools.{neither}
 use Rattle.image.specs.Layout.{argumentsOf}
 use Rattle.thread.specs.declared.Effect.{Effect}
-use Rattle.thread.specs.declared.Effect.the-variants.{Faults, Sets, Loads, Stores, Goes, Continues, Lforks, Forks, Joins, Suspends, Yields, Returns}
+use Rattle.thread.specs.declared.Effect.the-variants.{Faults, Sets, Loads, Stores, Goes, Continues, Lforks, Forks, Joins, Suspends, Yields, Returns, Shares}
 use Rattle.thread.specs.Effect.{Context, anyPending, unlessPending, provided, forking, effectOf}
 use Rattle.rules.specs.State.{Job, State, threadAt}
 use Rattle.rules.specs.Turn.{effectAt}
@@ -35,6 +35,7 @@ isCalling Join = true
 isCalling Suspend = false
 isCalling Yield = false
 isCalling (Return a) = true
+isCalling (Share a) = true
 
 -- and an effect
 abbrev pub calls : Effect → Bool
@@ -50,6 +51,7 @@ calls Joins = true
 calls Suspends = false
 calls Yields = false
 calls (Returns v) = true
+calls (Shares x) = true
 
 either : {A : Type 0} (f : A → Bool) (b : Bool) (x y : A) → f x ≡ true → f y ≡ true → f (cond b x y) ≡ true
 either f true x y p q = p
@@ -70,7 +72,8 @@ decoded-calls byte x y z w h =
     (either isCalling (eqb byte 6) _ _ refl
     (either isCalling (eqb byte 7) _ _ refl
     (either isCalling (eqb byte 8) _ _ refl
-    (either isCalling (eqb byte 10) _ _ refl refl)))))))))
+    (either isCalling (eqb byte 10) _ _ refl
+    (either isCalling (eqb byte 13) _ _ refl refl))))))))))
 
 unless : (n : ℕ) (p : ℕ → Bool) (ks : List ℕ) (e : Effect) → calls e ≡ true → calls (unlessPending n p ks e) ≡ true
 unfolding unlessPending
@@ -96,6 +99,7 @@ effect-calls arguments x Join h = refl
 effect-calls arguments x Suspend h = let z : _≡_ {A = ℕ} 0 1 = cc in absurd (omega arith)
 effect-calls arguments x Yield h = let z : _≡_ {A = ℕ} 0 1 = cc in absurd (omega arith)
 effect-calls arguments x (Return a) h = unless 12 (x .pending) _ _ refl
+effect-calls arguments x (Share a) h = unless 9 (x .pending) _ _ (given _ _ _ refl)
 
 -- what thread t meets
 pub met-calls : (j : Job) (s : State) → GoodJob j → Positioned j s → LforksOnly (j .image) → (t : ℕ) → Used s t → (e : Effect)

@@ -123,6 +123,7 @@ module _ (j : Job) (s : State) (ok : Sound j s) (only : LforksOnly (j .image)) (
     suspends = λ c t k q e. absurd (no-suspend (step-calls j s ok only c t k Suspends q));
     yields = λ c t k q e. absurd (no-yield (step-calls j s ok only c t k Yields q));
     returns = λ c t k v q. returned c t v k;
+    shares = λ c t k x q e. own t _ _ refl refl refl refl refl;
   }
 
   pub few-step : (c : ℕ) → StaysFew (stepOf j s c)

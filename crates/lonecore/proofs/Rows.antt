@@ -5,7 +5,7 @@ use Rattle.image.specs.Layout.{startOf, rowsOf, startsUpTo}
 use Rattle.image.specs.Code.{commandsFrom, commandsOf, verdictFrom, lastEnds, isStart, targetsGood, routineVerdict}
 use Rattle.image.specs.Image.{rowsGood, inRange, routinesVerdict, imageVerdict}
 use Rattle.queue.specs.Contents.{appended}
-use Rattle.window.specs.Rights.{mayStore, mayLoad, cutAt}
+use Rattle.window.specs.Rights.{mayStore, mayLoad, cutAt, shareAt}
 use Rattle.stacklets.specs.Tops.{fitsOn, pushedTops}
 use Rattle.stacklets.specs.Frames.{argumentsAt, framed, pushedWords}
 use Rattle.thread.specs.Effect.{run, anyPending, unlessPending, provided, forking, effectOf}
@@ -26,21 +26,21 @@ use Rattle.lonecore.specs.Depth.{carriedDepth, depthWithin}
 use Rattle.lonecore.specs.Rows.{eachPlain, commandsFor, depthFor, byHand, commandRows, depthRows, loneRows, bounds, boundsByHand, used, usedByHand}
 
 pub command-rows-hold : eachPlain commandsFor commandRows ≡ eachPlain byHand commandRows
-unfolding commandAt decoded startOf rowsOf startsUpTo commandsFrom commandsOf verdictFrom lastEnds isStart targetsGood routineVerdict rowsGood inRange routinesVerdict imageVerdict mayStore mayLoad cutAt run anyPending unlessPending provided forking effectOf isPending withPending nextEffect carried callWithin callFrom serialFrom serialOf
+unfolding commandAt decoded startOf rowsOf startsUpTo commandsFrom commandsOf verdictFrom lastEnds isStart targetsGood routineVerdict rowsGood inRange routinesVerdict imageVerdict mayStore mayLoad cutAt shareAt run anyPending unlessPending provided forking effectOf isPending withPending nextEffect carried callWithin callFrom serialFrom serialOf
 command-rows-hold = refl
 
 pub depth-rows-hold : eachPlain depthFor depthRows ≡ eachPlain byHand depthRows
-unfolding decoded startOf rowsOf startsUpTo mayStore mayLoad cutAt run anyPending unlessPending provided forking effectOf isPending withPending nextEffect carried callWithin carriedDepth depthWithin
+unfolding decoded startOf rowsOf startsUpTo mayStore mayLoad cutAt shareAt run anyPending unlessPending provided forking effectOf isPending withPending nextEffect carried callWithin carriedDepth depthWithin
 depth-rows-hold = refl
 
 pub lone-rows-hold : eachScheduled scheduledByRounds loneRows ≡ eachScheduled scheduledByHand loneRows
-unfolding decoded startOf rowsOf startsUpTo appended fitsOn pushedTops argumentsAt framed pushedWords run anyPending unlessPending provided forking effectOf isPending withPending mayStore mayLoad cutAt startState effectAt leaves goesAbove placeOf born forkOn forkWith forkOf stackletsWithout wakes statusAfter readyAfter returnToParent returnOf carriedOf turnOf stepOf entryOf choiceOf suspendedFrom recorded tried turns wakened rounds
+unfolding decoded startOf rowsOf startsUpTo appended fitsOn pushedTops argumentsAt framed pushedWords run anyPending unlessPending provided forking effectOf isPending withPending mayStore mayLoad cutAt shareAt startState effectAt leaves goesAbove placeOf born forkOn forkWith forkOf stackletsWithout wakes statusAfter readyAfter returnToParent returnOf carriedOf turnOf stepOf entryOf choiceOf suspendedFrom recorded tried turns wakened rounds
 lone-rows-hold = refl
 
 pub bounds-hold : bounds ≡ boundsByHand
-unfolding decoded startOf rowsOf startsUpTo mayStore mayLoad cutAt run anyPending unlessPending provided forking effectOf isPending withPending nextEffect carried callWithin carriedDepth depthWithin
+unfolding decoded startOf rowsOf startsUpTo mayStore mayLoad cutAt shareAt run anyPending unlessPending provided forking effectOf isPending withPending nextEffect carried callWithin carriedDepth depthWithin
 bounds-hold = refl
 
 pub used-hold : used ≡ usedByHand
-unfolding decoded startOf rowsOf startsUpTo appended fitsOn pushedTops argumentsAt framed pushedWords run anyPending unlessPending provided forking effectOf isPending withPending mayStore mayLoad cutAt startState effectAt goesAbove placeOf born forkOn forkWith forkOf carriedOf turnOf stepOf isSeed stolenOf stealOf entryOf runFrom recordsIn
+unfolding decoded startOf rowsOf startsUpTo appended fitsOn pushedTops argumentsAt framed pushedWords run anyPending unlessPending provided forking effectOf isPending withPending mayStore mayLoad cutAt shareAt startState effectAt goesAbove placeOf born forkOn forkWith forkOf carriedOf turnOf stepOf isSeed stolenOf stealOf entryOf runFrom recordsIn
 used-hold = refl

@@ -16,6 +16,7 @@ use Rattle.schedule.specs.declared.Entry.the-variants.{Enable}
 use Rattle.schedule.specs.Format.{bytesOfEntry}
 use Rattle.thread.specs.declared.Status.the-variants.{Suspended}
 use Rattle.thread.specs.declared.Thread.{Thread}
+use Rattle.thread.specs.Effect.{IsFault}
 use Rattle.thread.specs.Thread.{blankThread, none, statusNumber, _is_}
 use Rattle.rules.specs.State.{Job, State, going, isOver}
 use Rattle.rules.specs.Rules.{entryOf}
@@ -61,9 +62,10 @@ open-try p h = not-over (p .state .outcome) (negated (isOver (p .state .outcome)
     negated false e = refl
 
 -- accepted, or a fault
-written-as : (x : ℕ) → isWritten x ≡ true → (x ≡ 0) ⊎ ((9 ≤ x) × (x ≤ 12))
-written-as x h = ⊎-elim (λ e. inl (eqb-true x 0 e))
-    (λ e. let (a, b) = both (leb 9 x) (leb x 12) e in inr (leb-true 9 x a, leb-true x 12 b)) (or-true (eqb x 0) (leb 9 x && leb x 12) h)
+written-as : (x : ℕ) → isWritten x ≡ true → (x ≡ 0) ⊎ IsFault x
+written-as x h = ⊎-elim (λ e. inl (eqb-true x 0 e)) (λ e. inr (⊎-elim
+    (λ f. let (a, b) = both (leb 9 x) (leb x 12) f in inl (leb-true 9 x a, leb-true x 12 b)) (λ f. inr (eqb-true x 31 f))
+    (or-true (leb 9 x && leb x 12) (eqb x 31) e))) (or-true (eqb x 0) ((leb 9 x && leb x 12) || eqb x 31) h)
 
 module _ (j : Job) (good : GoodJob j) (arguments memory : List ℕ) (k : ℕ) (low : k ≤ 31) (only : LforksOnly (j .image))
     (E : Ending j good arguments memory k low) (enough : E .end .units ≤ j .allowance) (start : State) (count : ℕ) where
@@ -101,11 +103,11 @@ module _ (j : Job) (good : GoodJob j) (arguments memory : List ℕ) (k : ℕ) (l
           × (entryOf j s (choiceOf j s c) .state .count ≡ count)
       accepted z = by (goes j good arguments memory k low only E enough (there .0) s (there .1) c z)
 
-      faulty : (9 ≤ entryOf j s (choiceOf j s c) .log) × (entryOf j s (choiceOf j s c) .log ≤ 12)
+      faulty : IsFault (entryOf j s (choiceOf j s c) .log)
           → (n : ℕ) × Stands j good arguments memory k low only E enough n (entryOf j s (choiceOf j s c) .state)
           × (entryOf j s (choiceOf j s c) .state .count ≡ count)
       faulty z =
-          let f = faulted-moves j good s (entryOf j s (choiceOf j s c)) (entry-moves j good s (there .1 .sound) (choiceOf j s c)) (z .0) (z .1) in
+          let f = faulted-moves j good s (entryOf j s (choiceOf j s c)) (entry-moves j good s (there .1 .sound) (choiceOf j s c)) z in
           let e = f .over in
           let y : _≡_ {A = ℕ} 0 1 = cc in
           absurd (omega arith)

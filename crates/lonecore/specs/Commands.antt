@@ -7,9 +7,9 @@ use Rattle.thread.specs.Job.{Job}
 use Rattle.serial.specs.Serial.{Ended, done, stopped, serialOf}
 use Rattle.demands.specs.Input.{Input, jobIn}
 
--- of the commands 01 to 0D, each weighs 1
+-- of the commands 01 to 0E, each weighs 1
 abbrev pub oneEach : List ℕ
-oneEach = 0 ∷ 1 ∷ 1 ∷ 1 ∷ 1 ∷ 1 ∷ 1 ∷ 1 ∷ 1 ∷ 1 ∷ 1 ∷ 1 ∷ 1 ∷ 1 ∷ []
+oneEach = 0 ∷ 1 ∷ 1 ∷ 1 ∷ 1 ∷ 1 ∷ 1 ∷ 1 ∷ 1 ∷ 1 ∷ 1 ∷ 1 ∷ 1 ∷ 1 ∷ 1 ∷ []
 
 -- the same job with these weights
 abbrev pub countingJob : Job → Job

@@ -9,11 +9,11 @@ use lib.Dec.{ltb, leb}
 use lib.ListN.{set}
 use Rattle.window.specs.Rights.{rootWindow, childOf}
 use Rattle.thread.specs.declared.Effect.{Effect}
-use Rattle.thread.specs.declared.Effect.the-variants.{Faults, Sets, Loads, Stores, Goes, Continues, Lforks, Forks, Joins, Suspends, Yields, Returns}
+use Rattle.thread.specs.declared.Effect.the-variants.{Faults, Sets, Loads, Stores, Goes, Continues, Lforks, Forks, Joins, Suspends, Yields, Returns, Shares}
 use Rattle.thread.specs.Effect.{Asked, asked}
 use Rattle.thread.specs.Job.{Job, wordAt}
 use Rattle.serial.specs.declared.Routine.{Routine}
-use Rattle.serial.specs.Serial.{Ended, done, stopped, Call, jumpedTo, weightAt, advanced, assigned, joined, forked, startedOn, argumentsFrom, nextEffect, callWithin}
+use Rattle.serial.specs.Serial.{Ended, done, stopped, Call, jumpedTo, weightAt, advanced, assigned, joined, shared, forked, startedOn, argumentsFrom, nextEffect, callWithin}
 use Rattle.demands.specs.Input.{Input, jobIn}
 
 -- how deep a run goes from an open routine, n deep, with memory m and units u
@@ -50,6 +50,7 @@ module _ (j : Job) (call : Call) (depth : Depth) where
   carriedDepth n l m u Suspends = depth n (advanced j l) m (u + weightAt j l)
   carriedDepth n l m u Yields = depth n (advanced j l) m (u + weightAt j l)
   carriedDepth n l m u (Returns v) = n
+  carriedDepth n l m u (Shares x) = depth n (advanced j (shared x l)) m (u + weightAt j l)
 
 -- beside `callWithin`: a command that passes the allowance is not carried out
 unfoldable pub depthWithin : Job → ℕ → Depth

@@ -69,6 +69,16 @@ behindStored =
     ((0x01 ∷ 0x02 ∷ 0x21 ∷ 0x00 ∷ 0x01 ∷ 0x00 ∷ 0x01 ∷ 0x00 ∷ 0x05 ∷ 0x02 ∷ 0x00 ∷ 0x04 ∷ 0x01 ∷ 0x02 ∷ [])
     ++ (0x06 ∷ 0x01 ∷ 0x18 ∷ 0x00 ∷ 0x08 ∷ 0x01 ∷ 0x00 ∷ 0x00 ∷ 0x02 ∷ 0x0A ∷ 0x0D ∷ 0x02 ∷ []))
 
+-- 01 2 1000; 0E 2; 08 1 0 0 2; 0A; 0D 0: it shares from its cut on
+abbrev pub behindShare : List ℕ
+behindShare = overFive 0x0E (0x01 ∷ 0x02 ∷ 0xE8 ∷ 0x03 ∷ 0x0E ∷ 0x02 ∷ 0x08 ∷ 0x01 ∷ 0x00 ∷ 0x00 ∷ 0x02 ∷ 0x0A ∷ 0x0D ∷ 0x00 ∷ [])
+
+-- 01 2 1000; 0E 2; 01 1 1001; 08 1 0 0 1; 0A; 0D 0: its cut is above the ceiling (11), so that it has no child
+abbrev pub cutAboveShare : List ℕ
+cutAboveShare =
+    overFive 0x12
+    ((0x01 ∷ 0x02 ∷ 0xE8 ∷ 0x03 ∷ 0x0E ∷ 0x02 ∷ 0x01 ∷ 0x01 ∷ 0xE9 ∷ 0x03 ∷ []) ++ (0x08 ∷ 0x01 ∷ 0x00 ∷ 0x00 ∷ 0x01 ∷ 0x0A ∷ 0x0D ∷ 0x00 ∷ []))
+
 -- the commands of runs that finish
 abbrev pub commandRows : List PlainRow
 commandRows =
@@ -85,6 +95,8 @@ commandRows =
     ∷ row behindAccess [] 100 9
     -- suspend, yield and return weigh 7, and are 3 commands
     ∷ row (oneRoutine (0x0B ∷ 0x0C ∷ 0x0D ∷ 0x00 ∷ [])) [] 7 3
+    -- 5 of routine 0, 0E among them, and 2
+    ∷ row behindShare [] 100 7
     ∷ []
 
 -- how deep runs go, "the root being 1", whether or not they finish
@@ -113,6 +125,10 @@ depthRows =
     ∷ row (overTwo 2 1) [] 22 3
     ∷ row (overTwo 2 1) [] 21 2
     ∷ row behindStored [] 100 2
+    -- a fork of 6 behind 1 + 1, and none
+    ∷ row behindShare [] 8 2
+    ∷ row behindShare [] 7 1
+    ∷ row cutAboveShare [] 100 1
     ∷ []
 
 -- "Whole" on one core has 10 commands: 21 bytes are enough, and of 20 the last command finds 2

@@ -11,7 +11,7 @@ use borrow.Author.Tests.{ltb-true, leb-true}
 use lib.Dec.{ltb, leb, eqb}
 use lib.ListN.{getD, length, List·getD-eq-default}
 use Rattle.command.specs.declared.Command.{Command}
-use Rattle.command.specs.declared.Command.the-variants.{Set, Add, Subtract, Load, Store, JumpIfZero, Jump, Lfork, Fork, Join, Suspend, Yield, Return}
+use Rattle.command.specs.declared.Command.the-variants.{Set, Add, Subtract, Load, Store, JumpIfZero, Jump, Lfork, Fork, Join, Suspend, Yield, Return, Share}
 use Rattle.command.specs.Command.{decodedAt, widthOf}
 use Rattle.command.specs.Weight.{weightOf}
 use Rattle.command.proofs.Bools.{both}
@@ -25,25 +25,35 @@ use Rattle.image.proofs.Laws.{Placed, placed, slots-most}
 use Rattle.window.specs.declared.Window.{Window}
 use Rattle.window.specs.declared.Cut.{Cut}
 use Rattle.window.specs.declared.Cut.the-variants.{Parts, BadCut}
-use Rattle.window.specs.Rights.{cutAt}
-use Rattle.window.proofs.Laws.{cut-means}
+use Rattle.window.specs.declared.Share.{Share as Sharing}
+use Rattle.window.specs.declared.Share.the-variants.{Shared, BadShare}
+use Rattle.window.specs.Rights.{cutAt, shareAt}
+use Rattle.window.proofs.Laws.{cut-means, share-means}
 use Rattle.thread.specs.declared.Effect.{Effect}
-use Rattle.thread.specs.declared.Effect.the-variants.{Faults, Sets, Loads, Stores, Goes, Continues, Lforks, Forks, Joins, Suspends, Yields, Returns}
+use Rattle.thread.specs.declared.Effect.the-variants.{Faults, Sets, Loads, Stores, Goes, Continues, Lforks, Forks, Joins, Suspends, Yields, Returns, Shares}
 use Rattle.thread.specs.Effect.{Context, anyPending, unlessPending, provided, forking, effectOf}
-use Rattle.thread.specs.View.{contextOf, mayCut, isCut}
+use Rattle.thread.specs.View.{contextOf, mayCut, isCut, mayShare, isShared}
 use Rattle.thread.specs.Job.{Job, GoodJob, offsetAt, byteAt}
 use Rattle.thread.proofs.Routines.{InRange}
 use Rattle.met.proofs.Operands.{in-frame, in-range}
 use Rattle.thread.proofs.EffectFacts.{AllClear, all-clear, Guarded, guarded}
 use Rattle.thread.proofs.Widths.{Widened, decoded-wide}
 
--- a cut that is allowed lies between the mark and hi
-pub cut-inside : (w : Window) (e : ℕ) → mayCut w e ≡ true → (w .mark ≤ e) × (e ≤ w .hi)
+-- a cut that is allowed lies between the mark and the ceiling
+pub cut-inside : (w : Window) (e : ℕ) → mayCut w e ≡ true → (w .mark ≤ e) × (e ≤ w .ceiling)
 cut-inside w e h = go (cutAt w e) refl h
   where
-    go : (c : Cut) → cutAt w e ≡ c → isCut c ≡ true → (w .mark ≤ e) × (e ≤ w .hi)
+    go : (c : Cut) → cutAt w e ≡ c → isCut c ≡ true → (w .mark ≤ e) × (e ≤ w .ceiling)
     go (Parts child rest) f g = let m = cut-means w e child rest f in (m .low, m .high)
     go BadCut f g = absurd (let z : _≡_ {A = ℕ} 0 1 = cc in omega arith)
+
+-- and so does what may be shared
+pub share-inside : (w : Window) (x : ℕ) → mayShare w x ≡ true → (w .mark ≤ x) × (x ≤ w .ceiling)
+share-inside w x h = go (shareAt w x) refl h
+  where
+    go : (c : Sharing) → shareAt w x ≡ c → isShared c ≡ true → (w .mark ≤ x) × (x ≤ w .ceiling)
+    go (Shared rest) f g = let m = share-means w x rest f in (m .low, m .high)
+    go BadShare f g = absurd (let z : _≡_ {A = ℕ} 0 1 = cc in omega arith)
 
 -- what a fork asks for
 pub record ForkMet (image : List ℕ) (slots : ℕ) (w : Window) (r d a e : ℕ) : Type 0 where
@@ -51,7 +61,12 @@ pub record ForkMet (image : List ℕ) (slots : ℕ) (w : Window) (r d a e : ℕ)
   pub result : d < slots
   pub arguments : a + argumentsOf image r ≤ slots
   pub low : w .mark ≤ e
-  pub high : e ≤ w .hi
+  pub high : e ≤ w .ceiling
+
+-- what a 0E asks for
+pub record ShareMet (w : Window) (x : ℕ) : Type 0 where
+  pub low : w .mark ≤ x
+  pub high : x ≤ w .ceiling
 
 -- in a routine of so many slots, with commands at certain starts; `next` is the position behind the command that is met
 module _ (image : List ℕ) (slots : ℕ) (start : ℕ → Bool) (next : ℕ) (slot : ℕ → ℕ) (pending : ℕ → Bool) (w : Window) where
@@ -68,6 +83,7 @@ module _ (image : List ℕ) (slots : ℕ) (start : ℕ → Bool) (next : ℕ) (s
   Facts Suspends = start next ≡ true
   Facts Yields = start next ≡ true
   Facts (Returns v) = Unit {0}
+  Facts (Shares x) = ShareMet w x × (start next ≡ true)
 
   -- a record, so that the effect can be read off it
   pub record Met (e : Effect) : Type 0 where
@@ -101,7 +117,7 @@ module _ (image : List ℕ) (slots : ℕ) (start : ℕ → Bool) (next : ℕ) (s
       slots-range : (ltb d slots && (ltb k slots && true) ≡ true) × (leb (a + argumentsOf image r) slots ≡ true)
       slots-range = both (ltb d slots && (ltb k slots && true)) (leb (a + argumentsOf image r) slots) (range .1)
 
-      asks : (w .mark ≤ slot k) × (slot k ≤ w .hi) → ForkMet image slots w r d a (slot k)
+      asks : (w .mark ≤ slot k) × (slot k ≤ w .ceiling) → ForkMet image slots w r d a (slot k)
       asks c = record {
         routine = ltb-true r (routineCount image) (range .0);
         result = ltb-true d slots (both (ltb d slots) (ltb k slots && true) (slots-range .0) .0);
@@ -130,6 +146,8 @@ module _ (image : List ℕ) (slots : ℕ) (start : ℕ → Bool) (next : ℕ) (s
   met Suspend i t n = record { facts = n refl }
   met Yield i t n = record { facts = n refl }
   met (Return a) i t n = met-unless _ _ _ (λ none. record { facts = tt })
+  met (Share a) i t n = met-unless _ _ _ (λ none. met-provided _ _ _ (λ allowed. let c = share-inside w (slot a) allowed in
+      record { facts = (record { low = c .0; high = c .1 }, n refl) }))
 
 -- at position p of routine r
 module _ (j : Job) (good : GoodJob j) (r p : ℕ) (routine : r < routineCount (j .image)) (position : isStart (commandsOf (codeOf (j .image) r)) p ≡ true) where

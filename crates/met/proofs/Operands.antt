@@ -8,15 +8,15 @@ use native.Mathlib.Omega.{arith}
 use lib.Dec.{ltb, leb, eqb}
 use borrow.Author.Tests.{ltb-true, leb-true}
 use Rattle.command.specs.declared.Command.{Command}
-use Rattle.command.specs.declared.Command.the-variants.{Set, Add, Subtract, Load, Store, JumpIfZero, Jump, Lfork, Fork, Join, Suspend, Yield, Return}
+use Rattle.command.specs.declared.Command.the-variants.{Set, Add, Subtract, Load, Store, JumpIfZero, Jump, Lfork, Fork, Join, Suspend, Yield, Return, Share}
 use Rattle.command.proofs.Bools.{both}
 use Rattle.image.specs.Layout.{routineCount, argumentsOf}
 use Rattle.image.specs.Image.{allSlots, forkInRange, inRange}
 use Rattle.window.specs.declared.Window.{Window}
 use Rattle.window.specs.Rights.{mayLoad, mayStore}
-use Rattle.thread.specs.declared.Effect.the-variants.{Sets, Loads, Stores, Goes, Continues, Lforks, Forks, Returns}
+use Rattle.thread.specs.declared.Effect.the-variants.{Sets, Loads, Stores, Goes, Continues, Lforks, Forks, Returns, Shares}
 use Rattle.thread.specs.Effect.{run, unlessPending, provided, sum, difference, forking, effectOf}
-use Rattle.thread.specs.View.{contextOf, mayCut}
+use Rattle.thread.specs.View.{contextOf, mayCut, mayShare}
 use Rattle.thread.proofs.Routines.{InRange}
 
 -- the operands of a fork, in a routine of n slots
@@ -41,6 +41,7 @@ InFrame s n Join = Unit {0}
 InFrame s n Suspend = Unit {0}
 InFrame s n Yield = Unit {0}
 InFrame s n (Return a) = a < n
+InFrame s n (Share a) = a < n
 
 slot-one : (n a : ℕ) → allSlots n (a ∷ []) ≡ true → a < n
 slot-one n a h = ltb-true a n (both (ltb a n) true h .0)
@@ -78,6 +79,7 @@ in-frame s n Join h = tt
 in-frame s n Suspend h = tt
 in-frame s n Yield h = tt
 in-frame s n (Return a) h = slot-one n a h
+in-frame s n (Share a) h = slot-one n a h
 
 -- "slots (1 to 16)": so they are in the range that the theory asks for
 pub in-range : (s : List ℕ) (n : ℕ) (c : Command) → n ≤ 16 → InFrame s n c → InRange c
@@ -94,6 +96,7 @@ in-range s n Join l h = tt
 in-range s n Suspend l h = tt
 in-range s n Yield l h = tt
 in-range s n (Return a) l h = omega arith
+in-range s n (Share a) l h = tt
 
 -- two functions that agree on a frame's slots give a command the same effect
 module _ (s : List ℕ) (n : ℕ) (f g : ℕ → ℕ) (alike : (k : ℕ) → k < n → f k ≡ g k) (pending : ℕ → Bool) (w : Window) where
@@ -118,3 +121,4 @@ module _ (s : List ℕ) (n : ℕ) (f g : ℕ → ℕ) (alike : (k : ℕ) → k <
   effect-alike Suspend h = refl
   effect-alike Yield h = refl
   effect-alike (Return a) h = ap (λ x. unlessPending 12 pending (run 0 16) (Returns x)) (alike a h)
+  effect-alike (Share a) h = ap (λ x. unlessPending 9 pending (a ∷ []) (provided (mayShare w x) 31 (Shares x))) (alike a h)

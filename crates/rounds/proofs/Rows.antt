@@ -3,7 +3,7 @@ use mathlib.Core.Path.{_≡_, refl}
 use Rattle.command.specs.Command.{decoded}
 use Rattle.image.specs.Layout.{startOf, rowsOf, startsUpTo}
 use Rattle.queue.specs.Contents.{appended}
-use Rattle.window.specs.Rights.{mayStore, mayLoad, cutAt}
+use Rattle.window.specs.Rights.{mayStore, mayLoad, cutAt, shareAt}
 use Rattle.stacklets.specs.Tops.{fitsOn, pushedTops}
 use Rattle.stacklets.specs.Frames.{argumentsAt, framed, pushedWords}
 use Rattle.thread.specs.Effect.{run, anyPending, unlessPending, provided, forking, effectOf}
@@ -19,5 +19,5 @@ use Rattle.rounds.specs.Rounds.{recorded, tried, turns, wakened, rounds}
 use Rattle.rounds.specs.Rows.{scheduledByRounds, scheduledByHand, eachScheduled, scheduledRows}
 
 pub scheduled-rows-hold : eachScheduled scheduledByRounds scheduledRows ≡ eachScheduled scheduledByHand scheduledRows
-unfolding decoded startOf rowsOf startsUpTo appended fitsOn pushedTops argumentsAt framed pushedWords run anyPending unlessPending provided forking effectOf isPending withPending mayStore mayLoad cutAt startState effectAt leaves goesAbove placeOf born forkOn forkWith forkOf stackletsWithout wakes statusAfter readyAfter returnToParent returnOf carriedOf turnOf stepOf takeInto takeOf isSeed stolenOf stealOf enableOf entryOf seedAbove seedFrom idleChoice choiceOf suspendedFrom recorded tried turns wakened rounds
+unfolding decoded startOf rowsOf startsUpTo appended fitsOn pushedTops argumentsAt framed pushedWords run anyPending unlessPending provided forking effectOf isPending withPending mayStore mayLoad cutAt shareAt startState effectAt leaves goesAbove placeOf born forkOn forkWith forkOf stackletsWithout wakes statusAfter readyAfter returnToParent returnOf carriedOf turnOf stepOf takeInto takeOf isSeed stolenOf stealOf enableOf entryOf seedAbove seedFrom idleChoice choiceOf suspendedFrom recorded tried turns wakened rounds
 scheduled-rows-hold = refl

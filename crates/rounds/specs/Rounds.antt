@@ -23,9 +23,9 @@ pub record Progress : Type 0 where
   -- whether an entry of this round was accepted
   pub moved : Bool
 
--- "accepted or faulting": 0, or 9 to 12
+-- "accepted or faulting": 0, or 9 to 12, or T-04's 31
 abbrev pub isWritten : ℕ → Bool
-isWritten log = eqb log 0 || (leb 9 log && leb log 12)
+isWritten log = eqb log 0 || ((leb 9 log && leb log 12) || eqb log 31)
 
 -- it goes on: "It ends when over, .. or when before a try fewer than 3 bytes are left of its buffer"
 abbrev pub mayTry : Progress → Bool

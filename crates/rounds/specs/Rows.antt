@@ -424,6 +424,18 @@ stepWithTwoBytes = record {
   units = 0;
 }
 
+-- a faulting 0E, of slot 0, which is 0 and below the mark (31), at byte 5: it is written like any fault
+abbrev pub faultingShare : ScheduledRow
+faultingShare = record {
+  image = oneRoutine (0x0E ∷ 0x00 ∷ 0x0D ∷ 0x00 ∷ []);
+  cores = 1;
+  allowance = 100;
+  size = 128;
+  written = Step 0 ∷ [];
+  outcome = faulted 31 0 5;
+  units = 0;
+}
+
 abbrev pub scheduledRows : List ScheduledRow
 scheduledRows =
     forksAreTaken
@@ -445,6 +457,7 @@ scheduledRows =
     ∷ faultingStep
     ∷ pendingIsRead
     ∷ returnWithPending
+    ∷ faultingShare
     ∷ stepWithThreeBytes
     ∷ stepWithTwoBytes
     ∷ []

@@ -27,6 +27,9 @@ pub fn is_written(log: u8) -> bool
     if log == 0 {
         return true;
     }
+    if log == 31 {
+        return true;
+    }
     if log < 9 {
         return false;
     }

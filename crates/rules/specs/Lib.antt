@@ -24,6 +24,10 @@ pub mod RowsSteals
 pub mod RowsEntries
 pub mod RowsCommands
 pub mod RowsPending
+pub mod RowsShares
+pub mod RowsCeilings
+pub mod RowsSpans
+pub mod RowsNestedSpans
 pub mod Rows
 pub mod RowsFree
 -- The same of the stacklets' words, after each entry.

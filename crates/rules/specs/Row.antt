@@ -95,6 +95,10 @@ yielding = 0x0C ∷ 0x0D ∷ 0x00 ∷ []
 abbrev pub storing : List ℕ
 storing = 0x05 ∷ 0x00 ∷ 0x00 ∷ 0x0D ∷ 0x00 ∷ []
 
+-- loads the word at its argument, and returns it
+abbrev pub loading : List ℕ
+loading = 0x04 ∷ 0x00 ∷ 0x00 ∷ 0x0D ∷ 0x00 ∷ []
+
 -- of two slots: lforks routine r to slot 0, the cut, 32, in slot 1; joins, and returns slot 0
 abbrev pub calls : ℕ → List ℕ
 calls r = 0x01 ∷ 0x01 ∷ 0x20 ∷ 0x00 ∷ 0x08 ∷ r ∷ 0x00 ∷ 0x00 ∷ 0x01 ∷ 0x0A ∷ 0x0D ∷ 0x00 ∷ []

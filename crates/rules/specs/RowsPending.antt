@@ -69,5 +69,7 @@ pendingRows =
     ∷ behindAnLfork 1 (0x09 ∷ 0x02 ∷ 0x00 ∷ 0x01 ∷ 0x0F ∷ []) 9
     -- 0D a: slot 15, the last, is pending, and slot 0 is returned
     ∷ behindAnLfork 15 (0x0D ∷ 0x00 ∷ []) 12
+    -- 0E a, where slot 1, which is 0, would be out of range: 9 comes before 31
+    ∷ behindAnLfork 1 (0x0E ∷ 0x01 ∷ []) 9
     ∷ twoArePending
     ∷ []

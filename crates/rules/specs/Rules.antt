@@ -1,5 +1,5 @@
 -- The rules: what each entry of a schedule does to the machine. Document 01, "Step rules" and "Schedule"; the tests stand in its
--- order: 19, 14, 15, 16 to 18, 22, 12, 9, 10 or 11, 20, 21.
+-- order: 19, 14, 15, 16 to 18, 22, 12, 9, 10 or 11, 20, 21; T-04's 31 stands with 10 and 11.
 use mathlib.Core.Bool.{Bool, cond, _&&_, _||_, not}
 use mathlib.Core.List.{List, [], _∷_}
 use Prim.Native.Nat.{ℕ}
@@ -7,9 +7,9 @@ use lib.Dec.{ltb, leb, eqb}
 use Rattle.schedule.specs.declared.Entry.{Entry}
 use Rattle.schedule.specs.declared.Entry.the-variants.{Step, Take, Steal, Enable}
 use Rattle.thread.specs.declared.Effect.{Effect}
-use Rattle.thread.specs.declared.Effect.the-variants.{Faults, Sets, Loads, Stores, Goes, Continues, Lforks, Forks, Joins, Suspends, Yields, Returns}
+use Rattle.thread.specs.declared.Effect.the-variants.{Faults, Sets, Loads, Stores, Goes, Continues, Lforks, Forks, Joins, Suspends, Yields, Returns, Shares}
 use Rattle.thread.specs.declared.Status.the-variants.{Ready, Suspended, Waiting, Lent}
-use Rattle.thread.specs.Thread.{withStatus, movedTo, joinedAt, _is_}
+use Rattle.thread.specs.Thread.{withStatus, movedTo, joinedAt, sharedAt, _is_}
 use Rattle.thread.specs.Job.{wordAt}
 use Rattle.rules.specs.declared.ForkKind.the-variants.{Called, Queued, Stolen}
 use Rattle.rules.specs.State.{Job, State, After, isOver, threadAt, onCore, isBusy}
@@ -34,6 +34,7 @@ carriedOf j s o Joins = accepted (completed o (joinedAt (o .next) (o .thread)) s
 carriedOf j s o Suspends = accepted (leaves (o .core) (o .number) Suspended (goesOn o s))
 carriedOf j s o Yields = accepted (enqueueReady (o .number) (leaves (o .core) (o .number) Ready (goesOn o s)))
 carriedOf j s o (Returns v) = accepted (returnOf j s o v)
+carriedOf j s o (Shares x) = accepted (completed o (sharedAt (o .next) x (o .thread)) s)
 
 -- the next command of thread t, on core c: "Otherwise the thread waits, nothing is charged, and the join is met again later"
 unfoldable pub turnOf : Job → State → ℕ → ℕ → After
@@ -81,6 +82,7 @@ stolenOf j s o Joins = refused 18 s
 stolenOf j s o Suspends = refused 18 s
 stolenOf j s o Yields = refused 18 s
 stolenOf j s o (Returns v) = refused 18 s
+stolenOf j s o (Shares x) = refused 18 s
 
 -- "03 c t steal: carry out thread t's next command, an 08 or 09, as a seed"
 unfoldable pub stealOf : Job → State → ℕ → ℕ → After

@@ -103,7 +103,14 @@ pub record Results (s : State) : Type 0 where
   pub pending : (u : ℕ) → Used s u → (u ≡ 0 → ⊥) → isPending (threadAt s (parentAt s u) .family .pending) (threadAt s u .origin .result) ≡ true
   pub distinct : (u v : ℕ) → Used s u → Used s v → parentAt s u ≡ parentAt s v → threadAt s u .origin .result ≡ threadAt s v .origin .result → u ≡ v
 
--- windows are good; the root's is 32 to 1,024; children's "lie apart in what the parent cut off"
+-- the words that thread t was given to read lie in what thread p shares, or are p's own
+abbrev pub GivenBy : State → ℕ → ℕ → Type 0
+GivenBy s p t =
+    ((windowHeld s p .ceiling ≤ windowHeld s t .from) × (windowHeld s t .to ≤ windowHeld s p .hi))
+    ⊎ ((windowHeld s t .from ≡ windowHeld s p .from) × (windowHeld s t .to ≡ windowHeld s p .to))
+
+-- windows are good; the root's is 32 to 1,024; children's "lie apart in what the parent cut off"; T-07: "a read span lies in what an ancestor
+-- shares", asked here of the parent alone
 pub record Windows (s : State) : Type 0 where
   pub fits : (t : ℕ) → Used s t → Fits (windowHeld s t)
   pub root : Used s 0 → (windowHeld s 0 .lo ≡ 32) × (windowHeld s 0 .hi ≡ 1024)
@@ -111,6 +118,7 @@ pub record Windows (s : State) : Type 0 where
       → (windowHeld s (parentAt s u) .lo ≤ windowHeld s u .lo) × (windowHeld s u .hi ≤ windowHeld s (parentAt s u) .mark)
   pub apart : (u v : ℕ) → Used s u → Used s v → (u ≡ v → ⊥) → parentAt s u ≡ parentAt s v
       → (windowHeld s u .hi ≤ windowHeld s v .lo) ⊎ (windowHeld s v .hi ≤ windowHeld s u .lo)
+  pub given : (u : ℕ) → Used s u → (u ≡ 0 → ⊥) → windowHeld s u .from < windowHeld s u .to → GivenBy s (parentAt s u) u
 
 -- "each thread number .. is either in use or once in its free line"
 pub record FreeThreads (s : State) : Type 0 where

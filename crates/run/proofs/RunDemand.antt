@@ -12,6 +12,7 @@ use Rattle.rules.specs.Runs.{logsFrom, runFrom, logged}
 use Rattle.rules.specs.State.{State, Outcome, going, finished, faulted}
 use Rattle.serial.specs.Serial.{done}
 use Rattle.soundness.proofs.Unchanged.{unchanged}
+use Rattle.demands.proofs.Shared.{shared-reading}
 use Rattle.demands.proofs.Demands.{demand-2-logged, demand-3, sound-after}
 use Rattle.demands.proofs.Passing.{takes, has-room}
 use Rattle.demands.proofs.SerialNumbers.{serial-numbers}
@@ -110,6 +111,7 @@ module _ (i : Input) (schedule log : List ℕ) (bytes : (k : ℕ) → getD (i .i
     numbers = run-numbers i schedule log;
     demand2 = at-each;
     demand3 = λ passes es. demand-3 i (takes i schedule log passes bytes) es;
+    shared = λ passes es. shared-reading i (takes i schedule log passes bytes) es;
     plain = plain-run;
     words = words-run;
     plainNumbers = serial-numbers i;

@@ -23,18 +23,18 @@ use Rattle.run.specs.Machine.{statusesOf, MachineIs}
 
 -- the bytes of the thread table hold the machine's records
 module _ (xs words memory : List ℕ) (l : length xs ≡ size) where
-  first-bytes : length (take 576 xs) ≡ 576
+  first-bytes : length (take 768 xs) ≡ 768
   first-bytes = simp length-take (omega arith)
 
-  same-record : (t : ℕ) → t < 32 → recordAt (take 576 xs) (18 * t) ≡ recordAt xs (18 * t)
-  same-record t h = record-same xs (take 576 xs) (18 * t) (18 * t) (λ k b. getD-take 576 xs (18 * t + k) 0 (omega arith))
+  same-record : (t : ℕ) → t < 32 → recordAt (take 768 xs) (24 * t) ≡ recordAt xs (24 * t)
+  same-record t h = record-same xs (take 768 xs) (24 * t) (24 * t) (λ k b. getD-take 768 xs (24 * t + k) 0 (omega arith))
 
-  pub table-read : recordsOf (take 576 xs) ≡ meaning xs words memory .threads
+  pub table-read : recordsOf (take 768 xs) ≡ meaning xs words memory .threads
   table-read =
-      let many : length (take 576 xs) / 18 ≡ 32 = ap (λ (n : ℕ). n / 18) first-bytes in
+      let many : length (take 768 xs) / 24 ≡ 32 = ap (λ (n : ℕ). n / 24) first-bytes in
       rw many
-      (ext-getD blankThread (recordsUpTo (take 576 xs) 32) (meaning xs words memory .threads) (long (take 576 xs) 32 ∙ sym (threads-long xs words memory))
-      (λ t h. let b : t < 32 = omega (arith, h, long (take 576 xs) 32) in record-of (take 576 xs) 32 t b ∙ same-record t b ∙ thread-is xs words memory t b))
+      (ext-getD blankThread (recordsUpTo (take 768 xs) 32) (meaning xs words memory .threads) (long (take 768 xs) 32 ∙ sym (threads-long xs words memory))
+      (λ t h. let b : t < 32 = omega (arith, h, long (take 768 xs) 32) in record-of (take 768 xs) 32 t b ∙ same-record t b ∙ thread-is xs words memory t b))
 
 -- the statuses, one by one
 statuses-long : (threads : List Thread) → length (statusesOf threads) ≡ length threads

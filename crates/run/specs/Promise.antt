@@ -9,6 +9,7 @@ use Rattle.serial.specs.Serial.{done}
 use Rattle.demands.specs.declared.RunAnswer.the-variants.{Finished}
 use Rattle.demands.specs.Input.{Input, refusalOf}
 use Rattle.demands.specs.Demands.{Demand1, Demand2, Demand3, stateAfter, serialIn}
+use Rattle.demands.specs.Shared.{SharedReading}
 use Rattle.demands.specs.WholeRun.{RunNumbers, SerialNumbers}
 use Rattle.run.specs.declared.Ran.{Ran}
 use Rattle.run.specs.Run.{RunsAs}
@@ -22,6 +23,8 @@ pub record RunPromise (i : Input) (schedule log : List ℕ) (r : Ran) (memoryAft
   -- "every schedule, that is any list of those four entries": of any length, also where their bytes are over 32,768. "The following holds at
   -- the schedule's end": the state behind these entries, of which this schedule's are one list
   pub demand3 : refusalOf i schedule log ≡ 0 → (es : List Entry) → Demand3 i (stateAfter i es)
+  -- T-04: shared words, at the same states
+  pub shared : refusalOf i schedule log ≡ 0 → (es : List Entry) → SharedReading i (stateAfter i es)
   -- "result, units and every memory word equal the plain run's": of the answer, and of the memory as it now is
   pub plain : (v u : ℕ) → r .answer ≡ Finished v u → serialIn i ≡ done v memoryAfter u
   -- T-02: "A finished run then leaves all 1,024 stacklet words zero": of the words that are given

@@ -2,7 +2,7 @@
 -- and an open routine of a good job stays one. Assumes nothing.
 use mathlib.Core.Bool.{Bool, true}
 use mathlib.Core.List.{List, _++_}
-use mathlib.Core.Path.{_≡_, sym, _∙_}
+use mathlib.Core.Path.{_≡_, _∙_}
 use Prim.Native.Nat.{ℕ, _+_, _≤_, _<_}
 use native.Mathlib.Decide.{decLt}
 use native.Mathlib.Omega.{arith}
@@ -13,11 +13,11 @@ use Rattle.image.specs.Code.{commandsOf, isStart}
 use Rattle.image.proofs.Accepted.{accepted}
 use Rattle.image.proofs.Laws.{start-good}
 use Rattle.window.specs.declared.Window.{Window}
-use Rattle.window.specs.Rights.{Fits, mayLoad, childOf}
-use Rattle.window.proofs.Laws.{store-in-memory, load-memory, rejoined-fits}
+use Rattle.window.specs.Rights.{Fits, childOf}
+use Rattle.window.proofs.Laws.{load-in-memory, store-in-memory, child-fits, rest-fits, sharing-fits, rejoined-fits}
 use Rattle.stacklets.specs.Frames.{slotOf}
 use Rattle.thread.specs.declared.Effect.{Effect}
-use Rattle.thread.specs.declared.Effect.the-variants.{Faults, Sets, Loads, Stores, Goes, Continues, Lforks, Forks, Joins, Suspends, Yields, Returns}
+use Rattle.thread.specs.declared.Effect.the-variants.{Faults, Sets, Loads, Stores, Goes, Continues, Lforks, Forks, Joins, Suspends, Yields, Returns, Shares}
 use Rattle.thread.specs.View.{contextOf}
 use Rattle.thread.specs.Thread.{isPending}
 use Rattle.thread.specs.Job.{Job, GoodJob, offsetAt, byteAt}
@@ -25,16 +25,8 @@ use Rattle.met.proofs.CommandMet as command
 use Rattle.thread.proofs.EffectFacts.{Guarded}
 use Rattle.thread.proofs.Widths.{Widened}
 use Rattle.serial.specs.declared.Routine.{Routine}
-use Rattle.serial.specs.Serial.{jumpedTo, assigned, advanced, joined, forked, startedOn, argumentsFrom, weightAt, nextEffect}
+use Rattle.serial.specs.Serial.{jumpedTo, assigned, advanced, joined, shared, forked, startedOn, argumentsFrom, weightAt, nextEffect}
 use Rattle.serial.specs.Steps.{GoodRoutine, InReach}
-
--- an address that may be loaded lies in the parameter words or in memory
-load-reach : (w : Window) (a : ℕ) → Fits w → mayLoad w a ≡ true → a < 1024
-load-reach w a f h = go (decLt a 32)
-  where
-    go : Dec (a < 32) → a < 1024
-    go (yes l) = omega arith
-    go (no l) = store-in-memory w a f (sym (load-memory w a (omega arith)) ∙ h) .1
 
 -- does a command of the routine start there?
 abbrev pub starts : Job → Routine → ℕ → Bool
@@ -96,7 +88,7 @@ module _ (j : Job) (good : GoodJob j) (l : Routine) (g : GoodRoutine j l) where
   in-reach : (e : Effect) → Told e → Guarded (argumentsOf (j .image)) (contextOf (slotOf (l .slots) 0) (isPending (l .pending)) (l .window)) e → InReach e
   in-reach (Faults x) k t = tt
   in-reach (Sets d v) k t = omega (arith, k .facts .0, slots-few)
-  in-reach (Loads d a) k t = (omega (arith, k .facts .0, slots-few), load-reach (l .window) a (g .window) (t .facts .1))
+  in-reach (Loads d a) k t = (omega (arith, k .facts .0, slots-few), load-in-memory (l .window) a (g .window) (t .facts .1))
   in-reach (Stores a v) k t = store-in-memory (l .window) a (g .window) (t .facts)
   in-reach (Goes t') k t = tt
   in-reach Continues k t = tt
@@ -106,6 +98,7 @@ module _ (j : Job) (good : GoodJob j) (l : Routine) (g : GoodRoutine j l) where
   in-reach Suspends k t = tt
   in-reach Yields k t = tt
   in-reach (Returns v) k t = tt
+  in-reach (Shares x) k t = tt
 
   -- with that, its slots and words are there
   pub record Known (e : Effect) : Type 0 where
@@ -131,6 +124,7 @@ Next j l Joins = GoodRoutine j (advanced j (joined l))
 Next j l Suspends = GoodRoutine j (advanced j l)
 Next j l Yields = GoodRoutine j (advanced j l)
 Next j l (Returns v) = Unit {0}
+Next j l (Shares x) = GoodRoutine j (advanced j (shared x l))
 
 module _ (j : Job) (good : GoodJob j) where
   -- a routine at its first command
@@ -152,13 +146,17 @@ module _ (j : Job) (good : GoodJob j) where
     rejoined-moved : (p : ℕ) → starts j l p ≡ true → GoodRoutine j (jumpedTo p (joined l))
     rejoined-moved p h = record { routine = g .routine; position = h; slots = g .slots; window = rejoined-fits (l .window) (g .window) }
 
+    shared-moved : (x : ℕ) → command.ShareMet (l .window) x → (p : ℕ) → starts j l p ≡ true → GoodRoutine j (jumpedTo p (shared x l))
+    shared-moved x s p h = record {
+      routine = g .routine;
+      position = h;
+      slots = g .slots;
+      window = sharing-fits (l .window) x (s .low) (s .high) (g .window);
+    }
+
     child-good : (r d a e : ℕ) → ForkMet j good l g r d a e → GoodRoutine j (startedOn r (argumentsFrom j l r a) (childOf (l .window) e))
-    child-good r d a e f = fresh r (argumentsFrom j l r a) (childOf (l .window) e) (f .routine) (record {
-      memory = omega (arith, g .window .memory, g .window .behind);
-      behind = omega arith;
-      before = f .low;
-      within = omega (arith, f .high, g .window .within);
-    })
+    child-good r d a e f = fresh r (argumentsFrom j l r a) (childOf (l .window) e) (f .routine)
+        (child-fits (l .window) e (f .low) (f .high) (g .window))
 
     parent-good : (r d a e : ℕ) → ForkMet j good l g r d a e → starts j l (nextOf j l) ≡ true
         → (v : ℕ) → GoodRoutine j (assigned d v (advanced j (forked d e l)))
@@ -166,12 +164,7 @@ module _ (j : Job) (good : GoodJob j) where
       routine = g .routine;
       position = h;
       slots = length-set (l .slots) d v ∙ g .slots;
-      window = record {
-        memory = g .window .memory;
-        behind = omega (arith, g .window .behind, f .low);
-        before = f .high;
-        within = g .window .within;
-      };
+      window = rest-fits (l .window) e (f .low) (f .high) (g .window);
     }
 
     next-good : (e : Effect) → Known j good l g e → Next j l e
@@ -187,6 +180,7 @@ module _ (j : Job) (good : GoodJob j) where
     next-good Suspends k = moved (nextOf j l) (k .told .facts)
     next-good Yields k = moved (nextOf j l) (k .told .facts)
     next-good (Returns v) k = tt
+    next-good (Shares x) k = shared-moved x (k .told .facts .0) (nextOf j l) (k .told .facts .1)
 
     -- behind the command that is met
     pub next-met : Next j l (nextEffect j l)

@@ -9,10 +9,14 @@ use Rattle.command.specs.Command.{decodedAt, fiveAt}
 use Rattle.command.specs.Weight.{weightOf}
 use Rattle.image.specs.Layout.{argumentsOf}
 use Rattle.image.proofs.Accepted.{accepted}
-use Rattle.window.specs.Rights.{rejoined}
+use Rattle.window.specs.declared.Window.{Window}
+use Rattle.window.specs.declared.Share.{Share as SharedWindow}
+use Rattle.window.specs.declared.Share.the-variants.{Shared, BadShare}
+use Rattle.window.specs.Rights.{shareAt, rejoined}
+use Rattle.window.proofs.Laws.{share-made, share-means}
 use Rattle.stacklets.specs.Frames.{slotOf}
 use Rattle.thread.specs.declared.Effect.{Effect}
-use Rattle.thread.specs.declared.Effect.the-variants.{Faults, Sets, Loads, Stores, Goes, Continues, Lforks, Forks, Joins, Suspends, Yields, Returns}
+use Rattle.thread.specs.declared.Effect.the-variants.{Faults, Sets, Loads, Stores, Goes, Continues, Lforks, Forks, Joins, Suspends, Yields, Returns, Shares}
 use Rattle.thread.specs.Effect.{effectOf}
 use Rattle.thread.specs.Bytes.{bytesBy}
 use Rattle.thread.specs.View.{contextOf}
@@ -21,11 +25,11 @@ use Rattle.thread.specs.Job.{Job, GoodJob}
 use Rattle.thread.proofs.Widths.{bytes-below}
 use Rattle.serial.specs.declared.Routine.{Routine}
 use Rattle.serial.specs.declared.Ask.{Ask}
-use Rattle.serial.specs.declared.Ask.the-variants.{GoOn, Join, Call, Stop, Return}
-use Rattle.serial.specs.Serial.{Ended, done, stopped, weightAt, nextEffect, callFrom}
+use Rattle.serial.specs.declared.Ask.the-variants.{GoOn, Join, Call, Stop, Return, Share}
+use Rattle.serial.specs.Serial.{Ended, done, stopped, weightAt, nextEffect, carried, callFrom}
 use Rattle.serial.specs.Steps.{openAt, Padded, askedOf, slotsAfter, memoryAfter, GoodRoutine, InReach, Far, IsFork}
-use Rattle.serial.proofs.CommandMet.{met, weighs, byte-few, place-inside, next-small}
-use Rattle.serial.proofs.Turns.{wide-here, turn-22, turn-goes, turn-joins, turn-stops, turn-returns, turn-calls}
+use Rattle.serial.proofs.CommandMet.{met, weighs, byte-few, place-inside, next-small, nextOf}
+use Rattle.serial.proofs.Turns.{Sharing, wide-here, turn-22, turn-goes, turn-joins, turn-stops, turn-returns, turn-calls, turn-shares}
 
 length-after : (m : List ℕ) (e : Effect) → length (memoryAfter m e) ≡ length m
 unfolding memoryAfter
@@ -41,6 +45,7 @@ length-after m Joins = refl
 length-after m Suspends = refl
 length-after m Yields = refl
 length-after m (Returns v) = refl
+length-after m (Shares x) = refl
 
 -- the command that is met, as the code reads it
 module _ (j : Job) (l : Routine) {code : ℕ} (code-is : code ≡ getD (j .starts) (l .routine) 0) where
@@ -148,6 +153,28 @@ module _ {j : Job} {n : ℕ} {whole : Ended} {l : Routine} {m : List ℕ} {left 
 
   pub returns-run : {v : ℕ} → k ≡ Return v → done v m' (j .allowance - (left - cost)) ≡ whole
   returns-run {v} h = rw (t .memory, behind) (turn-returns j n l m u good well paid e (t .met .effect) v (sym (t .asked) ∙ h) ∙ far .is)
+
+  -- the ceiling goes down
+  module _ {s : ℕ} (h : k ≡ Share s) where
+    shared-turn : (callFrom j n l m u ≡ carried j (callFrom j) n l m u e) × Sharing j n l m u s e
+    shared-turn = turn-shares j n l m u good well paid e (t .met .effect) s (sym (t .asked) ∙ h)
+
+    pub share-fits : l .position + 2 < 65536
+    share-fits = omega (arith, shared-turn .1 .two, next-small j good l well)
+
+    -- s is in range
+    pub share-good : shareAt (l .window) s ≡ BadShare → ⊥
+    share-good q =
+        let x = share-made (l .window) s (shared-turn .1 .asks .low) (shared-turn .1 .asks .high) in
+        let z : _≡_ {A = ℕ} 0 1 = cc in
+        omega arith
+
+    pub shares-on : {o : SharedWindow} → o ≡ shareAt (l .window) s → {w : Window} → o ≡ Shared w
+        → Far j n whole (openAt (l .routine) (l .position + 2) (l .pending) w slots) m' (left - cost)
+    shares-on made is =
+        let next : l .position + 2 ≡ nextOf j l = omega (arith, shared-turn .1 .two) in
+        rw (share-means (l .window) s _ (sym made ∙ is) .is-rest, next)
+        (far-on _ (rw (t .slots) (sym (shared-turn .0 ∙ shared-turn .1 .leads .is), shared-turn .1 .leads .good)))
 
   -- a child runs first: slots and memory are as they were
   module _ {c r d a : ℕ} (h : k ≡ Call c r d a) where

@@ -7,7 +7,7 @@ use Rattle.window.specs.declared.Window.{Window}
 use Rattle.thread.specs.Job.{Job}
 use Rattle.serial.specs.declared.place.Place.{Place}
 use Rattle.serial.specs.declared.Turn.{Turn}
-use Rattle.serial.specs.declared.Turn.the-variants.{AfterJoin, AfterFork, AfterStop, AfterReturn}
+use Rattle.serial.specs.declared.Turn.the-variants.{AfterJoin, AfterFork, AfterStop, AfterReturn, AfterShare}
 use Rattle.serial.specs.Serial.{Ended, startedOn}
 use Rattle.serial.specs.Steps.{openAt, openIn, placeAt, firstSlots, Far, TurnAs}
 
@@ -34,3 +34,4 @@ turn-from j n whole slots m at here is less (AfterJoin p' left') t = let x = rw 
 turn-from j n whole slots m at here is less (AfterFork p' left' w d) t = let x = rw is at t in (omega (arith, x .0, less), x .1, x .2)
 turn-from j n whole slots m at here is less (AfterStop x' left') t = let x = rw is at t in (omega (arith, x .0, less), x .1)
 turn-from j n whole slots m at here is less (AfterReturn v left') t = let x = rw is at t in (omega (arith, x .0, less), x .1)
+turn-from j n whole slots m at here is less (AfterShare p' left' w) t = let x = rw is at t in (omega (arith, x .0, less), x .1)

@@ -8,16 +8,16 @@ use native.Mathlib.Omega.{arith}
 use borrow.Author.Tests.{lt-ltb, le-ltb}
 use Rattle.command.specs.Command.{widthOf}
 use Rattle.image.specs.Layout.{slotsOf}
-use Rattle.window.specs.Rights.{childOf, rejoined}
+use Rattle.window.specs.Rights.{childOf, sharingOf, rejoined}
 use Rattle.thread.specs.declared.Effect.{Effect}
-use Rattle.thread.specs.declared.Effect.the-variants.{Faults, Sets, Loads, Stores, Goes, Continues, Lforks, Forks, Joins, Suspends, Yields, Returns}
+use Rattle.thread.specs.declared.Effect.the-variants.{Faults, Sets, Loads, Stores, Goes, Continues, Lforks, Forks, Joins, Suspends, Yields, Returns, Shares}
 use Rattle.thread.specs.Job.{Job, GoodJob, byteAt}
-use Rattle.met.proofs.CommandMet.{ForkMet}
+use Rattle.met.proofs.CommandMet.{ForkMet, ShareMet}
 use Rattle.thread.proofs.Widths.{Widened}
 use Rattle.thread.specs.Effect.{asked}
 use Rattle.serial.specs.declared.Routine.{Routine}
 use Rattle.serial.specs.declared.Ask.{Ask}
-use Rattle.serial.specs.declared.Ask.the-variants.{GoOn, Join, Call, Stop, Return}
+use Rattle.serial.specs.declared.Ask.the-variants.{GoOn, Join, Call, Stop, Return, Share}
 use Rattle.serial.specs.Serial.{done, stopped, assigned, advanced, forked, startedOn, argumentsFrom, weightAt, nextEffect, forkCalled, carried, callFrom}
 use Rattle.serial.specs.Steps.{openAt, askedOf, slotsAfter, memoryAfter, GoodRoutine}
 use Rattle.serial.proofs.CommandMet.{Next, next-met, met, Known, width-met}
@@ -30,6 +30,7 @@ kind Join = 1
 kind (Call c r d a) = 2
 kind (Stop x) = 3
 kind (Return v) = 4
+kind (Share x) = 5
 
 unlike : {A : Type 0} (x y : Ask) → x ≡ y → (kind x ≡ kind y → ⊥) → A
 unlike x y e f = absurd (f (ap kind e))
@@ -45,6 +46,9 @@ same-stop x y h = cc
 
 same-return : (x y : ℕ) → Return x ≡ Return y → x ≡ y
 same-return x y h = cc
+
+same-share : (x y : ℕ) → Share x ≡ Share y → x ≡ y
+same-share x y h = cc
 
 -- the position that the code goes on at is the one behind the command
 behind : (p i width next : ℕ) → GoOn (p + i) ≡ GoOn next → width ≡ i → next ≡ p + width
@@ -77,6 +81,7 @@ module _ (j : Job) (n : ℕ) (l : Routine) (m : List ℕ) (u : ℕ) where
   goes Suspends next h k g = rw (behind (l .position) 1 width next h (k .is)) (record { is = refl; good = g })
   goes Yields next h k g = rw (behind (l .position) 1 width next h (k .is)) (record { is = refl; good = g })
   goes (Returns v) next h k g = unlike _ _ h (λ z. omega arith)
+  goes (Shares x) next h k g = unlike _ _ h (λ z. omega arith)
 
   pub joins : (e : Effect) → askedOf e (l .position) ≡ Join → Widened width e → Next j l e
       → (width ≡ 1) × (Leads e (openAt (l .routine) (l .position + width) 0 (rejoined (l .window)) (after e)))
@@ -93,6 +98,7 @@ module _ (j : Job) (n : ℕ) (l : Routine) (m : List ℕ) (u : ℕ) where
   joins Suspends h k g = unlike _ _ h (λ z. omega arith)
   joins Yields h k g = unlike _ _ h (λ z. omega arith)
   joins (Returns v) h k g = unlike _ _ h (λ z. omega arith)
+  joins (Shares x) h k g = unlike _ _ h (λ z. omega arith)
 
   pub stops : (e : Effect) (x : ℕ) → askedOf e (l .position) ≡ Stop x → carried j (callFrom j) n l m u e ≡ stopped x (memoryAfter m e) u
   unfolding askedOf carried memoryAfter kind
@@ -108,6 +114,7 @@ module _ (j : Job) (n : ℕ) (l : Routine) (m : List ℕ) (u : ℕ) where
   stops Suspends x h = unlike _ _ h (λ z. omega arith)
   stops Yields x h = unlike _ _ h (λ z. omega arith)
   stops (Returns v) x h = unlike _ _ h (λ z. omega arith)
+  stops (Shares y) x h = unlike _ _ h (λ z. omega arith)
 
   pub returns : (e : Effect) (v : ℕ) → askedOf e (l .position) ≡ Return v
       → carried j (callFrom j) n l m u e ≡ done v (memoryAfter m e) (u + weightAt j l)
@@ -124,6 +131,13 @@ module _ (j : Job) (n : ℕ) (l : Routine) (m : List ℕ) (u : ℕ) where
   returns Suspends v h = unlike _ _ h (λ z. omega arith)
   returns Yields v h = unlike _ _ h (λ z. omega arith)
   returns (Returns x) v h = ap (λ z. done z m (u + weightAt j l)) (same-return x v h)
+  returns (Shares x) v h = unlike _ _ h (λ z. omega arith)
+
+  -- what a share leads to: the run goes on from a good routine behind it, in the window with its new ceiling, and what it asks for
+  pub record Sharing (x : ℕ) (e : Effect) : Type 0 where
+    pub leads : Leads e (openAt (l .routine) (l .position + width) (l .pending) (sharingOf (l .window) x) (after e))
+    pub asks : ShareMet (l .window) x
+    pub two : width ≡ 2
 
   -- what a fork leads to: the run's equation, what it asks for, and good routines; slots and memory are as they were
   pub record Calls (c r d a : ℕ) (e : Effect) : Type 0 where
@@ -156,6 +170,24 @@ module _ (j : Job) (n : ℕ) (l : Routine) (m : List ℕ) (u : ℕ) where
     calls Suspends c r d a h w k x = unlike _ _ h (λ z. omega arith)
     calls Yields c r d a h w k x = unlike _ _ h (λ z. omega arith)
     calls (Returns v) c r d a h w k x = unlike _ _ h (λ z. omega arith)
+    calls (Shares y) c r d a h w k x = unlike _ _ h (λ z. omega arith)
+
+    shares : (e : Effect) (x : ℕ) → askedOf e (l .position) ≡ Share x → Widened width e → Known j good l g e → Next j l e → Sharing x e
+    unfolding askedOf carried slotsAfter memoryAfter kind
+    shares (Faults y) x h w k s = unlike _ _ h (λ z. omega arith)
+    shares (Sets d v) x h w k s = unlike _ _ h (λ z. omega arith)
+    shares (Loads d a) x h w k s = unlike _ _ h (λ z. omega arith)
+    shares (Stores a v) x h w k s = unlike _ _ h (λ z. omega arith)
+    shares (Goes t) x h w k s = unlike _ _ h (λ z. omega arith)
+    shares Continues x h w k s = unlike _ _ h (λ z. omega arith)
+    shares (Lforks r d a e) x h w k s = unlike _ _ h (λ z. omega arith)
+    shares (Forks r d a e) x h w k s = unlike _ _ h (λ z. omega arith)
+    shares Joins x h w k s = unlike _ _ h (λ z. omega arith)
+    shares Suspends x h w k s = unlike _ _ h (λ z. omega arith)
+    shares Yields x h w k s = unlike _ _ h (λ z. omega arith)
+    shares (Returns v) x h w k s = unlike _ _ h (λ z. omega arith)
+    shares (Shares y) x h w k s = subst (λ z. Sharing z (Shares y)) (same-share y x h)
+        (record { leads = record { is = refl; good = s }; asks = k .told .facts .0; two = w .is })
 
     -- the run where the command is not paid for, and where it is
     pub turn-22 : j .allowance - u < weightAt j l → stopped 22 m u ≡ callFrom j n l m u
@@ -204,3 +236,7 @@ module _ (j : Job) (n : ℕ) (l : Routine) (m : List ℕ) (u : ℕ) where
         pub turn-calls : (c r d a : ℕ) → askedOf e (l .position) ≡ Call c r d a
             → (callFrom j n l m u ≡ forkCalled j (callFrom j) n l (asked r d a c) m u) × Calls c r d a e
         turn-calls c r d a q = let x = calls e c r d a q wide-here known next in (turned ∙ x .is, x)
+
+        pub turn-shares : (x : ℕ) → askedOf e (l .position) ≡ Share x
+            → (callFrom j n l m u ≡ carried j (callFrom j) n l m u e) × Sharing x e
+        turn-shares x q = (turned, shares e x q wide-here known next)

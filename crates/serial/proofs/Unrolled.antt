@@ -10,11 +10,11 @@ use lib.Dec.{ltb, leb}
 use lib.ListN.{set, length, length-set}
 use Rattle.window.specs.Rights.{childOf}
 use Rattle.thread.specs.declared.Effect.{Effect}
-use Rattle.thread.specs.declared.Effect.the-variants.{Faults, Sets, Loads, Stores, Goes, Continues, Lforks, Forks, Joins, Suspends, Yields, Returns}
+use Rattle.thread.specs.declared.Effect.the-variants.{Faults, Sets, Loads, Stores, Goes, Continues, Lforks, Forks, Joins, Suspends, Yields, Returns, Shares}
 use Rattle.thread.specs.Job.{Job, GoodJob, wordAt}
 use Rattle.thread.specs.Effect.{asked}
 use Rattle.serial.specs.declared.Routine.{Routine}
-use Rattle.serial.specs.Serial.{Ended, done, stopped, andThen, Call, jumpedTo, assigned, advanced, joined, forked, startedOn, argumentsFrom, weightAt, nextEffect, forkCalled, carried, callWithin, callFrom}
+use Rattle.serial.specs.Serial.{Ended, done, stopped, andThen, Call, jumpedTo, assigned, advanced, joined, shared, forked, startedOn, argumentsFrom, weightAt, nextEffect, forkCalled, carried, callWithin, callFrom}
 use Rattle.serial.specs.Steps.{GoodRoutine}
 use Rattle.serial.proofs.CommandMet.{Next, next-met, weighs}
 
@@ -78,6 +78,7 @@ module _ (j : Job) where
   carried-between f ih n l m u h Suspends = weaken (omega arith) (ih n (advanced j l) m (u + weightAt j l) h)
   carried-between f ih n l m u h Yields = weaken (omega arith) (ih n (advanced j l) m (u + weightAt j l) h)
   carried-between f ih n l m u h (Returns v) = let e : u ≤ u + weightAt j l = omega arith in returned e h refl
+  carried-between f ih n l m u h (Shares x) = weaken (omega arith) (ih n (advanced j (shared x l)) m (u + weightAt j l) h)
 
   test-between : (f : ℕ) → Bounded f → (n : ℕ) (l : Routine) (m : List ℕ) (u : ℕ) → u ≤ j .allowance → (b : Bool)
       → ltb (j .allowance - u) (weightAt j l) ≡ b
@@ -130,6 +131,7 @@ module _ (j : Job) where
     carried-stable f ih n l m u w h k Suspends g = ih n (advanced j l) m (u + weightAt j l) g (omega arith)
     carried-stable f ih n l m u w h k Yields g = ih n (advanced j l) m (u + weightAt j l) g (omega arith)
     carried-stable f ih n l m u w h k (Returns v) g = refl
+    carried-stable f ih n l m u w h k (Shares x) g = ih n (advanced j (shared x l)) m (u + weightAt j l) g (omega arith)
 
     by-test : (f : ℕ) → Stable f → (n : ℕ) (l : Routine) (m : List ℕ) (u : ℕ) → GoodRoutine j l → j .allowance < u + suc f → (b : Bool)
         → ltb (j .allowance - u) (weightAt j l) ≡ b

@@ -1,3 +1,4 @@
 pub mod Serial
 pub mod Steps
 pub mod Cases
+pub mod SharesCases

@@ -1,5 +1,5 @@
 -- The serial run, document 01's "plain run": each fork is a call. "It holds memory, units, and per open routine slots, pending slots,
--- window, mark and position."
+-- window, mark and position"; T-04: "the plain run following these rules too", so a window has its ceiling and read span here as well.
 use mathlib.Core.Bool.{cond, not}
 use mathlib.Core.List.{List, _++_}
 use Prim.Native.Nat.{ℕ, zero, suc, _+_, _-_}
@@ -12,10 +12,10 @@ use Rattle.image.specs.declared.Verdict.the-variants.{Accepted, Rejected}
 use Rattle.image.specs.Layout.{argumentsOf}
 use Rattle.image.specs.Image.{imageVerdict, numberOfRefusal}
 use Rattle.window.specs.declared.Window.{Window}
-use Rattle.window.specs.Rights.{rootWindow, childOf, restOf, rejoined}
+use Rattle.window.specs.Rights.{rootWindow, childOf, restOf, sharingOf, rejoined}
 use Rattle.stacklets.specs.Frames.{slotOf}
 use Rattle.thread.specs.declared.Effect.{Effect}
-use Rattle.thread.specs.declared.Effect.the-variants.{Faults, Sets, Loads, Stores, Goes, Continues, Lforks, Forks, Joins, Suspends, Yields, Returns}
+use Rattle.thread.specs.declared.Effect.the-variants.{Faults, Sets, Loads, Stores, Goes, Continues, Lforks, Forks, Joins, Suspends, Yields, Returns, Shares}
 use Rattle.thread.specs.Effect.{Asked, asked, effectOf}
 use Rattle.thread.specs.View.{contextOf}
 use Rattle.thread.specs.Thread.{isPending, withPending}
@@ -48,9 +48,13 @@ advanced j l = jumpedTo (l .position + widthOf (byteAt j (l .routine) (l .positi
 abbrev pub assigned : ℕ → ℕ → Routine → Routine
 assigned d v l = record { routine = l .routine; position = l .position; pending = l .pending; window = l .window; slots = set (l .slots) d v }
 
--- "A join always passes, clears the pending slots and puts the mark back to lo"
+-- "A join always passes, clears the pending slots and puts the mark back to lo"; T-04: "The join restores the ceiling"
 abbrev pub joined : Routine → Routine
 joined l = record { routine = l .routine; position = l .position; pending = 0; window = rejoined (l .window); slots = l .slots }
+
+-- T-04: "The ceiling becomes s"
+abbrev pub shared : ℕ → Routine → Routine
+shared x l = record { routine = l .routine; position = l .position; pending = l .pending; window = sharingOf (l .window) x; slots = l .slots }
 
 -- "A fork, 08 or 09, cuts the window and makes slot d pending"
 abbrev pub forked : ℕ → ℕ → Routine → Routine
@@ -108,6 +112,7 @@ module _ (j : Job) (call : Call) where
   carried n l m u Suspends = call n (advanced j l) m (u + weightAt j l)
   carried n l m u Yields = call n (advanced j l) m (u + weightAt j l)
   carried n l m u (Returns v) = done v m (u + weightAt j l)
+  carried n l m u (Shares x) = call n (advanced j (shared x l)) m (u + weightAt j l)
 
 -- "The first test met ends it before that command": 22 first. At most `left` commands in a row; each weighs 1 at least, so one more than
 -- the allowance is never used up, and `unrolled` (proofs) is the run's equation without that number

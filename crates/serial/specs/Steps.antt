@@ -9,18 +9,18 @@ use Rattle.image.specs.Code.{commandsOf, isStart}
 use Rattle.window.specs.declared.Window.{Window}
 use Rattle.window.specs.Rights.{Fits, rejoined}
 use Rattle.thread.specs.declared.Effect.{Effect}
-use Rattle.thread.specs.declared.Effect.the-variants.{Faults, Sets, Loads, Stores, Goes, Continues, Lforks, Forks, Joins, Suspends, Yields, Returns}
+use Rattle.thread.specs.declared.Effect.the-variants.{Faults, Sets, Loads, Stores, Goes, Continues, Lforks, Forks, Joins, Suspends, Yields, Returns, Shares}
 use Rattle.thread.specs.Thread.{withPending}
 use Rattle.thread.specs.Job.{Job, jobOf, wordIn, GoodJob}
 use Rattle.serial.specs.declared.Routine.{Routine}
 use Rattle.serial.specs.declared.place.Place.{Place}
 use Rattle.serial.specs.declared.Ask.{Ask}
-use Rattle.serial.specs.declared.Ask.the-variants.{GoOn, Join, Call, Stop, Return}
+use Rattle.serial.specs.declared.Ask.the-variants.{GoOn, Join, Call, Stop, Return, Share}
 use Rattle.serial.specs.declared.row.Fork.{Fork}
 use Rattle.serial.specs.declared.row.Row.{Row}
-use Rattle.serial.specs.declared.row.Row.the-variants.{AtJoin, AtFork, AtStop, AtReturn}
+use Rattle.serial.specs.declared.row.Row.the-variants.{AtJoin, AtFork, AtStop, AtReturn, AtShare}
 use Rattle.serial.specs.declared.Turn.{Turn}
-use Rattle.serial.specs.declared.Turn.the-variants.{AfterJoin, AfterFork, AfterStop, AfterReturn}
+use Rattle.serial.specs.declared.Turn.the-variants.{AfterJoin, AfterFork, AfterStop, AfterReturn, AfterShare}
 use Rattle.serial.specs.declared.Ending.{Ending}
 use Rattle.serial.specs.declared.Ending.the-variants.{ByNumber, ByReturn}
 use Rattle.serial.specs.declared.SerialAnswer.{SerialAnswer}
@@ -50,6 +50,7 @@ askedOf Joins p = Join
 askedOf Suspends p = GoOn (p + 1)
 askedOf Yields p = GoOn (p + 1)
 askedOf (Returns v) p = Return v
+askedOf (Shares x) p = Share x
 
 -- the slots behind a command by which the routine goes on
 unfoldable pub slotsAfter : List ℕ → List ℕ → List ℕ → Effect → List ℕ
@@ -65,6 +66,7 @@ slotsAfter parameters m slots Joins = slots
 slotsAfter parameters m slots Suspends = slots
 slotsAfter parameters m slots Yields = slots
 slotsAfter parameters m slots (Returns v) = slots
+slotsAfter parameters m slots (Shares x) = slots
 
 -- the memory words behind it
 unfoldable pub memoryAfter : List ℕ → Effect → List ℕ
@@ -80,6 +82,7 @@ memoryAfter m Joins = m
 memoryAfter m Suspends = m
 memoryAfter m Yields = m
 memoryAfter m (Returns v) = m
+memoryAfter m (Shares x) = m
 
 -- a list with zeros behind it
 pub record Padded (s padded : List ℕ) : Type 0 where
@@ -106,6 +109,7 @@ InReach Joins = Unit {0}
 InReach Suspends = Unit {0}
 InReach Yields = Unit {0}
 InReach (Returns v) = Unit {0}
+InReach (Shares x) = Unit {0}
 
 -- a run that has come to an open routine, so much of the allowance being left: what is left of it gives what the whole run gives
 pub record Far (j : Job) (n : ℕ) (whole : Ended) (l : Routine) (m : List ℕ) (left : ℕ) : Type 0 where
@@ -151,6 +155,8 @@ RowAs j n whole at slots m (AtFork f p left) =
     × IsFork j (openAt (at .routine) p (at .pending) (at .window) slots) left f
 RowAs j n whole at slots m (AtStop x left) = (left ≤ at .left) × (stopped x m (j .allowance - left) ≡ whole)
 RowAs j n whole at slots m (AtReturn v left) = (left ≤ at .left) × (done v m (j .allowance - left) ≡ whole)
+RowAs j n whole at slots m (AtShare p left w) =
+    (left < at .left) × Far j n whole (openAt (at .routine) p (at .pending) w slots) m left
 
 -- what a row gives to every run that had come to its place
 abbrev pub RowFrom : List ℕ → List ℕ → ℕ → Place → List ℕ → List ℕ → List ℕ → List ℕ → Row → Type 0
@@ -166,6 +172,8 @@ TurnAs j n whole at slots m (AfterFork p left w d) =
     (left < at .left) × (d < 16) × Far j n whole (openAt (at .routine) p (withPending (at .pending) d) w slots) m left
 TurnAs j n whole at slots m (AfterStop x left) = (left ≤ at .left) × (stopped x m (j .allowance - left) ≡ whole)
 TurnAs j n whole at slots m (AfterReturn v left) = (left ≤ at .left) × (done v m (j .allowance - left) ≡ whole)
+TurnAs j n whole at slots m (AfterShare p left w) =
+    (left < at .left) × Far j n whole (openAt (at .routine) p (at .pending) w slots) m left
 
 -- what a turn gives to every run that had come to its place
 abbrev pub TurnFrom : List ℕ → List ℕ → List ℕ → ℕ → Place → List ℕ → List ℕ → List ℕ → List ℕ → Turn → Type 0

@@ -26,8 +26,8 @@ fn units_of(x: u8) -> u32
 }
 
 // The weight, in a table, of the command with this first byte.
-pub fn cost_of(weights: &[u8; 14], byte: u8) -> u32
-    requires { ⌜ byte < 14 ⌝ }
+pub fn cost_of(weights: &[u8; 15], byte: u8) -> u32
+    requires { ⌜ byte < 15 ⌝ }
     ensures { λ r. ⌜ r ≡ weightOf (now (weights .entry)) byte ⌝ }
 {
     let k = byte as usize;
@@ -81,5 +81,6 @@ pub fn carry_out(
         Effect::Yields => Ask::GoOn(position + 1),
         Effect::Faults(number) => Ask::Stop(number),
         Effect::Returns(value) => Ask::Return(value),
+        Effect::Shares(s) => Ask::Share(s),
     }
 }

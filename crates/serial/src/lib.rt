@@ -58,6 +58,8 @@ enum Ask {
     Stop(u8),
     // the routine ends with a value
     Return(u32),
+    // the routine goes on behind a share of its words from an address on
+    Share(u32),
 }
 
 // How a routine ended, with what is left of the allowance: by a number, or with a value.
@@ -76,6 +78,8 @@ enum Turn {
     AfterStop(u8, u32),
     // to the routine's end with a value
     AfterReturn(u32, u32),
+    // behind a share: the position, and the window with its new ceiling
+    AfterShare(u16, u32, Window),
 }
 
 // Carries out a fork: the child starts on its arguments, the parent's slots from the first on, in its part of the parent's window, and runs
@@ -134,7 +138,7 @@ fn run_turn(
     starts: &[u16; 32],
     parameters: &[u32],
     memory: &mut [u32],
-    weights: &[u8; 14],
+    weights: &[u8; 15],
     code: usize,
     slots: &mut [u32; 16],
     at: Place,
@@ -167,6 +171,9 @@ fn run_turn(
         }
         Row::AtReturn(value, left) => {
             return Turn::AfterReturn(value, left);
+        }
+        Row::AtShare(position, left, window) => {
+            return Turn::AfterShare(position, left, window);
         }
     }
 }
@@ -218,6 +225,9 @@ fn run_routine(
             }
             Turn::AfterReturn(value, left) => {
                 return Ending::ByReturn(value, left);
+            }
+            Turn::AfterShare(position, left, window) => {
+                at = at.shared(position, left, window);
             }
         }
     }

@@ -72,4 +72,18 @@ impl Place {
             left,
         }
     }
+
+    // Behind a share, in the window with its new ceiling.
+    pub fn shared(self, position: u16, left: u32, window: Window) -> Place
+        ensures { λ r. ⌜ r ≡ placeAt (self .routine) position (self .pending) window left ⌝ }
+    {
+        let pending = self.pending;
+        Place {
+            routine: self.routine,
+            position,
+            pending,
+            window,
+            left,
+        }
+    }
 }

@@ -6,6 +6,8 @@ use crate::padded::five_of;
 use crate::place::Place;
 use command::command_of;
 use effects::effect;
+use window::Share;
+use window::Window;
 ghost use mathlib.Core.Path.{_≡_};
 ghost use Rattle.command.specs.Weight.{standardWeights};
 ghost use Rattle.serial.specs.Steps.{Padded, RowReady, RowFrom};
@@ -29,13 +31,15 @@ pub enum Row {
     AtStop(u8, u32),
     // a return: its value
     AtReturn(u32, u32),
+    // a share: the position behind it, what is left then, and the window with its new ceiling
+    AtShare(u16, u32, Window),
 }
 
 // Runs a row from a place on. `code` is where the routine's code starts.
 pub fn run_row(
     image: &[u8],
     padded: &[u8; 4104],
-    weights: &[u8; 14],
+    weights: &[u8; 15],
     code: usize,
     slots: &mut [u32; 16],
     parameters: &[u32],
@@ -60,9 +64,7 @@ pub fn run_row(
                 position = next;
                 left = left - cost;
             }
-            Ask::Join => {
-                return Row::AtJoin(position + 1, left - cost);
-            }
+            Ask::Join => return Row::AtJoin(position + 1, left - cost),
             Ask::Call(cut, routine, result, first) => {
                 let fork = Fork {
                     cut,
@@ -73,11 +75,14 @@ pub fn run_row(
                 };
                 return Row::AtFork(fork, position, left);
             }
-            Ask::Stop(number) => {
-                return Row::AtStop(number, left);
-            }
-            Ask::Return(value) => {
-                return Row::AtReturn(value, left - cost);
+            Ask::Stop(number) => return Row::AtStop(number, left),
+            Ask::Return(value) => return Row::AtReturn(value, left - cost),
+            Ask::Share(s) => {
+                let Share::Shared(window) = at.window.share(s) else {
+                    // not met: the effect is a share only where s is in range
+                    return Row::AtStop(31, left);
+                };
+                return Row::AtShare(position + 2, left - cost, window);
             }
         }
     }

@@ -3,7 +3,7 @@
 -- parents' frames.
 use mathlib.Core.Bool.{Bool, true, false, cond}
 use mathlib.Core.List.{List}
-use mathlib.Core.Logic.{_⊎_, ⊎-elim}
+use mathlib.Core.Logic.{_⊎_, inl, inr, ⊎-elim}
 use mathlib.Core.Path.{_≡_, refl, sym, _∙_, ap, subst}
 use Prim.Native.Nat.{ℕ, _+_, _-_, _≤_, _<_}
 use native.Mathlib.Omega.{arith}
@@ -17,6 +17,7 @@ use Rattle.thread.specs.declared.Effect.the-variants.{Faults, Lforks, Forks, Re
 use Rattle.thread.specs.declared.Status.{Status}
 use Rattle.thread.specs.declared.Status.the-variants.{Ready, Suspended, Waiting}
 use Rattle.thread.specs.declared.Thread.{Thread}
+use Rattle.thread.specs.Effect.{IsFault}
 use Rattle.thread.specs.Thread.{statusNumber, isRoot, disconnected, none}
 use Rattle.thread.proofs.ThreadState.{ThreadState}
 use Rattle.thread.proofs.CarriedThreads.{does}
@@ -32,12 +33,12 @@ use Rattle.rules.specs.Fork.{Asked, asked, born, handed}
 use Rattle.rules.specs.Return.{returnOf, returnToParent}
 use Rattle.rules.specs.Rules.{entryOf}
 use Rattle.rules.specs.Sound.{GoodJob, Sound, Used}
-use Rattle.soundness.proofs.Tested.{fault-tested}
+use Rattle.soundness.proofs.Tested.{fault-tested, no-fault}
 use Rattle.soundness.proofs.EntryCases.{Stepped, Chosen, above, onFree, Forked, StepCases, Cases, entry-by}
 use Rattle.soundness.proofs.ThreadsMet.{runner, waiter-used, lent-used, linked-parent}
 use Rattle.simulation.proofs.JobCode.{weightIn, codeOf}
 use Rattle.simulation.proofs.StatePool.{linkOf, poolOf}
-use Rattle.simulation.proofs.OwnSteps.{here, cell-here, units-here, effect-met, effect-slots, sets-goes, loads-goes, stores-goes, goes-goes, continues-goes, suspends-goes, yields-goes}
+use Rattle.simulation.proofs.OwnSteps.{here, cell-here, units-here, effect-met, effect-slots, sets-goes, loads-goes, stores-goes, goes-goes, continues-goes, suspends-goes, yields-goes, shares-goes}
 use Rattle.simulation.proofs.JoinStep.{joins-goes}
 use Rattle.simulation.proofs.ForkStep.{Room, room-above, room-free, lforks-goes, forks-goes}
 use Rattle.simulation.proofs.ReturnStep.{returns, root-cell, returns-goes}
@@ -74,8 +75,7 @@ module _ (j : Job) (good : GoodJob j) (s : State) where
   -- an entry that faults
   pub record FaultsBy (a : After) : Type 0 where
     pub number : ℕ
-    pub least : 9 ≤ number
-    pub most : number ≤ 12
+    pub fault : IsFault number
     pub thread : ℕ
     pub offset : ℕ
     pub halted : ThreadState Window
@@ -94,7 +94,7 @@ module _ (j : Job) (good : GoodJob j) (s : State) where
     finishes : s .outcome ≡ going → Finishes a → Moves a
     faults-by : s .outcome ≡ going → FaultsBy a → Moves a
 
-  -- by the log byte: 0 is accepted, 9 to 12 a fault, any other a refusal
+  -- by the log byte: 0 is accepted, 9 to 12 and 31 a fault, any other a refusal
   pub data Accepted (a : After) : Type 0 where
     resting : Rests a → Accepted a
     stepping : Steps a → Accepted a
@@ -105,21 +105,21 @@ module _ (j : Job) (good : GoodJob j) (s : State) where
   accepted-moves a (rests o m) z = resting m
   accepted-moves a (steps o m) z = stepping m
   accepted-moves a (finishes o m) z = finishing m
-  accepted-moves a (faults-by o m) z = absurd (let y = m .log in let x = m .least in omega arith)
+  accepted-moves a (faults-by o m) z = absurd (let y = m .log in no-fault (m .number) (m .fault) (inl (omega arith)))
 
-  pub faulted-moves : (a : After) → Moves a → 9 ≤ a .log → a .log ≤ 12 → FaultsBy a
-  faulted-moves a (refuses n l m e) x y = absurd (let z = ap (λ b. b .log) e in omega arith)
-  faulted-moves a (rests o m) x y = absurd (let z = m .log in omega arith)
-  faulted-moves a (steps o m) x y = absurd (let z = m .log in omega arith)
-  faulted-moves a (finishes o m) x y = absurd (let z = m .log in omega arith)
-  faulted-moves a (faults-by o m) x y = m
+  pub faulted-moves : (a : After) → Moves a → IsFault (a .log) → FaultsBy a
+  faulted-moves a (refuses n l m e) x = absurd (let z = ap (λ b. b .log) e in no-fault (a .log) x (inr (omega arith, omega arith)))
+  faulted-moves a (rests o m) x = absurd (let z = m .log in no-fault (a .log) x (inl (omega arith)))
+  faulted-moves a (steps o m) x = absurd (let z = m .log in no-fault (a .log) x (inl (omega arith)))
+  faulted-moves a (finishes o m) x = absurd (let z = m .log in no-fault (a .log) x (inl (omega arith)))
+  faulted-moves a (faults-by o m) x = m
 
-  pub refused-moves : (a : After) → Moves a → 13 ≤ a .log → a .state ≡ s
-  refused-moves a (refuses n l m e) x = ap (λ b. b .state) e
-  refused-moves a (rests o m) x = absurd (let z = m .log in omega arith)
-  refused-moves a (steps o m) x = absurd (let z = m .log in omega arith)
-  refused-moves a (finishes o m) x = absurd (let z = m .log in omega arith)
-  refused-moves a (faults-by o m) x = absurd (let z = m .log in let y = m .most in omega arith)
+  pub refused-moves : (a : After) → Moves a → 13 ≤ a .log → a .log ≤ 30 → a .state ≡ s
+  refused-moves a (refuses n l m e) x y = ap (λ b. b .state) e
+  refused-moves a (rests o m) x y = absurd (let z = m .log in omega arith)
+  refused-moves a (steps o m) x y = absurd (let z = m .log in omega arith)
+  refused-moves a (finishes o m) x y = absurd (let z = m .log in omega arith)
+  refused-moves a (faults-by o m) x y = absurd (let z = m .log in no-fault (m .number) (m .fault) (inr (omega arith, omega arith)))
 
 -- who leaves a core, and where a child goes, are no part of the outcome
 leaves-outcome : (c t : ℕ) (x : Status) (s : State) → leaves c t x s .outcome ≡ s .outcome
@@ -163,8 +163,7 @@ module _ (j : Job) (good : GoodJob j) (s : State) (ok : Sound j s) where
       let f = fault-tested j s t n met in
       faults-by o (record {
         number = n;
-        least = f .0;
-        most = f .1;
+        fault = f;
         thread = t;
         offset = offsetOf j (threadAt s t);
         halted = here j good s ok c t u;
@@ -246,6 +245,7 @@ module _ (j : Job) (good : GoodJob j) (s : State) (ok : Sound j s) where
     yields = λ c t k met. step-of t _ (k .ongoing) (leaves-outcome c t Ready (goesOn (turnAt j s c t) s))
         (leaves-step c t Ready k (omega arith) (yields-goes j good s ok c t (runner j s ok c t k) met));
     returns = return-moves;
+    shares = λ c t k x met. step-of t _ (k .ongoing) refl (shares-goes j good s ok c t (runner j s ok c t k) x met);
   }
 
   cases : Cases (Moves j good s) j s

@@ -2,6 +2,7 @@
 -- Assumes a sound state and a thread in use.
 use mathlib.Core.List.{List}
 use mathlib.Core.Logic.{_⊎_, ⊎-elim, ite}
+use mathlib.Core.Option.{some}
 use mathlib.Core.Path.{_≡_, refl, sym, _∙_, ap, subst}
 use Prim.Native.Nat.{ℕ, _+_, _-_, _/_, _<_, _≤_}
 use native.Mathlib.Decide.{decLt, decLe}
@@ -10,25 +11,27 @@ use lib.ListN.{getD, set, length}
 use borrow.Author.Tests.{lt-ltb, le-ltb}
 use Rattle.image.specs.Layout.{argumentsOf}
 use Rattle.window.specs.declared.Window.{Window}
-use Rattle.window.proofs.Laws.{store-in-memory}
-use Rattle.window.proofs.Instance.{windows}
+use Rattle.window.specs.Rights.{sharingOf, shareAt}
+use Rattle.window.proofs.Laws.{store-in-memory, share-made}
+use Rattle.window.proofs.Instance.{windows, sharedOf}
 use Rattle.forkjoin.proofs.Update.{update}
 use Rattle.forkjoin.proofs.ThreadPool.{used}
 use Rattle.forkjoin.proofs.Arrays.{words-from, words-set, frame, frame-own, frame-other}
 use Rattle.thread.specs.declared.Effect.{Effect}
-use Rattle.thread.specs.declared.Effect.the-variants.{Sets, Loads, Stores, Goes, Continues, Suspends, Yields}
+use Rattle.thread.specs.declared.Effect.the-variants.{Sets, Loads, Stores, Goes, Continues, Suspends, Yields, Shares}
 use Rattle.thread.specs.declared.Thread.{Thread}
-use Rattle.thread.specs.Thread.{isPending, movedTo}
+use Rattle.thread.specs.Thread.{isPending, movedTo, sharedAt}
 use Rattle.thread.proofs.EffectFacts.{Facts}
-use Rattle.thread.proofs.ThreadState.{ThreadState, effect, view, onward, at-target}
+use Rattle.thread.proofs.ThreadState.{ThreadState, effect, view, onward, at-target, behind-share}
 use Rattle.thread.proofs.LawfulThreads.{effect-facts}
 use Rattle.thread.proofs.MarkedWindows.{window-tests}
-use Rattle.thread.proofs.ThreadSteps.{ThreadStep, moved, sets-step, goes-step, continues-step, suspends-step, yields-step, loads-parameter-step, loads-step, stores-step}
+use Rattle.thread.proofs.ThreadSteps.{ThreadStep, moved, sets-step, goes-step, continues-step, suspends-step, yields-step, shares-step, loads-parameter-step, loads-step, stores-step}
 use Rattle.thread.specs.Job.{wordAt}
 use Rattle.rules.specs.State.{Job, State, threadAt}
 use Rattle.rules.specs.Update.{setSlot, setMemory}
 use Rattle.rules.specs.Turn.{turnAt, effectAt, completed, goesOn}
 use Rattle.rules.specs.Sound.{GoodJob, Sound, Used, sizeAt}
+use Rattle.met.proofs.CommandMet.{share-inside}
 use Rattle.soundness.proofs.CommandMet.{MetAt, met-at}
 use Rattle.simulation.proofs.JobCode.{weightIn, codeOf}
 use Rattle.simulation.proofs.StatePool.{threadOf, linkOf, cellOf, cellsOf, poolOf, cell-used, used-below, cells-change}
@@ -168,6 +171,30 @@ module _ (j : Job) (good : GoodJob j) (s : State) (ok : Sound j s) (c t : ℕ) (
   pub yields-goes : effectAt j s h ≡ Yields → StepsTo (goesOn (turnAt j s c t) s)
   yields-goes met = onward-step
       (yields-step windows window-tests (codeOf j good) (poolOf j s) t here (linkOf h) cell-here (effect-met Yields met))
+
+  -- 0E: the window with its new ceiling
+  share-cell : (x : ℕ) → cellOf j (s .store .words) (sharedAt (turnAt j s c t .next) x h) ≡ used (behind-share (codeOf j good) here (sharingOf (h .family .window) x)) (linkOf h)
+  share-cell x = cell-used j (s .store .words) (sharedAt (turnAt j s c t .next) x h) in-use
+      ∙ (λ ι. used (record {
+        routine = h .origin .routine;
+        position = sym position-here ι;
+        slots = here .slots;
+        pending = isPending (h .family .pending);
+        window = sharingOf (h .family .window) x;
+      }) (linkOf h))
+
+  pub shares-goes : (x : ℕ) → effectAt j s h ≡ Shares x → StepsTo (completed (turnAt j s c t) (sharedAt (turnAt j s c t .next) x h) s)
+  shares-goes x met = subst (ThreadStep windows window-tests (codeOf j good) t (poolOf j s)) (λ ι. record {
+    cell = own-cells (s .store .words) (sharedAt (turnAt j s c t .next) x h) (behind-share (codeOf j good) here (sharingOf (h .family .window) x)) (λ u n k. refl) (share-cell x) ι;
+    words = words-from 32 (s .store .memory);
+    units = units-here ι;
+  }) (shares-step windows window-tests (codeOf j good) (poolOf j s) t here (linkOf h) cell-here x (sharingOf (h .family .window) x) (effect-met (Shares x) met) left)
+    where
+      range : (h .family .window .mark ≤ x) × (x ≤ h .family .window .ceiling)
+      range = share-inside (h .family .window) x (effect-tested (Shares x) met)
+
+      left : sharedOf (shareAt (h .family .window) x) ≡ some (sharingOf (h .family .window) x)
+      left = ap sharedOf (share-made (h .family .window) x (range .0) (range .1))
 
   -- 05
   pub stores-goes : (a v : ℕ) → effectAt j s h ≡ Stores a v → StepsTo (goesOn (turnAt j s c t) (setMemory a v s))

@@ -5,9 +5,9 @@ use mathlib.Core.Logic.{_⊎_}
 use mathlib.Core.Path.{_≡_}
 use Prim.Native.Nat.{ℕ, _-_, _<_}
 use Rattle.schedule.specs.declared.Entry.{Entry}
-use Rattle.thread.specs.declared.Effect.the-variants.{Faults, Sets, Loads, Stores, Goes, Continues, Lforks, Forks, Joins, Suspends, Yields, Returns}
+use Rattle.thread.specs.declared.Effect.the-variants.{Faults, Sets, Loads, Stores, Goes, Continues, Lforks, Forks, Joins, Suspends, Yields, Returns, Shares}
 use Rattle.thread.specs.declared.Status.the-variants.{Ready, Suspended, Waiting}
-use Rattle.thread.specs.Thread.{movedTo, joinedAt, withStatus, _is_}
+use Rattle.thread.specs.Thread.{movedTo, joinedAt, sharedAt, withStatus, _is_}
 use Rattle.thread.specs.Job.{wordAt}
 use Rattle.rules.specs.declared.ForkKind.the-variants.{Called, Queued, Stolen}
 use Rattle.rules.specs.State.{Job, State, going, faulted, threadAt}
@@ -52,6 +52,8 @@ pub record Kept (P : State → Type 0) (j : Job) (s : State) : Type 0 where
       → P (enqueueReady t (leaves c t Ready (goesOn (turnAt j s c t) s)))
   pub returns : (c t : ℕ) → Stepped j s c t → (v : ℕ) → effectAt j s (threadAt s t) ≡ Returns v
       → P (returnOf j s (turnAt j s c t) v)
+  pub shares : (c t : ℕ) → Stepped j s c t → (x : ℕ) → effectAt j s (threadAt s t) ≡ Shares x
+      → P (completed (turnAt j s c t) (sharedAt (turnAt j s c t .next) x (threadAt s t)) s)
   pub takes : (c t : ℕ) (ts : List ℕ) → Taken s c t ts → P (runs c t (setReady ts s))
   -- an lfork or a fork as a seed
   pub steals : (c t : ℕ) → Seeded j s c t → (r d a e : ℕ)
@@ -77,6 +79,7 @@ module _ (P : State → Type 0) (j : Job) (s : State) (kept : Kept P j s) where
     suspends = kept .suspends;
     yields = kept .yields;
     returns = kept .returns;
+    shares = kept .shares;
   }
 
   each : Cases (λ a. P (a .state)) j s

@@ -12,7 +12,7 @@ use Rattle.command.proofs.Bools.{both}
 use Rattle.schedule.specs.declared.Entry.{Entry}
 use Rattle.schedule.specs.declared.Entry.the-variants.{Step, Take, Steal, Enable}
 use Rattle.thread.specs.declared.Effect.{Effect}
-use Rattle.thread.specs.declared.Effect.the-variants.{Faults, Sets, Loads, Stores, Goes, Continues, Lforks, Forks, Joins, Suspends, Yields, Returns}
+use Rattle.thread.specs.declared.Effect.the-variants.{Faults, Sets, Loads, Stores, Goes, Continues, Lforks, Forks, Joins, Suspends, Yields, Returns, Shares}
 use Rattle.thread.specs.declared.Status.the-variants.{Ready, Suspended, Lent}
 use Rattle.thread.specs.Thread.{withStatus, none, _is_}
 use Rattle.rules.specs.declared.ForkKind.the-variants.{Stolen}
@@ -104,6 +104,7 @@ module _ (P : After → Type 0) (j : Job) (s : State) (refuses : Refuses P s) (c
   stolen-by k Suspends e = refuses 18 (omega arith) (omega arith)
   stolen-by k Yields e = refuses 18 (omega arith) (omega arith)
   stolen-by k (Returns v) e = refuses 18 (omega arith) (omega arith)
+  stolen-by k (Shares x) e = refuses 18 (omega arith) (omega arith)
 
   pub steal-by : P (stealOf j s c t)
   unfolding stealOf

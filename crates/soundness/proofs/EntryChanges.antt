@@ -20,8 +20,8 @@ use Rattle.stacklets.proofs.Places.{fits-yes, topmost-base}
 use Rattle.thread.specs.declared.Thread.{Thread}
 use Rattle.thread.specs.declared.Status.{Status}
 use Rattle.thread.specs.declared.Status.the-variants.{Running, Ready, Suspended, Waiting}
-use Rattle.thread.specs.declared.Effect.the-variants.{Sets, Loads, Lforks, Forks, Joins, Returns}
-use Rattle.thread.specs.Thread.{statusNumber, blankThread, originOf, newThread, withStatus, disconnected, movedTo, joinedAt, behindFork, withoutChild, isRoot, none, _is_}
+use Rattle.thread.specs.declared.Effect.the-variants.{Sets, Loads, Lforks, Forks, Joins, Returns, Shares}
+use Rattle.thread.specs.Thread.{statusNumber, blankThread, originOf, newThread, withStatus, disconnected, movedTo, joinedAt, sharedAt, behindFork, withoutChild, isRoot, none, _is_}
 use Rattle.rules.proofs.Laws.{child-in-use, parent-in-use}
 use Rattle.rules.specs.declared.ForkKind.{ForkKind}
 use Rattle.rules.specs.declared.ForkKind.the-variants.{Called, Queued, Stolen}
@@ -33,11 +33,11 @@ use Rattle.rules.specs.Fork.{born, goesAbove, isConnected, childStatus, parentS
 use Rattle.rules.specs.Return.{freed, wakes, statusAfter, returnToParent, returnOf}
 use Rattle.rules.specs.Rules.{entryOf}
 use Rattle.rules.specs.Lists.{Every}
-use Rattle.rules.specs.Sound.{Sound, Used, Unused, statusAt, sizeAt, IsFreeWord}
+use Rattle.rules.specs.Sound.{Sound, Used, Unused, statusAt, sizeAt, windowHeld, IsFreeWord}
 use Rattle.soundness.proofs.Entries.{Kept, Stepped, Forked, Chosen, above, onFree, entry-by}
 use Rattle.soundness.proofs.Changes.{used-below}
 use Rattle.soundness.proofs.CommandMet.{MetAt}
-use Rattle.soundness.proofs.FrameChanges.{Stays, Like, stays-refl, like-same, like-trans, like-used, like-replaced, NewPlace, aboveParent, onNew, Change, steady, birth, ending}
+use Rattle.soundness.proofs.FrameChanges.{Stays, Like, stays-refl, like-same, like-trans, like-used, like-replaced, Turned, kept, rejoins, shares, NewPlace, aboveParent, onNew, Change, steady, birth, ending}
 use Rattle.soundness.proofs.ForkTree.{Childless}
 use Rattle.soundness.proofs.Parts.{return-childless, join-childless}
 use Rattle.soundness.proofs.ThreadsMet.{runner, waiter-used, taken-used, lent-used, parent-used, child-not-first, linked-parent, step-met, seed-met}
@@ -47,9 +47,7 @@ liking : (j : Job) (s s' : State) → ((u : ℕ) → Like (threadAt s u) (thread
     → ((i : ℕ) → IsFreeWord j s i → getD (s' .store .words) i 0 ≡ getD (s .store .words) i 0) → Change j s s'
 liking j s s' like tops free words = steady (record {
   stays = λ u. like u .stays;
-  lo = λ u. ap (λ w. w .lo) (like u .window);
-  hi = λ u. ap (λ w. w .hi) (like u .window);
-  mark = λ u. inl (ap (λ w. w .mark) (like u .window));
+  window = λ u. kept (like u .window);
   tops = tops;
   free = free;
   words = words;
@@ -120,33 +118,36 @@ module _ (j : Job) (s : State) (ok : Sound j s) where
       still-linked e = rw (ap (λ h. h .origin .parent) here) (like-moved t (turnAt j s c t .next) (threadAt s t .origin .parent) .stays .still
           (linked-parent j s ok t (sym (ap (λ h. h .connected) here) ∙ e)))
 
-  -- a join that passes
-  join-change : (c t : ℕ) → Stepped j s c t → effectAt j s (threadAt s t) ≡ Joins
-      → Change j s (completed (turnAt j s c t) (joinedAt (turnAt j s c t .next) (threadAt s t)) s)
-  join-change c t k e = steady (record {
+  -- a thread's window changes, and its frame stays
+  window-change : (c t : ℕ) (h' : Thread) → Stepped j s c t → Stays (threadAt s t) h' → Turned (windowHeld s t) (h' .family .window) (Childless s t)
+      → Change j s (completed (turnAt j s c t) h' s)
+  window-change c t h' k stays turned = steady (record {
     stays = λ u. view u (ℕ-discrete u t) .0;
-    lo = λ u. view u (ℕ-discrete u t) .1;
-    hi = λ u. view u (ℕ-discrete u t) .2;
-    mark = λ u. view u (ℕ-discrete u t) .3;
+    window = λ u. view u (ℕ-discrete u t) .1;
     tops = refl;
     free = refl;
     words = λ i w. refl;
   })
     where
-      h : Thread
-      h = threadAt s t
-
-      h' : Thread
-      h' = joinedAt (turnAt j s c t .next) (threadAt s t)
-
       Seen : ℕ → Thread → Type 0
-      Seen u g = Stays (threadAt s u) g × (g .family .window .lo ≡ threadAt s u .family .window .lo) × (g .family .window .hi ≡ threadAt s u .family .window .hi)
-          × ((g .family .window .mark ≡ threadAt s u .family .window .mark) ⊎ ((g .family .window .mark ≡ threadAt s u .family .window .lo) × Childless s u))
+      Seen u g = Stays (threadAt s u) g × Turned (windowHeld s u) (g .family .window) (Childless s u)
 
       view : (u : ℕ) → Dec (u ≡ t) → Seen u (getD (set (s .threads) t h') u blankThread)
-      view u (yes q) = rw (q, getD-set-same (s .threads) t h' blankThread (used-below s t (runner j s ok c t k)))
-          (record { routine = refl; parent = refl; result = refl; base = refl; was = λ x. x; still = λ x. x }, refl, refl, inr (refl, join-childless j s ok c t k e))
-      view u (no n) = rw (getD-set-other (s .threads) t u h' blankThread n) (stays-refl (threadAt s u), refl, refl, inl refl)
+      view u (yes q) = rw (q, getD-set-same (s .threads) t h' blankThread (used-below s t (runner j s ok c t k))) (stays, turned)
+      view u (no n) = rw (getD-set-other (s .threads) t u h' blankThread n) (stays-refl (threadAt s u), kept refl)
+
+  -- a join that passes
+  join-change : (c t : ℕ) → Stepped j s c t → effectAt j s (threadAt s t) ≡ Joins
+      → Change j s (completed (turnAt j s c t) (joinedAt (turnAt j s c t .next) (threadAt s t)) s)
+  join-change c t k e = window-change c t (joinedAt (turnAt j s c t .next) (threadAt s t)) k
+      (record { routine = refl; parent = refl; result = refl; base = refl; was = λ x. x; still = λ x. x }) (rejoins refl (join-childless j s ok c t k e))
+
+  -- a 0E
+  share-change : (c t x : ℕ) → Stepped j s c t → effectAt j s (threadAt s t) ≡ Shares x
+      → Change j s (completed (turnAt j s c t) (sharedAt (turnAt j s c t .next) x (threadAt s t)) s)
+  share-change c t x k e = let m = step-met j s ok c t k (Shares x) e .0 in
+      window-change c t (sharedAt (turnAt j s c t .next) x (threadAt s t)) k
+      (record { routine = refl; parent = refl; result = refl; base = refl; was = λ x. x; still = λ x. x }) (shares x (m .low) (m .high) refl)
 
   -- what goes above its parent's frame finds it topmost, and fits
   goes-above : (kind : ForkKind) (t r : ℕ) → goesAbove j s kind (threadAt s t) r ≡ true
@@ -344,6 +345,7 @@ module _ (j : Job) (s : State) (ok : Sound j s) where
     suspends = λ c t k e. liking j s _ (done-leaves c t Suspended k (omega arith)) (leaves-tops c t Suspended _) (leaves-free c t Suspended _) (λ i w. leaves-word c t Suspended (goesOn (turnAt j s c t) s) i);
     yields = λ c t k e. liking j s _ (done-leaves c t Ready k (omega arith)) (leaves-tops c t Ready _) (leaves-free c t Ready _) (λ i w. leaves-word c t Ready (goesOn (turnAt j s c t) s) i);
     returns = λ c t k v e. return-change c t v k e;
+    shares = λ c t k x e. share-change c t x k e;
     takes = λ c t ts k. status-change t Running _ (taken-used j s ok c t ts k) (omega arith) refl refl refl refl;
     steals = λ c t k r d a e q n ns x xs f.
         fork-change Stolen c t r d a e n ns x xs _ (k .ongoing) (lent-used j s ok c t k) (seed-met j s ok c t k r d a e q) f refl refl refl _ refl;

@@ -1,5 +1,6 @@
 -- The faults in document 01's words: a command faults by 9 exactly where a slot that it reads or writes is pending, by 10 where none is and
--- its address is not allowed, by 11 where none is and its cut is out of range, and by 12 where it is a return and a slot is pending.
+-- its address is not allowed, by 11 where none is and its cut is out of range, by 12 where it is a return and a slot is pending, and by T-04's
+-- 31 where none is and what it would share is out of range.
 -- Assumes nothing.
 use mathlib.Core.Logic.{_↔_}
 use mathlib.Core.Bool.{Bool, true, false, cond, true≢false}
@@ -9,14 +10,14 @@ use Prim.Native.Nat.{ℕ, _<_}
 use native.Mathlib.Omega.{arith}
 use lib.Dec.{eqb}
 use Rattle.command.specs.declared.Command.{Command}
-use Rattle.command.specs.declared.Command.the-variants.{Set, Add, Subtract, Load, Store, JumpIfZero, Jump, Lfork, Fork, Join, Suspend, Yield, Return}
+use Rattle.command.specs.declared.Command.the-variants.{Set, Add, Subtract, Load, Store, JumpIfZero, Jump, Lfork, Fork, Join, Suspend, Yield, Return, Share}
 use Rattle.image.specs.Layout.{argumentsOf}
 use Rattle.thread.specs.declared.Effect.{Effect}
-use Rattle.thread.specs.declared.Effect.the-variants.{Faults, Sets, Loads, Stores, Goes, Continues, Lforks, Forks, Joins, Suspends, Yields, Returns}
+use Rattle.thread.specs.declared.Effect.the-variants.{Faults, Sets, Loads, Stores, Goes, Continues, Lforks, Forks, Joins, Suspends, Yields, Returns, Shares}
 use Rattle.thread.specs.Effect.{Context, anyPending, unlessPending, provided, forking, effectOf}
 use Rattle.rules.specs.State.{Job, State, threadAt}
 use Rattle.rules.specs.Turn.{effectAt}
-pub use Rattle.soundness.specs.Faults.{operandSlots, readsPending, addressAllowed, cutAllowed, returnsPending, Condition9, Condition10, Condition11, Condition12, commandOf, contextAt, Next}
+pub use Rattle.soundness.specs.Faults.{operandSlots, readsPending, addressAllowed, cutAllowed, shareAllowed, returnsPending, Condition9, Condition10, Condition11, Condition12, Condition31, commandOf, contextAt, Next}
 
 -- a fault's number, or 0
 abbrev pub numberOf : Effect → ℕ
@@ -32,6 +33,7 @@ numberOf Joins = 0
 numberOf Suspends = 0
 numberOf Yields = 0
 numberOf (Returns v) = 0
+numberOf (Shares x) = 0
 
 pub number-faults : (e : Effect) (n : ℕ) → 0 < n → ((e ≡ Faults n) ↔ (numberOf e ≡ n))
 number-faults e n l = (ap numberOf, back e)
@@ -49,6 +51,7 @@ number-faults e n l = (ap numberOf, back e)
     back Suspends q = absurd (omega arith)
     back Yields q = absurd (omega arith)
     back (Returns v) q = absurd (omega arith)
+    back (Shares x) q = absurd (omega arith)
 
 number-unless : (n : ℕ) (p : ℕ → Bool) (ks : List ℕ) (e : Effect) (m : ℕ) → numberOf e ≡ m
     → numberOf (unlessPending n p ks e) ≡ cond (anyPending p ks) n m
@@ -65,10 +68,10 @@ number-provided true n e m q = q
 number-provided false n e m q = refl
 
 module _ (arguments : ℕ → ℕ) (own : Context) where
-  -- THE TESTS in their order, "12, 9, 10 or 11": which one a command meets first
+  -- THE TESTS in their order, "12, 9, 10 or 11", and 31: which one a command meets first
   pub fault-number : (c : Command) → numberOf (effectOf arguments own c)
       ≡ cond (returnsPending arguments own c) 12 (cond (readsPending arguments own c) 9
-      (cond (addressAllowed arguments own c) (cond (cutAllowed arguments own c) 0 11) 10))
+      (cond (addressAllowed arguments own c) (cond (cutAllowed arguments own c) (cond (shareAllowed arguments own c) 0 31) 11) 10))
   unfolding effectOf forking anyPending
   fault-number (Set d v) = number-unless 9 (own .pending) _ _ 0 refl
   fault-number (Add d a b) = number-unless 9 (own .pending) _ _ 0 refl
@@ -87,13 +90,15 @@ module _ (arguments : ℕ → ℕ) (own : Context) where
   fault-number Suspend = refl
   fault-number Yield = refl
   fault-number (Return a) = number-unless 12 (own .pending) _ _ 0 refl
+  fault-number (Share a) = number-unless 9 (own .pending) _ _ _ (number-provided _ 31 _ 0 refl)
 
--- what each number of a chain of tests means: r a return's, p pending slots', a the address's, c the cut's
-record Order (n : ℕ) (r p a c : Bool) : Type 0 where
+-- what each number of a chain of tests means: r a return's, p pending slots', a the address's, c the cut's, x the share's
+record Order (n : ℕ) (r p a c x : Bool) : Type 0 where
   by12 : (n ≡ 12) ↔ (r ≡ true)
   by9 : (n ≡ 9) ↔ ((r ≡ false) × (p ≡ true))
   by10 : (n ≡ 10) ↔ ((r ≡ false) × (p ≡ false) × (a ≡ false))
   by11 : (n ≡ 11) ↔ ((r ≡ false) × (p ≡ false) × (a ≡ true) × (c ≡ false))
+  by31 : (n ≡ 31) ↔ ((r ≡ false) × (p ≡ false) × (a ≡ true) × (c ≡ true) × (x ≡ false))
 
 yes-no : {A : Type 0} → true ≡ false → A
 yes-no e = absurd (true≢false e)
@@ -101,43 +106,55 @@ yes-no e = absurd (true≢false e)
 no-yes : {A : Type 0} → false ≡ true → A
 no-yes e = absurd (true≢false (sym e))
 
-order : (r p a c : Bool) → Order (cond r 12 (cond p 9 (cond a (cond c 0 11) 10))) r p a c
-order true p a c = record {
+order : (r p a c x : Bool) → Order (cond r 12 (cond p 9 (cond a (cond c (cond x 0 31) 11) 10))) r p a c x
+order true p a c x = record {
   by12 = (λ e. refl, λ z. refl);
   by9 = (λ e. absurd (omega arith), λ z. yes-no (z .0));
   by10 = (λ e. absurd (omega arith), λ z. yes-no (z .0));
   by11 = (λ e. absurd (omega arith), λ z. yes-no (z .0));
+  by31 = (λ e. absurd (omega arith), λ z. yes-no (z .0));
 }
-order false true a c = record {
+order false true a c x = record {
   by12 = (λ e. absurd (omega arith), λ z. no-yes z);
   by9 = (λ e. (refl, refl), λ z. refl);
   by10 = (λ e. absurd (omega arith), λ z. yes-no (z .1));
   by11 = (λ e. absurd (omega arith), λ z. yes-no (z .1));
+  by31 = (λ e. absurd (omega arith), λ z. yes-no (z .1));
 }
-order false false false c = record {
+order false false false c x = record {
   by12 = (λ e. absurd (omega arith), λ z. no-yes z);
   by9 = (λ e. absurd (omega arith), λ z. no-yes (z .1));
   by10 = (λ e. (refl, refl, refl), λ z. refl);
   by11 = (λ e. absurd (omega arith), λ z. no-yes (z .2));
+  by31 = (λ e. absurd (omega arith), λ z. no-yes (z .2));
 }
-order false false true true = record {
-  by12 = (λ e. absurd (omega arith), λ z. no-yes z);
-  by9 = (λ e. absurd (omega arith), λ z. no-yes (z .1));
-  by10 = (λ e. absurd (omega arith), λ z. yes-no (z .2));
-  by11 = (λ e. absurd (omega arith), λ z. yes-no (z .3));
-}
-order false false true false = record {
+order false false true false x = record {
   by12 = (λ e. absurd (omega arith), λ z. no-yes z);
   by9 = (λ e. absurd (omega arith), λ z. no-yes (z .1));
   by10 = (λ e. absurd (omega arith), λ z. yes-no (z .2));
   by11 = (λ e. (refl, refl, refl, refl), λ z. refl);
+  by31 = (λ e. absurd (omega arith), λ z. no-yes (z .3));
+}
+order false false true true true = record {
+  by12 = (λ e. absurd (omega arith), λ z. no-yes z);
+  by9 = (λ e. absurd (omega arith), λ z. no-yes (z .1));
+  by10 = (λ e. absurd (omega arith), λ z. yes-no (z .2));
+  by11 = (λ e. absurd (omega arith), λ z. yes-no (z .3));
+  by31 = (λ e. absurd (omega arith), λ z. yes-no (z .4));
+}
+order false false true true false = record {
+  by12 = (λ e. absurd (omega arith), λ z. no-yes z);
+  by9 = (λ e. absurd (omega arith), λ z. no-yes (z .1));
+  by10 = (λ e. absurd (omega arith), λ z. yes-no (z .2));
+  by11 = (λ e. absurd (omega arith), λ z. yes-no (z .3));
+  by31 = (λ e. (refl, refl, refl, refl, refl), λ z. refl);
 }
 
 -- A COMMAND'S FAULT, exactly under its condition
 module _ (arguments : ℕ → ℕ) (own : Context) (c : Command) where
   ordered : Order (numberOf (effectOf arguments own c)) (returnsPending arguments own c) (readsPending arguments own c)
-      (addressAllowed arguments own c) (cutAllowed arguments own c)
-  ordered = rw (fault-number arguments own c) (order _ _ _ _)
+      (addressAllowed arguments own c) (cutAllowed arguments own c) (shareAllowed arguments own c)
+  ordered = rw (fault-number arguments own c) (order _ _ _ _ _)
 
   both : {B : Type 0} (n : ℕ) → 0 < n → ((numberOf (effectOf arguments own c) ≡ n) ↔ B) → ((effectOf arguments own c ≡ Faults n) ↔ B)
   both n l z = let y = number-faults (effectOf arguments own c) n l in (λ e. z .0 (y .0 e), λ b. y .1 (z .1 b))
@@ -153,6 +170,9 @@ module _ (arguments : ℕ → ℕ) (own : Context) (c : Command) where
 
   pub faults-11 : (effectOf arguments own c ≡ Faults 11) ↔ (Condition11 arguments own c)
   faults-11 = both 11 (omega arith) (ordered .by11)
+
+  pub faults-31 : (effectOf arguments own c ≡ Faults 31) ↔ (Condition31 arguments own c)
+  faults-31 = both 31 (omega arith) (ordered .by31)
 
 -- THE NEXT COMMAND of thread t
 module _ (j : Job) (s : State) (t : ℕ) where
@@ -171,3 +191,7 @@ module _ (j : Job) (s : State) (t : ℕ) where
   pub next-11 : (effectAt j s (threadAt s t) ≡ Faults 11) ↔ (Next j s t Condition11)
   unfolding effectAt
   next-11 = faults-11 (argumentsOf (j .image)) (contextAt j s t) (commandOf j s t)
+
+  pub next-31 : (effectAt j s (threadAt s t) ≡ Faults 31) ↔ (Next j s t Condition31)
+  unfolding effectAt
+  next-31 = faults-31 (argumentsOf (j .image)) (contextAt j s t) (commandOf j s t)

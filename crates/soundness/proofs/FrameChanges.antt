@@ -2,7 +2,6 @@
 -- of soundness says of frames or windows is shown for these three only. Assumes nothing.
 use mathlib.Core.Bool.{Bool, true}
 use mathlib.Core.List.{List, _∷_}
-use mathlib.Core.Logic.{_⊎_}
 use mathlib.Core.Path.{_≡_, refl, _∙_}
 use Prim.Native.Nat.{ℕ, _+_, _-_, _/_, _≤_, _<_}
 use native.Mathlib.Decide.{ℕ-discrete, decLt}
@@ -10,7 +9,8 @@ use native.Mathlib.Omega.{arith}
 use lib.ListN.{getD, set, length}
 use lib.Seq.{getD-set-same, getD-set-other, set-out}
 use Rattle.image.specs.Layout.{routineCount, slotsOf}
-use Rattle.window.specs.Rights.{childOf, restOf}
+use Rattle.window.specs.declared.Window.{Window}
+use Rattle.window.specs.Rights.{childOf, restOf, sharingOf, rejoined}
 use Rattle.stacklets.specs.Tops.{topAt, baseOn, fitsOn, pushedTops, poppedTops}
 use Rattle.stacklets.specs.Frames.{wiped, pushedWords}
 use Rattle.thread.specs.declared.Thread.{Thread}
@@ -18,7 +18,7 @@ use Rattle.thread.specs.declared.Status.{Status}
 use Rattle.thread.specs.Thread.{statusNumber, blankThread, originOf, newThread, _is_}
 use Rattle.rules.specs.State.{Job, State, threadAt}
 use Rattle.rules.specs.Return.{stackletsWithout}
-use Rattle.rules.specs.Sound.{Used, statusAt, sizeAt, IsFreeWord}
+use Rattle.rules.specs.Sound.{Used, statusAt, sizeAt, windowHeld, IsFreeWord}
 use Rattle.soundness.proofs.ForkTree.{Childless}
 
 -- a record in the place of another: the same frame and place in the fork tree, in use just if that was
@@ -68,12 +68,16 @@ like-replaced ts t h l u = go (ℕ-discrete u t) (decLt t (length ts))
     go (yes e) (no b) = like-same (rw (set-out ts t h (omega arith)))
     go (no n) _ = like-same (getD-set-other ts t u h blankThread n)
 
--- NO FRAME comes or goes, no word changes outside the frames, and no window changes but by a join, which puts the mark back to lo
+-- how a window changes where no frame comes or goes: not at all, by a join that passes, or by a 0E
+pub data Turned (w w' : Window) (childless : Type 0) : Type 0 where
+  kept : w' ≡ w → Turned w w' childless
+  rejoins : w' ≡ rejoined w → childless → Turned w w' childless
+  shares : (x : ℕ) → w .mark ≤ x → x ≤ w .ceiling → w' ≡ sharingOf w x → Turned w w' childless
+
+-- NO FRAME comes or goes, and no word changes outside the frames
 pub record Steady (j : Job) (s s' : State) : Type 0 where
   pub stays : (u : ℕ) → Stays (threadAt s u) (threadAt s' u)
-  pub lo : (u : ℕ) → threadAt s' u .family .window .lo ≡ threadAt s u .family .window .lo
-  pub hi : (u : ℕ) → threadAt s' u .family .window .hi ≡ threadAt s u .family .window .hi
-  pub mark : (u : ℕ) → (threadAt s' u .family .window .mark ≡ threadAt s u .family .window .mark) ⊎ ((threadAt s' u .family .window .mark ≡ threadAt s u .family .window .lo) × Childless s u)
+  pub window : (u : ℕ) → Turned (windowHeld s u) (windowHeld s' u) (Childless s u)
   pub tops : s' .store .tops ≡ s .store .tops
   pub free : s' .queues .freeStacklets ≡ s .queues .freeStacklets
   pub words : (i : ℕ) → IsFreeWord j s i → getD (s' .store .words) i 0 ≡ getD (s .store .words) i 0
@@ -92,7 +96,7 @@ pub record Birth (j : Job) (s s' : State) (t n r d x cut : ℕ) : Type 0 where
   pub routine : r < routineCount (j .image)
   pub slot : d < sizeAt j s t
   pub low : threadAt s t .family .window .mark ≤ cut
-  pub high : cut ≤ threadAt s t .family .window .hi
+  pub high : cut ≤ threadAt s t .family .window .ceiling
   pub fit : fitsOn (s .store .tops) x (slotsOf (j .image) r) ≡ true
   pub place : NewPlace j s s' t x
   pub tops : s' .store .tops ≡ pushedTops (s .store .tops) x (slotsOf (j .image) r)

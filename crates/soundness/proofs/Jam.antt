@@ -15,7 +15,7 @@ use Rattle.soundness.proofs.Entries.{not-over}
 use Rattle.soundness.proofs.Changes.{status-most, connectedAt, used-low}
 use Rattle.soundness.proofs.LentThreads.{not-both}
 use Rattle.soundness.proofs.ForkTree.{Unfinished, child-some, among-some}
-use Rattle.soundness.proofs.Tested.{fault-tested}
+use Rattle.soundness.proofs.Tested.{fault-tested, no-fault}
 use Rattle.soundness.proofs.Parts.{going-unfinished}
 use Rattle.soundness.proofs.Logs.{StepLog, stepOver, stepNoCore, stepIdle, stepDear, stepFaults, stepFewThreads, stepFewStacklets, stepAccepted, step-log, TakeLog, takeOver, takeNoCore, takeBusy, takeEmpty, takeAccepted, take-log}
 
@@ -91,7 +91,7 @@ busy-lacks j s c o l b n (stepOver e f) k = absurd (not-both (isOver (s .outcome
 busy-lacks j s c o l b n (stepNoCore e f g) k = absurd (omega arith)
 busy-lacks j s c o l b n (stepIdle e f g h) k = absurd (omega arith)
 busy-lacks j s c o l b n (stepDear e d) k = inr (inr e)
-busy-lacks j s c o l b n (stepFaults d q) k = absurd (let z = fault-tested j s (onCore s c) n q .1 in let y = k .0 in omega arith)
+busy-lacks j s c o l b n (stepFaults d q) k = absurd (let y = k .0 in let z = k .1 in no-fault n (fault-tested j s (onCore s c) n q) (inr (omega arith, omega arith)))
 busy-lacks j s c o l b n (stepFewThreads e d x y z w) k = inl e
 busy-lacks j s c o l b n (stepFewStacklets e d x y z w v u) k = inr (inl e)
 busy-lacks j s c o l b n (stepAccepted e) k = absurd (let y = k .0 in omega arith)

@@ -18,8 +18,8 @@ use Rattle.stacklets.specs.Tops.{baseOn}
 use Rattle.thread.specs.declared.Thread.{Thread}
 use Rattle.thread.specs.declared.Status.{Status}
 use Rattle.thread.specs.declared.Status.the-variants.{Running, Ready, Suspended, Waiting}
-use Rattle.thread.specs.declared.Effect.the-variants.{Sets, Loads, Stores, Goes, Continues, Lforks, Forks, Joins, Suspends, Yields}
-use Rattle.thread.specs.Thread.{statusNumber, blankThread, originOf, newThread, withStatus, disconnected, movedTo, joinedAt, behindFork, withoutChild, isRoot, none}
+use Rattle.thread.specs.declared.Effect.the-variants.{Sets, Loads, Stores, Goes, Continues, Lforks, Forks, Joins, Suspends, Yields, Shares}
+use Rattle.thread.specs.Thread.{statusNumber, blankThread, originOf, newThread, withStatus, disconnected, movedTo, joinedAt, sharedAt, behindFork, withoutChild, isRoot, none}
 use Rattle.rules.specs.declared.ForkKind.{ForkKind}
 use Rattle.rules.specs.declared.ForkKind.the-variants.{Called, Queued, Stolen}
 use Rattle.rules.specs.State.{Job, State, finished, threadAt}
@@ -259,6 +259,8 @@ module _ (j : Job) (s : State) (ok : Sound j s) where
     suspends = λ c t k e. good-placed j _ (good-done-leaves c t Suspended k (step-met j s ok c t k Suspends e) (omega arith) (λ z. omega arith));
     yields = λ c t k e. good-placed j _ (good-done-leaves c t Ready k (step-met j s ok c t k Yields e) (omega arith) (λ z. omega arith));
     returns = λ c t k v e. return-placed c t v k;
+    shares = λ c t k x e. good-placed j _ (good-replaced j (s .threads) all t (sharedAt (turnAt j s c t .next) x (threadAt s t)) (λ h. let g = all t h in
+        record { routine = g .routine; position = step-met j s ok c t k (Shares x) e .1; pending = g .pending; result = g .result; join = λ q. let z = running c t k in absurd (omega arith) }));
     takes = λ c t ts k. status-placed t Running _ (taken-used j s ok c t ts k) (λ z. omega arith) refl;
     steals = λ c t k r d a e q n ns x xs f. let m = seed-met j s ok c t k r d a e q in fork-placed Stolen t r d a e n x _ _ (lent-used j s ok c t k) m (m .1) refl;
     enables = λ t k. status-placed t Ready _ (let z = k .suspended in omega arith) (λ z. omega arith) refl;

@@ -138,6 +138,7 @@ module _ (j : Job) (s : State) (ok : Sound j s) where
     suspends = λ c t k e. let z = leaves-sizes c t Suspended (goesOn (turnAt j s c t) s) in charged c t _ (k .paid) (sizes-trans s (goesOn (turnAt j s c t) s) _ (gone-on c t) (z .0)) (z .1);
     yields = λ c t k e. charged c t _ (k .paid) (yielded c t) (leaves-sizes c t Ready (goesOn (turnAt j s c t) s) .1);
     returns = λ c t k v e. let z = return-sizes j s (turnAt j s c t) v in charged c t _ (k .paid) (z .0) (z .1);
+    shares = λ c t k x e. charged c t _ (k .paid) (record { threads = simp length-set; cores = refl; tops = refl; words = refl; memory = refl; count = refl }) refl;
     takes = λ c t ts k. free-of-charge _ (record { threads = simp length-set; cores = simp length-set; tops = refl; words = refl; memory = refl; count = refl }) refl;
     steals = λ c t k r d a e q n ns x xs f. let z = born-sizes j s Stolen (turnAt j s c t) (asked r d a e) n ns x xs in charged c t _ (k .paid) (z .0) (z .1);
     enables = λ t k. free-of-charge _ (record { threads = simp length-set; cores = refl; tops = refl; words = refl; memory = refl; count = refl }) refl;

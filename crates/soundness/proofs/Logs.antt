@@ -9,7 +9,7 @@ use native.Mathlib.Omega.{arith}
 use lib.Dec.{ltb, leb}
 use borrow.Author.Tests.{eq-eqb, ne-eqb, ltb-true, ltb-false, lt-ltb, leb-true, leb-false}
 use Rattle.thread.specs.declared.Effect.{Effect}
-use Rattle.thread.specs.declared.Effect.the-variants.{Faults, Sets, Loads, Stores, Goes, Continues, Lforks, Forks, Joins, Suspends, Yields, Returns}
+use Rattle.thread.specs.declared.Effect.the-variants.{Faults, Sets, Loads, Stores, Goes, Continues, Lforks, Forks, Joins, Suspends, Yields, Returns, Shares}
 use Rattle.thread.specs.declared.Status.the-variants.{Ready, Suspended, Waiting}
 use Rattle.thread.specs.declared.Thread.{Thread}
 use Rattle.thread.specs.Thread.{none, withStatus, _is_}
@@ -86,6 +86,7 @@ carried-log j s c k Joins q = stepAccepted refl
 carried-log j s c k Suspends q = stepAccepted refl
 carried-log j s c k Yields q = stepAccepted refl
 carried-log j s c k (Returns v) q = stepAccepted refl
+carried-log j s c k (Shares x) q = stepAccepted refl
 
 pub step-log : (j : Job) (s : State) → Sound j s → (c : ℕ) → StepLog j s c (stepOf j s c .log)
 unfolding stepOf turnOf
@@ -180,6 +181,7 @@ stolen-log j s c t k Joins q i = absurd i
 stolen-log j s c t k Suspends q i = absurd i
 stolen-log j s c t k Yields q i = absurd i
 stolen-log j s c t k (Returns v) q i = absurd i
+stolen-log j s c t k (Shares x) q i = absurd i
 
 -- the test of a seed
 pub true-seed : (j : Job) (s : State) (t : ℕ) → Seed j s t → isSeed j s t ≡ true

@@ -2,9 +2,9 @@
 use Rattle.rules.specs.State.{Job, State}
 use Rattle.rules.specs.Sound.{Sound}
 use Rattle.soundness.specs.Numbers.{Numbers}
-use Rattle.soundness.proofs.Refusals.{step-19, step-14, step-15, step-22, step-12, step-9, step-10, step-11, step-20, step-21, step-numbers}
+use Rattle.soundness.proofs.Refusals.{step-19, step-14, step-15, step-22, step-12, step-9, step-10, step-11, step-31, step-20, step-21, step-numbers}
 use Rattle.soundness.proofs.QueueRefusals.{take-19, take-14, take-15, take-16, take-numbers, enable-19, enable-17, enable-numbers}
-use Rattle.soundness.proofs.StealRefusals.{steal-19, steal-14, steal-15, steal-18, steal-22, steal-12, steal-9, steal-10, steal-11, steal-20, steal-21, steal-numbers}
+use Rattle.soundness.proofs.StealRefusals.{steal-19, steal-14, steal-15, steal-18, steal-22, steal-12, steal-9, steal-10, steal-11, steal-31, steal-20, steal-21, steal-numbers}
 
 pub numbers : (j : Job) (s : State) → Sound j s → Numbers j s
 numbers j s sound = record {
@@ -17,6 +17,7 @@ numbers j s sound = record {
     number9 = step-9 j s sound c;
     number10 = step-10 j s sound c;
     number11 = step-11 j s sound c;
+    number31 = step-31 j s sound c;
     number20 = step-20 j s sound c;
     number21 = step-21 j s sound c;
     others = step-numbers j s sound c;
@@ -38,6 +39,7 @@ numbers j s sound = record {
     number9 = steal-9 j s sound c t;
     number10 = steal-10 j s sound c t;
     number11 = steal-11 j s sound c t;
+    number31 = steal-31 j s sound c t;
     number20 = steal-20 j s sound c t;
     number21 = steal-21 j s sound c t;
     others = steal-numbers j s sound c t;

@@ -11,7 +11,7 @@ use borrow.Author.Tests.{eq-eqb, ltb-false}
 use Rattle.schedule.specs.declared.Entry.{Entry}
 use Rattle.thread.specs.declared.Effect.the-variants.{Joins, Returns}
 use Rattle.thread.specs.declared.Status.the-variants.{Ready, Suspended, Waiting}
-use Rattle.thread.specs.Thread.{joinedAt, movedTo}
+use Rattle.thread.specs.Thread.{joinedAt, sharedAt, movedTo}
 use Rattle.rules.specs.State.{Job, State, going, threadAt, onCore}
 use Rattle.rules.specs.Turn.{turnAt, byteOf, effectAt, goesOn}
 use Rattle.rules.specs.Rules.{entryOf}
@@ -95,6 +95,10 @@ module _ (j : Job) (s : State) (sound : Sound j s) where
         held-yields (goesOn (turnAt j s c t) s) (moved c t _ k _ refl refl refl refl refl refl) c t Ready (k .core) (k .seat) (k .low)
         (going-unfinished s (k .ongoing)) refl;
     returns = λ c t k v q. held-returns j s held c t v (k .core) (k .seat) (k .low) (going-unfinished s (k .ongoing)) (return-childless c t v k q);
+    shares = λ c t k x q.
+        held-own s _ held t (sharedAt (turnAt j s c t .next) x (threadAt s t)) (k .low) refl refl refl refl refl (going-unfinished s (k .ongoing))
+        (going-unfinished s (k .ongoing))
+        refl refl refl refl refl (inr (λ i e. e));
     takes = λ c t ts k.
         held-took s _ held c t ts (k .core) (k .idle) (k .head) refl refl refl refl refl (going-unfinished s (k .ongoing))
         (going-unfinished s (k .ongoing));

@@ -1,5 +1,5 @@
 -- Each number of a step is logged exactly under its condition, in every sound state: document 01, "Who can cause which number", 9 to 12,
--- 14, 15, 19 and 20 to 22. So none is logged with what it needs at hand, and the order of the tests is seen in the conditions. Takes and
+-- 14, 15, 19 and 20 to 22, and T-04's 31. So none is logged with what it needs at hand, and the order of the tests is seen in the conditions. Takes and
 -- enables are in QueueRefusals, steals in StealRefusals. Assumes nothing but that the state is sound.
 use mathlib.Core.Bool.{true, false}
 use mathlib.Core.List.{List, [], _∷_}
@@ -9,6 +9,7 @@ use Prim.Native.Nat.{ℕ, _-_, _/_, _<_, _≤_}
 use native.Mathlib.Omega.{arith}
 use borrow.Author.Tests.{lt-ltb, le-ltb, lt-leb, le-leb}
 use Rattle.thread.specs.declared.Effect.the-variants.{Faults}
+use Rattle.thread.specs.Effect.{IsFault}
 use Rattle.thread.specs.Thread.{none, _is_}
 use Rattle.rules.specs.declared.ForkKind.{ForkKind}
 use Rattle.rules.specs.State.{Job, State, going, isOver, threadAt, onCore}
@@ -19,9 +20,9 @@ use Rattle.rules.specs.Sound.{Sound}
 use Rattle.soundness.specs.Numbers.{FewThreads, FewStacklets}
 use Rattle.soundness.proofs.Entries.{Stepped}
 use Rattle.soundness.proofs.Exactly.{exactly-and}
-use Rattle.soundness.proofs.Faults.{Condition9, Condition10, Condition11, Condition12, Next, next-9, next-10, next-11, next-12}
+use Rattle.soundness.proofs.Faults.{Condition9, Condition10, Condition11, Condition12, Condition31, Next, next-9, next-10, next-11, next-12, next-31}
 use Rattle.soundness.proofs.NeededStacklets.{needs-stacklet}
-use Rattle.soundness.proofs.Tested.{fault-tested}
+use Rattle.soundness.proofs.Tested.{fault-tested, no-fault}
 use Rattle.soundness.proofs.ThreadsMet.{runner}
 use Rattle.soundness.proofs.Logs.{Dear, StepForks, isLfork, isFork, StepLog, stepOver, stepNoCore, stepIdle, stepDear, stepFaults, stepFewThreads, stepFewStacklets, stepAccepted, step-log}
 
@@ -50,7 +51,7 @@ module _ (j : Job) (s : State) (sound : Sound j s) (c : ℕ) where
     number14 : n ≡ 14 → (s .outcome ≡ going) × (s .count ≤ c)
     number15 : n ≡ 15 → (s .outcome ≡ going) × (c < s .count) × (none ≤ onCore s c)
     number22 : n ≡ 22 → Dear j s c (onCore s c)
-    fault : 9 ≤ n → n ≤ 12 → Stepped j s c (onCore s c) × (effectAt j s (threadAt s (onCore s c)) ≡ Faults n)
+    fault : IsFault n → Stepped j s c (onCore s c) × (effectAt j s (threadAt s (onCore s c)) ≡ Faults n)
     number20 : n ≡ 20 → FewThreads j s c
     number21 : n ≡ 21 → FewStacklets j s c
 
@@ -60,7 +61,7 @@ module _ (j : Job) (s : State) (sound : Sound j s) (c : ℕ) where
     number14 = λ e. absurd (omega arith);
     number15 = λ e. absurd (omega arith);
     number22 = λ e. absurd (omega arith);
-    fault = λ l m. absurd (omega arith);
+    fault = λ l. absurd (no-fault _ l (inr (omega arith, omega arith)));
     number20 = λ e. absurd (omega arith);
     number21 = λ e. absurd (omega arith);
   }
@@ -69,7 +70,7 @@ module _ (j : Job) (s : State) (sound : Sound j s) (c : ℕ) where
     number14 = λ e. (o, l);
     number15 = λ e. absurd (omega arith);
     number22 = λ e. absurd (omega arith);
-    fault = λ l m. absurd (omega arith);
+    fault = λ l. absurd (no-fault _ l (inr (omega arith, omega arith)));
     number20 = λ e. absurd (omega arith);
     number21 = λ e. absurd (omega arith);
   }
@@ -78,7 +79,7 @@ module _ (j : Job) (s : State) (sound : Sound j s) (c : ℕ) where
     number14 = λ e. absurd (omega arith);
     number15 = λ e. (o, l, i);
     number22 = λ e. absurd (omega arith);
-    fault = λ l m. absurd (omega arith);
+    fault = λ l. absurd (no-fault _ l (inr (omega arith, omega arith)));
     number20 = λ e. absurd (omega arith);
     number21 = λ e. absurd (omega arith);
   }
@@ -87,25 +88,25 @@ module _ (j : Job) (s : State) (sound : Sound j s) (c : ℕ) where
     number14 = λ e. absurd (omega arith);
     number15 = λ e. absurd (omega arith);
     number22 = λ e. d;
-    fault = λ l m. absurd (omega arith);
+    fault = λ l. absurd (no-fault _ l (inr (omega arith, omega arith)));
     number20 = λ e. absurd (omega arith);
     number21 = λ e. absurd (omega arith);
   }
-  step-means {n} (stepFaults k q) = let z = fault-tested j s (onCore s c) n q in let y = z .1 in record {
-    number19 = λ e. absurd (omega arith);
-    number14 = λ e. absurd (omega arith);
-    number15 = λ e. absurd (omega arith);
-    number22 = λ e. absurd (omega arith);
-    fault = λ l m. (k, q);
-    number20 = λ e. absurd (omega arith);
-    number21 = λ e. absurd (omega arith);
+  step-means {n} (stepFaults k q) = let z = fault-tested j s (onCore s c) n q in record {
+    number19 = λ e. absurd (no-fault _ z (inr (omega arith, omega arith)));
+    number14 = λ e. absurd (no-fault _ z (inr (omega arith, omega arith)));
+    number15 = λ e. absurd (no-fault _ z (inr (omega arith, omega arith)));
+    number22 = λ e. absurd (no-fault _ z (inr (omega arith, omega arith)));
+    fault = λ l. (k, q);
+    number20 = λ e. absurd (no-fault _ z (inr (omega arith, omega arith)));
+    number21 = λ e. absurd (no-fault _ z (inr (omega arith, omega arith)));
   }
   step-means (stepFewThreads x k kind r f t) = record {
     number19 = λ e. absurd (omega arith);
     number14 = λ e. absurd (omega arith);
     number15 = λ e. absurd (omega arith);
     number22 = λ e. absurd (omega arith);
-    fault = λ l m. absurd (omega arith);
+    fault = λ l. absurd (no-fault _ l (inr (omega arith, omega arith)));
     number20 = λ e. (k, kind, r, f, t);
     number21 = λ e. absurd (omega arith);
   }
@@ -114,7 +115,7 @@ module _ (j : Job) (s : State) (sound : Sound j s) (c : ℕ) where
     number14 = λ e. absurd (omega arith);
     number15 = λ e. absurd (omega arith);
     number22 = λ e. absurd (omega arith);
-    fault = λ l m. absurd (omega arith);
+    fault = λ l. absurd (no-fault _ l (inr (omega arith, omega arith)));
     number20 = λ e. absurd (omega arith);
     number21 = λ e. (k, kind, r, f, t, needs-stacklet j s sound (onCore s c) (runner j s sound c (onCore s c) k) kind r .0 a, u);
   }
@@ -123,7 +124,7 @@ module _ (j : Job) (s : State) (sound : Sound j s) (c : ℕ) where
     number14 = λ e. absurd (omega arith);
     number15 = λ e. absurd (omega arith);
     number22 = λ e. absurd (omega arith);
-    fault = λ l m. absurd (omega arith);
+    fault = λ l. absurd (no-fault _ l (inl (omega arith)));
     number20 = λ e. absurd (omega arith);
     number21 = λ e. absurd (omega arith);
   }
@@ -174,30 +175,34 @@ module _ (j : Job) (s : State) (sound : Sound j s) (c : ℕ) where
   )
 
   -- "12, 9, 10 or 11": the faults
-  pub step-fault : (n : ℕ) → 9 ≤ n → n ≤ 12 → ((stepOf j s c .log ≡ n) ↔
+  pub step-fault : (n : ℕ) → IsFault n → ((stepOf j s c .log ≡ n) ↔
       (Stepped j s c (onCore s c) × (effectAt j s (threadAt s (onCore s c)) ≡ Faults n)))
   unfolding carriedOf
-  step-fault n l m = (
-    λ e. rw e at (means .fault (rw e l) (rw e m)),
+  step-fault n l = (
+    λ e. rw e at (means .fault (rw e l)),
     λ z.
         ap (λ a. a .log) (step-carried (z .0)) ∙ ap (λ e. carriedOf j s (turnAt j s c (onCore s c)) e .log) (z .1),
   )
 
   -- "12: return with pending slots"
   pub step-12 : (stepOf j s c .log ≡ 12) ↔ (Stepped j s c (onCore s c) × Next j s (onCore s c) Condition12)
-  step-12 = exactly-and (step-fault 12 (omega arith) (omega arith)) (next-12 j s (onCore s c))
+  step-12 = exactly-and (step-fault 12 (inl (omega arith, omega arith))) (next-12 j s (onCore s c))
 
   -- "9: a pending slot read or written (a fork writes its d)"
   pub step-9 : (stepOf j s c .log ≡ 9) ↔ (Stepped j s c (onCore s c) × Next j s (onCore s c) Condition9)
-  step-9 = exactly-and (step-fault 9 (omega arith) (omega arith)) (next-9 j s (onCore s c))
+  step-9 = exactly-and (step-fault 9 (inl (omega arith, omega arith))) (next-9 j s (onCore s c))
 
   -- "10: address not allowed"
   pub step-10 : (stepOf j s c .log ≡ 10) ↔ (Stepped j s c (onCore s c) × Next j s (onCore s c) Condition10)
-  step-10 = exactly-and (step-fault 10 (omega arith) (omega arith)) (next-10 j s (onCore s c))
+  step-10 = exactly-and (step-fault 10 (inl (omega arith, omega arith))) (next-10 j s (onCore s c))
 
   -- "11: cut out of range"
   pub step-11 : (stepOf j s c .log ≡ 11) ↔ (Stepped j s c (onCore s c) × Next j s (onCore s c) Condition11)
-  step-11 = exactly-and (step-fault 11 (omega arith) (omega arith)) (next-11 j s (onCore s c))
+  step-11 = exactly-and (step-fault 11 (inl (omega arith, omega arith))) (next-11 j s (onCore s c))
+
+  -- T-04: "31 s out of range"
+  pub step-31 : (stepOf j s c .log ≡ 31) ↔ (Stepped j s c (onCore s c) × Next j s (onCore s c) Condition31)
+  step-31 = exactly-and (step-fault 31 (inr refl)) (next-31 j s (onCore s c))
 
   fork-at : (kind : ForkKind) (r : ℕ) → StepForks j s (onCore s c) kind r → (n : ℕ)
       → ((f : Asked) → f .routine ≡ r → forkOf j s kind (turnAt j s c (onCore s c)) f .log ≡ n)
@@ -229,11 +234,11 @@ module _ (j : Job) (s : State) (sound : Sound j s) (c : ℕ) where
   )
 
   -- no other number is logged
-  pub step-numbers : (stepOf j s c .log ≡ 0) ⊎ (((9 ≤ stepOf j s c .log) × (stepOf j s c .log ≤ 12))
+  pub step-numbers : (stepOf j s c .log ≡ 0) ⊎ (IsFault (stepOf j s c .log)
       ⊎ (((14 ≤ stepOf j s c .log) × (stepOf j s c .log ≤ 15)) ⊎ ((19 ≤ stepOf j s c .log) × (stepOf j s c .log ≤ 22))))
   step-numbers = go (step-log j s sound c)
     where
-      go : {n : ℕ} → StepLog j s c n → (n ≡ 0) ⊎ (((9 ≤ n) × (n ≤ 12)) ⊎ (((14 ≤ n) × (n ≤ 15)) ⊎ ((19 ≤ n) × (n ≤ 22))))
+      go : {n : ℕ} → StepLog j s c n → (n ≡ 0) ⊎ (IsFault n ⊎ (((14 ≤ n) × (n ≤ 15)) ⊎ ((19 ≤ n) × (n ≤ 22))))
       go (stepOver x _) = inr (inr (inr (omega arith, omega arith)))
       go (stepNoCore x _ _) = inr (inr (inl (omega arith, omega arith)))
       go (stepIdle x _ _ _) = inr (inr (inl (omega arith, omega arith)))

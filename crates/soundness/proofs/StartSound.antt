@@ -128,6 +128,7 @@ module _ (j : Job) (count : ℕ) (arguments memory : List ℕ) where
     root = λ u. (refl, refl);
     inside = λ u h n. absurd (n (used-root u h));
     apart = λ u v h k n e. absurd (n (used-root u h ∙ sym (used-root v k)));
+    given = λ u h n l. absurd (n (used-root u h));
   }
 
   start-free-threads : FreeThreads start

@@ -9,6 +9,7 @@ use native.Mathlib.Omega.{arith}
 use borrow.Author.Tests.{lt-ltb, le-ltb, lt-leb, le-leb}
 use Rattle.thread.specs.declared.Effect.the-variants.{Faults}
 use Rattle.thread.specs.declared.Thread.{Thread}
+use Rattle.thread.specs.Effect.{IsFault}
 use Rattle.thread.specs.Thread.{none, _is_}
 use Rattle.rules.specs.declared.ForkKind.the-variants.{Stolen}
 use Rattle.rules.specs.State.{Job, State, going, isOver, threadAt, onCore}
@@ -18,8 +19,8 @@ use Rattle.rules.specs.Rules.{isSeed, stolenOf, stealOf}
 use Rattle.rules.specs.Sound.{Sound}
 use Rattle.soundness.proofs.Entries.{Seed, Seeded, seed-true}
 use Rattle.soundness.proofs.Exactly.{exactly-and}
-use Rattle.soundness.proofs.Faults.{Condition9, Condition10, Condition11, Condition12, Next, next-9, next-10, next-11, next-12}
-use Rattle.soundness.proofs.Tested.{fault-tested}
+use Rattle.soundness.proofs.Faults.{Condition9, Condition10, Condition11, Condition12, Next, next-9, next-10, next-11, next-12, next-31}
+use Rattle.soundness.proofs.Tested.{fault-tested, no-fault, seed-shares}
 use Rattle.soundness.proofs.Logs.{DearSeed, SeedForks, true-seed, StealLog, stealOver, stealNoCore, stealBusy, stealNoSeed, stealDear, stealFaults, stealFewThreads, stealFewStacklets, stealAccepted, steal-log}
 use Rattle.soundness.proofs.Refusals.{few-threads, few-stacklets}
 
@@ -44,7 +45,7 @@ module _ (j : Job) (s : State) (sound : Sound j s) (c t : ℕ) where
     number15 : n ≡ 15 → (s .outcome ≡ going) × (c < s .count) × (onCore s c < none)
     number18 : n ≡ 18 → (s .outcome ≡ going) × (c < s .count) × (none ≤ onCore s c) × (¬ (Seed j s t))
     number22 : n ≡ 22 → DearSeed j s c t
-    fault : 9 ≤ n → n ≤ 12 → Seeded j s c t × (effectAt j s (threadAt s t) ≡ Faults n)
+    fault : IsFault n → Seeded j s c t × (effectAt j s (threadAt s t) ≡ Faults n)
     number20 : n ≡ 20 → Seeded j s c t × (r : ℕ) × SeedForks j s t r × (s .queues .freeThreads ≡ [])
     number21 : n ≡ 21 → Seeded j s c t × (r : ℕ) × SeedForks j s t r × (¬ (s .queues .freeThreads ≡ [])) × (s .queues .freeStacklets ≡ [])
 
@@ -55,7 +56,7 @@ module _ (j : Job) (s : State) (sound : Sound j s) (c t : ℕ) where
     number15 = λ e. absurd (omega arith);
     number18 = λ e. absurd (omega arith);
     number22 = λ e. absurd (omega arith);
-    fault = λ l m. absurd (omega arith);
+    fault = λ l. absurd (no-fault _ l (inr (omega arith, omega arith)));
     number20 = λ e. absurd (omega arith);
     number21 = λ e. absurd (omega arith);
   }
@@ -65,7 +66,7 @@ module _ (j : Job) (s : State) (sound : Sound j s) (c t : ℕ) where
     number15 = λ e. absurd (omega arith);
     number18 = λ e. absurd (omega arith);
     number22 = λ e. absurd (omega arith);
-    fault = λ l m. absurd (omega arith);
+    fault = λ l. absurd (no-fault _ l (inr (omega arith, omega arith)));
     number20 = λ e. absurd (omega arith);
     number21 = λ e. absurd (omega arith);
   }
@@ -75,7 +76,7 @@ module _ (j : Job) (s : State) (sound : Sound j s) (c t : ℕ) where
     number15 = λ e. (o, l, b);
     number18 = λ e. absurd (omega arith);
     number22 = λ e. absurd (omega arith);
-    fault = λ l m. absurd (omega arith);
+    fault = λ l. absurd (no-fault _ l (inr (omega arith, omega arith)));
     number20 = λ e. absurd (omega arith);
     number21 = λ e. absurd (omega arith);
   }
@@ -85,7 +86,7 @@ module _ (j : Job) (s : State) (sound : Sound j s) (c t : ℕ) where
     number15 = λ e. absurd (omega arith);
     number18 = λ e. (o, l, i, k);
     number22 = λ e. absurd (omega arith);
-    fault = λ l m. absurd (omega arith);
+    fault = λ l. absurd (no-fault _ l (inr (omega arith, omega arith)));
     number20 = λ e. absurd (omega arith);
     number21 = λ e. absurd (omega arith);
   }
@@ -95,19 +96,19 @@ module _ (j : Job) (s : State) (sound : Sound j s) (c t : ℕ) where
     number15 = λ e. absurd (omega arith);
     number18 = λ e. absurd (omega arith);
     number22 = λ e. d;
-    fault = λ l m. absurd (omega arith);
+    fault = λ l. absurd (no-fault _ l (inr (omega arith, omega arith)));
     number20 = λ e. absurd (omega arith);
     number21 = λ e. absurd (omega arith);
   }
-  steal-means {n} (stealFaults k q) = let z = fault-tested j s t n q in let y = z .1 in record {
-    number19 = λ e. absurd (omega arith);
-    number14 = λ e. absurd (omega arith);
-    number15 = λ e. absurd (omega arith);
-    number18 = λ e. absurd (omega arith);
-    number22 = λ e. absurd (omega arith);
-    fault = λ l m. (k, q);
-    number20 = λ e. absurd (omega arith);
-    number21 = λ e. absurd (omega arith);
+  steal-means {n} (stealFaults k q) = let z = fault-tested j s t n q in record {
+    number19 = λ e. absurd (no-fault _ z (inr (omega arith, omega arith)));
+    number14 = λ e. absurd (no-fault _ z (inr (omega arith, omega arith)));
+    number15 = λ e. absurd (no-fault _ z (inr (omega arith, omega arith)));
+    number18 = λ e. absurd (no-fault _ z (inr (omega arith, omega arith)));
+    number22 = λ e. absurd (no-fault _ z (inr (omega arith, omega arith)));
+    fault = λ l. (k, q);
+    number20 = λ e. absurd (no-fault _ z (inr (omega arith, omega arith)));
+    number21 = λ e. absurd (no-fault _ z (inr (omega arith, omega arith)));
   }
   steal-means (stealFewThreads x k r f u) = record {
     number19 = λ e. absurd (omega arith);
@@ -115,7 +116,7 @@ module _ (j : Job) (s : State) (sound : Sound j s) (c t : ℕ) where
     number15 = λ e. absurd (omega arith);
     number18 = λ e. absurd (omega arith);
     number22 = λ e. absurd (omega arith);
-    fault = λ l m. absurd (omega arith);
+    fault = λ l. absurd (no-fault _ l (inr (omega arith, omega arith)));
     number20 = λ e. (k, r, f, u);
     number21 = λ e. absurd (omega arith);
   }
@@ -125,7 +126,7 @@ module _ (j : Job) (s : State) (sound : Sound j s) (c t : ℕ) where
     number15 = λ e. absurd (omega arith);
     number18 = λ e. absurd (omega arith);
     number22 = λ e. absurd (omega arith);
-    fault = λ l m. absurd (omega arith);
+    fault = λ l. absurd (no-fault _ l (inr (omega arith, omega arith)));
     number20 = λ e. absurd (omega arith);
     number21 = λ e. (k, r, f, u, w);
   }
@@ -135,7 +136,7 @@ module _ (j : Job) (s : State) (sound : Sound j s) (c t : ℕ) where
     number15 = λ e. absurd (omega arith);
     number18 = λ e. absurd (omega arith);
     number22 = λ e. absurd (omega arith);
-    fault = λ l m. absurd (omega arith);
+    fault = λ l. absurd (no-fault _ l (inl (omega arith)));
     number20 = λ e. absurd (omega arith);
     number21 = λ e. absurd (omega arith);
   }
@@ -186,25 +187,31 @@ module _ (j : Job) (s : State) (sound : Sound j s) (c t : ℕ) where
         ),
   )
 
-  pub steal-fault : (n : ℕ) → 9 ≤ n → n ≤ 12 → ((stealOf j s c t .log ≡ n) ↔ (Seeded j s c t × (effectAt j s (threadAt s t) ≡ Faults n)))
+  pub steal-fault : (n : ℕ) → IsFault n → ((stealOf j s c t .log ≡ n) ↔ (Seeded j s c t × (effectAt j s (threadAt s t) ≡ Faults n)))
   unfolding stolenOf
-  steal-fault n l m = (
-    λ e. rw e at (stolen .fault (rw e l) (rw e m)),
+  steal-fault n l = (
+    λ e. rw e at (stolen .fault (rw e l)),
     λ z.
         ap (λ a. a .log) (steal-carried (z .0)) ∙ ap (λ e. stolenOf j s (turnAt j s c t) e .log) (z .1),
   )
 
   pub steal-9 : (stealOf j s c t .log ≡ 9) ↔ (Seeded j s c t × Next j s t Condition9)
-  steal-9 = exactly-and (steal-fault 9 (omega arith) (omega arith)) (next-9 j s t)
+  steal-9 = exactly-and (steal-fault 9 (inl (omega arith, omega arith))) (next-9 j s t)
 
   pub steal-10 : (stealOf j s c t .log ≡ 10) ↔ (Seeded j s c t × Next j s t Condition10)
-  steal-10 = exactly-and (steal-fault 10 (omega arith) (omega arith)) (next-10 j s t)
+  steal-10 = exactly-and (steal-fault 10 (inl (omega arith, omega arith))) (next-10 j s t)
 
   pub steal-12 : (stealOf j s c t .log ≡ 12) ↔ (Seeded j s c t × Next j s t Condition12)
-  steal-12 = exactly-and (steal-fault 12 (omega arith) (omega arith)) (next-12 j s t)
+  steal-12 = exactly-and (steal-fault 12 (inl (omega arith, omega arith))) (next-12 j s t)
 
   pub steal-11 : (stealOf j s c t .log ≡ 11) ↔ (Seeded j s c t × Next j s t Condition11)
-  steal-11 = exactly-and (steal-fault 11 (omega arith) (omega arith)) (next-11 j s t)
+  steal-11 = exactly-and (steal-fault 11 (inl (omega arith, omega arith))) (next-11 j s t)
+
+  -- an 08 or 09 shares nothing
+  pub steal-31 : ¬ (stealOf j s c t .log ≡ 31)
+  steal-31 e =
+      let (k, q) = steal-fault 31 (inr refl) .0 e in
+      seed-shares j s t (k .byte) (next-31 j s t .0 q .4)
 
   seed-at : (r : ℕ) → SeedForks j s t r → (n : ℕ) → ((f : Asked) → forkOf j s Stolen (turnAt j s c t) f .log ≡ n)
       → stolenOf j s (turnAt j s c t) (effectAt j s (threadAt s t)) .log ≡ n
@@ -230,11 +237,11 @@ module _ (j : Job) (s : State) (sound : Sound j s) (c t : ℕ) where
   )
 
   -- no other number is logged
-  pub steal-numbers : (stealOf j s c t .log ≡ 0) ⊎ (((9 ≤ stealOf j s c t .log) × (stealOf j s c t .log ≤ 12))
+  pub steal-numbers : (stealOf j s c t .log ≡ 0) ⊎ (IsFault (stealOf j s c t .log)
       ⊎ (((14 ≤ stealOf j s c t .log) × (stealOf j s c t .log ≤ 15)) ⊎ ((18 ≤ stealOf j s c t .log) × (stealOf j s c t .log ≤ 22))))
   steal-numbers = go (steal-log j s sound c t)
     where
-      go : {n : ℕ} → StealLog j s c t n → (n ≡ 0) ⊎ (((9 ≤ n) × (n ≤ 12)) ⊎ (((14 ≤ n) × (n ≤ 15)) ⊎ ((18 ≤ n) × (n ≤ 22))))
+      go : {n : ℕ} → StealLog j s c t n → (n ≡ 0) ⊎ (IsFault n ⊎ (((14 ≤ n) × (n ≤ 15)) ⊎ ((18 ≤ n) × (n ≤ 22))))
       go (stealOver x _) = inr (inr (inr (omega arith, omega arith)))
       go (stealNoCore x _ _) = inr (inr (inl (omega arith, omega arith)))
       go (stealBusy x _ _ _) = inr (inr (inl (omega arith, omega arith)))

@@ -9,10 +9,10 @@ use lib.Dec.{ltb, leb, eqb}
 use borrow.Author.Tests.{eqb-true, ltb-true, ltb-false, leb-false}
 use Rattle.command.proofs.Bools.{both}
 use Rattle.thread.specs.declared.Effect.{Effect}
-use Rattle.thread.specs.declared.Effect.the-variants.{Faults, Sets, Loads, Stores, Goes, Continues, Lforks, Forks, Joins, Suspends, Yields, Returns}
+use Rattle.thread.specs.declared.Effect.the-variants.{Faults, Sets, Loads, Stores, Goes, Continues, Lforks, Forks, Joins, Suspends, Yields, Returns, Shares}
 use Rattle.thread.specs.declared.Status.the-variants.{Ready, Suspended, Waiting}
 use Rattle.thread.specs.declared.Thread.{Thread}
-use Rattle.thread.specs.Thread.{movedTo, joinedAt}
+use Rattle.thread.specs.Thread.{movedTo, joinedAt, sharedAt}
 use Rattle.thread.specs.Job.{wordAt}
 use Rattle.rules.specs.declared.ForkKind.{ForkKind}
 use Rattle.rules.specs.declared.ForkKind.the-variants.{Called, Queued}
@@ -77,6 +77,8 @@ pub record StepCases (P : After → Type 0) (j : Job) (s : State) : Type 0 where
       → P (accepted (enqueueReady t (leaves c t Ready (goesOn (turnAt j s c t) s))))
   pub returns : (c t : ℕ) → Stepped j s c t → (v : ℕ) → effectAt j s (threadAt s t) ≡ Returns v
       → P (accepted (returnOf j s (turnAt j s c t) v))
+  pub shares : (c t : ℕ) → Stepped j s c t → (x : ℕ) → effectAt j s (threadAt s t) ≡ Shares x
+      → P (accepted (completed (turnAt j s c t) (sharedAt (turnAt j s c t .next) x (threadAt s t)) s))
 
 -- a machine that is not over is going
 pub not-over : (o : Outcome) → isOver o ≡ false → o ≡ going
@@ -118,6 +120,7 @@ module _ (P : After → Type 0) (j : Job) (s : State) (cases : StepCases P j s) 
   carried-by c t k Suspends e = cases .suspends c t k e
   carried-by c t k Yields e = cases .yields c t k e
   carried-by c t k (Returns v) e = cases .returns c t k v e
+  carried-by c t k (Shares x) e = cases .shares c t k x e
 
   pub step-by : (c : ℕ) → P (stepOf j s c)
   unfolding stepOf turnOf

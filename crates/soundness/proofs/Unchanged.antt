@@ -1,4 +1,5 @@
 -- "Per entry, changing nothing": an entry that is refused, by 14 to 22, leaves the state as it was. Assumes nothing.
+use mathlib.Core.Logic.{inr}
 use mathlib.Core.Path.{_≡_, refl}
 use Prim.Native.Nat.{_≤_}
 use native.Mathlib.Omega.{arith}
@@ -6,7 +7,7 @@ use Rattle.schedule.specs.declared.Entry.{Entry}
 use Rattle.rules.specs.State.{Job, State, After}
 use Rattle.rules.specs.Rules.{entryOf}
 use Rattle.soundness.proofs.EntryCases.{StepCases, Cases, entry-by}
-use Rattle.soundness.proofs.Tested.{fault-tested}
+use Rattle.soundness.proofs.Tested.{fault-tested, no-fault}
 
 module _ (j : Job) (s : State) where
   -- what a refused entry leaves
@@ -16,7 +17,7 @@ module _ (j : Job) (s : State) where
   steps : StepCases Left j s
   steps = record {
     refuses = λ n l m x y. refl;
-    fault = λ c t k n e l m. let z = fault-tested j s t n e in absurd (omega (arith, z .1));
+    fault = λ c t k n e l m. absurd (no-fault n (fault-tested j s t n e) (inr (omega arith, omega arith)));
     waiting = λ c t k l m. absurd (omega arith);
     sets = λ c t k d v e l m. absurd (omega arith);
     loads = λ c t k d a e l m. absurd (omega arith);
@@ -29,13 +30,14 @@ module _ (j : Job) (s : State) where
     suspends = λ c t k e l m. absurd (omega arith);
     yields = λ c t k e l m. absurd (omega arith);
     returns = λ c t k v e l m. absurd (omega arith);
+    shares = λ c t k x e l m. absurd (omega arith);
   }
 
   cases : Cases Left j s
   cases = record {
     steps = steps;
     takes = λ c t ts k l m. absurd (omega arith);
-    seedFault = λ c t k n e l m. let z = fault-tested j s t n e in absurd (omega (arith, z .1));
+    seedFault = λ c t k n e l m. absurd (no-fault n (fault-tested j s t n e) (inr (omega arith, omega arith)));
     steals = λ c t k r d a e q n ns x xs f l m. absurd (omega arith);
     enables = λ t k l m. absurd (omega arith);
   }

@@ -1,11 +1,12 @@
--- The condition of each fault of a command: document 01, "The running job", 9 to 12, in the order "12, 9, 10 or 11".
+-- The condition of each fault of a command: document 01, "The running job", 9 to 12, in the order "12, 9, 10 or 11"; T-04's 31 stands with the
+-- last two ("tested after 9"), and a command has only one of the three.
 use mathlib.Core.Bool.{Bool, true, false}
 use mathlib.Core.List.{List, [], _∷_}
 use mathlib.Core.Path.{_≡_}
 use Prim.Native.Nat.{ℕ}
 use Rattle.command.specs.Command.{decodedAt}
 use Rattle.command.specs.declared.Command.{Command}
-use Rattle.command.specs.declared.Command.the-variants.{Set, Add, Subtract, Load, Store, JumpIfZero, Jump, Lfork, Fork, Join, Suspend, Yield, Return}
+use Rattle.command.specs.declared.Command.the-variants.{Set, Add, Subtract, Load, Store, JumpIfZero, Jump, Lfork, Fork, Join, Suspend, Yield, Return, Share}
 use Rattle.image.specs.Layout.{argumentsOf}
 use Rattle.thread.specs.Effect.{Context, run, anyPending}
 use Rattle.rules.specs.State.{Job, State, threadAt}
@@ -27,6 +28,7 @@ module _ (arguments : ℕ → ℕ) (own : Context) where
   operandSlots Suspend = []
   operandSlots Yield = []
   operandSlots (Return a) = []
+  operandSlots (Share a) = a ∷ []
 
   -- "9: a pending slot read or written"
   abbrev pub readsPending : Command → Bool
@@ -47,6 +49,7 @@ module _ (arguments : ℕ → ℕ) (own : Context) where
   addressAllowed Suspend = true
   addressAllowed Yield = true
   addressAllowed (Return a) = true
+  addressAllowed (Share a) = true
 
   -- "11: cut out of range"
   abbrev pub cutAllowed : Command → Bool
@@ -63,6 +66,24 @@ module _ (arguments : ℕ → ℕ) (own : Context) where
   cutAllowed Suspend = true
   cutAllowed Yield = true
   cutAllowed (Return a) = true
+  cutAllowed (Share a) = true
+
+  -- T-04: "31 s out of range"
+  abbrev pub shareAllowed : Command → Bool
+  shareAllowed (Set d v) = true
+  shareAllowed (Add d a b) = true
+  shareAllowed (Subtract d a b) = true
+  shareAllowed (Load d a) = true
+  shareAllowed (Store a b) = true
+  shareAllowed (JumpIfZero a t) = true
+  shareAllowed (Jump t) = true
+  shareAllowed (Lfork r d a w) = true
+  shareAllowed (Fork r d a w) = true
+  shareAllowed Join = true
+  shareAllowed Suspend = true
+  shareAllowed Yield = true
+  shareAllowed (Return a) = true
+  shareAllowed (Share a) = own .mayShare (own .slot a)
 
   -- "12: return with pending slots"
   abbrev pub returnsPending : Command → Bool
@@ -79,6 +100,7 @@ module _ (arguments : ℕ → ℕ) (own : Context) where
   returnsPending Suspend = false
   returnsPending Yield = false
   returnsPending (Return a) = anyPending (own .pending) (run 0 16)
+  returnsPending (Share a) = false
 
 -- the conditions: the tests before it are met by none
 module _ (arguments : ℕ → ℕ) (own : Context) (c : Command) where
@@ -95,6 +117,11 @@ module _ (arguments : ℕ → ℕ) (own : Context) (c : Command) where
   Condition11 =
       (returnsPending arguments own c ≡ false) × (readsPending arguments own c ≡ false) × (addressAllowed arguments own c ≡ true)
       × (cutAllowed arguments own c ≡ false)
+
+  abbrev pub Condition31 : Type 0
+  Condition31 =
+      (returnsPending arguments own c ≡ false) × (readsPending arguments own c ≡ false) × (addressAllowed arguments own c ≡ true)
+      × (cutAllowed arguments own c ≡ true) × (shareAllowed arguments own c ≡ false)
 
 -- thread t's next command, and what it can see of its thread
 module _ (j : Job) (s : State) (t : ℕ) where

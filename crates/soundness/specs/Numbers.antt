@@ -1,6 +1,6 @@
 -- Each number of an entry, exactly under its condition: document 01, "The schedule's author", "The tables and the allowance" and "The
 -- running job". The tests stand in the order "19, 14, 15, 16 to 18, 22, 12, 9, 10 or 11, 20, 21", so a condition also says that none
--- before it is met.
+-- before it is met; T-04's 31 stands with 10 and 11.
 use mathlib.Core.Bool.{true, false}
 use mathlib.Core.List.{[]}
 use mathlib.Core.Logic.{_⊎_, _↔_}
@@ -9,6 +9,7 @@ use Prim.Native.Nat.{ℕ, _+_, _-_, _/_, _%_, _<_, _≤_}
 use Rattle.image.specs.Layout.{slotsOf}
 use Rattle.stacklets.specs.Tops.{topAt}
 use Rattle.thread.specs.declared.Effect.the-variants.{Lforks, Forks}
+use Rattle.thread.specs.Effect.{IsFault}
 use Rattle.thread.specs.Thread.{none}
 use Rattle.rules.specs.declared.ForkKind.{ForkKind}
 use Rattle.rules.specs.declared.ForkKind.the-variants.{Called, Queued, Stolen}
@@ -16,7 +17,7 @@ use Rattle.rules.specs.State.{Job, State, going, isOver, threadAt, onCore}
 use Rattle.rules.specs.Statuses.{IsSuspended, IsLent}
 use Rattle.rules.specs.Turn.{turnAt, byteOf, effectAt, waits}
 use Rattle.rules.specs.Rules.{stepOf, takeOf, stealOf, enableOf}
-use Rattle.soundness.specs.Faults.{Condition9, Condition10, Condition11, Condition12, Next}
+use Rattle.soundness.specs.Faults.{Condition9, Condition10, Condition11, Condition12, Condition31, Next}
 
 -- thread t on core c carries out its next command
 pub record Stepped (j : Job) (s : State) (c t : ℕ) : Type 0 where
@@ -87,12 +88,14 @@ pub record StepNumbers (j : Job) (s : State) (c : ℕ) : Type 0 where
   pub number10 : (stepOf j s c .log ≡ 10) ↔ (Stepped j s c (onCore s c) × Next j s (onCore s c) Condition10)
   -- "11: cut out of range"
   pub number11 : (stepOf j s c .log ≡ 11) ↔ (Stepped j s c (onCore s c) × Next j s (onCore s c) Condition11)
+  -- T-04: "31 s out of range, a fault, tested after 9"
+  pub number31 : (stepOf j s c .log ≡ 31) ↔ (Stepped j s c (onCore s c) × Next j s (onCore s c) Condition31)
   -- "20: no free thread number"
   pub number20 : (stepOf j s c .log ≡ 20) ↔ (FewThreads j s c)
   -- "21: a stacklet is needed and none is free"
   pub number21 : (stepOf j s c .log ≡ 21) ↔ (FewStacklets j s c)
   -- no other number is logged
-  pub others : (stepOf j s c .log ≡ 0) ⊎ (((9 ≤ stepOf j s c .log) × (stepOf j s c .log ≤ 12))
+  pub others : (stepOf j s c .log ≡ 0) ⊎ (IsFault (stepOf j s c .log)
       ⊎ (((14 ≤ stepOf j s c .log) × (stepOf j s c .log ≤ 15)) ⊎ ((19 ≤ stepOf j s c .log) × (stepOf j s c .log ≤ 22))))
 
 -- a take by core c
@@ -143,11 +146,13 @@ pub record StealNumbers (j : Job) (s : State) (c t : ℕ) : Type 0 where
   pub number9 : (stealOf j s c t .log ≡ 9) ↔ (Seeded j s c t × Next j s t Condition9)
   pub number10 : (stealOf j s c t .log ≡ 10) ↔ (Seeded j s c t × Next j s t Condition10)
   pub number11 : (stealOf j s c t .log ≡ 11) ↔ (Seeded j s c t × Next j s t Condition11)
+  -- a seed is an 08 or 09, so no steal meets 31
+  pub number31 : ¬ (stealOf j s c t .log ≡ 31)
   pub number20 : (stealOf j s c t .log ≡ 20) ↔ (Seeded j s c t × (r : ℕ) × SeedForks j s t r × (s .queues .freeThreads ≡ []))
   -- a seed's child always needs a free stacklet
   pub number21 : (stealOf j s c t .log ≡ 21) ↔ (Seeded j s c t × (r : ℕ) × SeedForks j s t r × (¬ (s .queues .freeThreads ≡ [])) ×
       (s .queues .freeStacklets ≡ []))
-  pub others : (stealOf j s c t .log ≡ 0) ⊎ (((9 ≤ stealOf j s c t .log) × (stealOf j s c t .log ≤ 12))
+  pub others : (stealOf j s c t .log ≡ 0) ⊎ (IsFault (stealOf j s c t .log)
       ⊎ (((14 ≤ stealOf j s c t .log) × (stealOf j s c t .log ≤ 15)) ⊎ ((18 ≤ stealOf j s c t .log) × (stealOf j s c t .log ≤ 22))))
 
 -- an enable of thread t

@@ -26,9 +26,9 @@ use Rattle.tables.proofs.Runs.{pasted-in, pasted-out, sets-in, sets-out
 use Rattle.tables.proofs.Meaning.{units-put, count-put, core-put, thread-put, thread-is, stacklets-put, outcome-put}
 
 -- the test of the outcome's first cell
-pub over-is : (xs : List ℕ) → not (eqb (getD xs 585 0) 0) ≡ isOver (outcomeIn xs)
+pub over-is : (xs : List ℕ) → not (eqb (getD xs 777 0) 0) ≡ isOver (outcomeIn xs)
 unfolding outcomeIn
-over-is xs = go (eqb (getD xs 585 0) 0) (eqb (getD xs 585 0) 1) (finished (fourAt xs 590)) (faulted (getD xs 586 0) (getD xs 587 0) (twoAt xs 588)) refl refl
+over-is xs = go (eqb (getD xs 777 0) 0) (eqb (getD xs 777 0) 1) (finished (fourAt xs 782)) (faulted (getD xs 778 0) (getD xs 779 0) (twoAt xs 780)) refl refl
   where
     go : (a b : Bool) (x y : Outcome) → isOver x ≡ true → isOver y ≡ true → not a ≡ isOver (cond a going (cond b x y))
     go true b x y p q = refl
@@ -36,20 +36,20 @@ over-is xs = go (eqb (getD xs 585 0) 0) (eqb (getD xs 585 0) 1) (finished (fourA
     go false false x y p q = sym q
 
 -- a record that is read from its part
-pub part-record : (xs : List ℕ) (a k : ℕ) → k ≡ 18 → recordAt (take k (drop a xs)) 0 ≡ recordAt xs a
+pub part-record : (xs : List ℕ) (a k : ℕ) → k ≡ 24 → recordAt (take k (drop a xs)) 0 ≡ recordAt xs a
 part-record xs a k e =
     record-same xs (take k (drop a xs)) a 0
     (λ i h. ap (λ (j : ℕ). getD (take k (drop a xs)) j 0) (zero-add i) ∙ getD-take k (drop a xs) i 0 (omega arith) ∙ getD-drop a xs i 0)
 
 -- a record that is stored in its part
-module _ (xs part ys : List ℕ) (a k : ℕ) (h : Thread) (wide : k ≡ 18) (fits : a + k ≤ length xs) (long : length part ≡ k) (e : ys ≡ sets part 0 (cellsOf h)) where
+module _ (xs part ys : List ℕ) (a k : ℕ) (h : Thread) (wide : k ≡ 24) (fits : a + k ≤ length xs) (long : length part ≡ k) (e : ys ≡ sets part 0 (cellsOf h)) where
   length-ys : length ys ≡ k
   length-ys = ap length e ∙ length-sets part 0 (cellsOf h) ∙ long
 
-  pub record-out : Outside xs (pasted xs a k ys) a 18
+  pub record-out : Outside xs (pasted xs a k ys) a 24
   record-out i o = pasted-out xs ys a k fits length-ys i (⊎-elim (λ p. inl p) (λ p. inr (omega arith)) o)
 
-  written : (i : ℕ) → i < 18 → getD ys (0 + i) 0 ≡ getD (cellsOf h) (0 + i) 0
+  written : (i : ℕ) → i < 24 → getD ys (0 + i) 0 ≡ getD (cellsOf h) (0 + i) 0
   written i l = ap (λ (z : List ℕ). getD z (0 + i) 0) e ∙ sets-in part (cellsOf h) 0 i (omega arith) l ∙ ap (λ (j : ℕ). getD (cellsOf h) j 0) (sym (zero-add i))
 
   pub record-in : recordAt (pasted xs a k ys) a ≡ h
@@ -59,8 +59,8 @@ module _ (xs part ys : List ℕ) (a k : ℕ) (h : Thread) (wide : k ≡ 18) (fit
       ∙ cells-back h
 
 -- a position
-module _ (xs : List ℕ) (a p : ℕ) (fits : a + 18 ≤ length xs) where
-  pub position-out : Outside xs (set (set xs a (p % 256)) (a + 1) (p / 256)) a 18
+module _ (xs : List ℕ) (a p : ℕ) (fits : a + 24 ≤ length xs) where
+  pub position-out : Outside xs (set (set xs a (p % 256)) (a + 1) (p / 256)) a 24
   position-out i o =
       getD-set-other (set xs a (p % 256)) (a + 1) i (p / 256) 0 (λ z. ⊎-elim (λ l. omega arith) (λ l. omega arith) o)
       ∙ getD-set-other xs a i (p % 256) 0 (λ z. ⊎-elim (λ l. omega arith) (λ l. omega arith) o)
@@ -110,42 +110,42 @@ pub four-back : (x : ℕ) → x % 65536 % 256 + 256 * (x % 65536 / 256) + 65536 
 four-back x = omega arith
 
 -- the units are stored
-pub units-store : (xs words memory : List ℕ) (u : ℕ) → length xs ≡ 712
-    → meaning (set (set (set (set xs 580 (u % 65536 % 256)) 581 (u % 65536 / 256)) 582 (u / 65536 % 256)) 583 (u / 65536 / 256)) words memory ≡ setUnits u (meaning xs words memory)
+pub units-store : (xs words memory : List ℕ) (u : ℕ) → length xs ≡ 904
+    → meaning (set (set (set (set xs 772 (u % 65536 % 256)) 773 (u % 65536 / 256)) 774 (u / 65536 % 256)) 775 (u / 65536 / 256)) words memory ≡ setUnits u (meaning xs words memory)
 unfolding unitsIn
 units-store xs words memory u l =
-    units-put xs _ words memory u (four-out xs 580 _ _ _ _ (omega arith)) (four-in xs 580 (u % 65536 % 256) (u % 65536 / 256) (u / 65536 % 256) (u / 65536 / 256) (omega arith) ∙ four-back u)
+    units-put xs _ words memory u (four-out xs 772 _ _ _ _ (omega arith)) (four-in xs 772 (u % 65536 % 256) (u % 65536 / 256) (u / 65536 % 256) (u / 65536 / 256) (omega arith) ∙ four-back u)
 
 -- the number of cores is stored
-pub count-store : (xs words memory : List ℕ) (n : ℕ) → length xs ≡ 712 → meaning (set xs 584 n) words memory ≡ setCount n (meaning xs words memory)
+pub count-store : (xs words memory : List ℕ) (n : ℕ) → length xs ≡ 904 → meaning (set xs 776 n) words memory ≡ setCount n (meaning xs words memory)
 count-store xs words memory n l =
-    count-put xs (set xs 584 n) words memory n (λ i o. getD-set-other xs 584 i n 0 (λ z. ⊎-elim (λ p. omega arith) (λ p. omega arith) o)) (getD-set-same xs 584 n 0 (omega arith))
+    count-put xs (set xs 776 n) words memory n (λ i o. getD-set-other xs 776 i n 0 (λ z. ⊎-elim (λ p. omega arith) (λ p. omega arith) o)) (getD-set-same xs 776 n 0 (omega arith))
 
 -- a core is given a thread
-pub core-store : (xs words memory : List ℕ) (c t : ℕ) → length xs ≡ 712 → c < 4 → meaning (set xs (576 + c) t) words memory ≡ setCore c t (meaning xs words memory)
+pub core-store : (xs words memory : List ℕ) (c t : ℕ) → length xs ≡ 904 → c < 4 → meaning (set xs (768 + c) t) words memory ≡ setCore c t (meaning xs words memory)
 core-store xs words memory c t l h =
-    core-put xs (set xs (576 + c) t) words memory c t h (λ i o. getD-set-other xs (576 + c) i t 0 (λ z. ⊎-elim (λ p. omega arith) (λ p. omega arith) o)) (getD-set-same xs (576 + c) t 0 (omega arith))
+    core-put xs (set xs (768 + c) t) words memory c t h (λ i o. getD-set-other xs (768 + c) i t 0 (λ z. ⊎-elim (λ p. omega arith) (λ p. omega arith) o)) (getD-set-same xs (768 + c) t 0 (omega arith))
 
 -- a record is read and stored by its part
-pub part-long : (xs : List ℕ) (a : ℕ) → a + 18 ≤ length xs → length (take (a + 18 - a) (drop a xs)) ≡ 18
+pub part-long : (xs : List ℕ) (a : ℕ) → a + 24 ≤ length xs → length (take (a + 24 - a) (drop a xs)) ≡ 24
 part-long xs a fits = simp (length-take, length-drop) (omega arith)
 
-module _ (xs words memory : List ℕ) (a t : ℕ) (e : a ≡ 18 * t) (l : t < 32) where
+module _ (xs words memory : List ℕ) (a t : ℕ) (e : a ≡ 24 * t) (l : t < 32) where
   pub record-is : recordAt xs a ≡ threadAt (meaning xs words memory) t
   record-is = ap (recordAt xs) e ∙ thread-is xs words memory t l
 
-  pub record-read : recordAt (take (a + 18 - a) (drop a xs)) 0 ≡ threadAt (meaning xs words memory) t
-  record-read = part-record xs a (a + 18 - a) (omega arith) ∙ record-is
+  pub record-read : recordAt (take (a + 24 - a) (drop a xs)) 0 ≡ threadAt (meaning xs words memory) t
+  record-read = part-record xs a (a + 24 - a) (omega arith) ∙ record-is
 
-  pub record-store : (ys : List ℕ) (h : Thread) → length xs ≡ 712 → ys ≡ sets (take (a + 18 - a) (drop a xs)) 0 (cellsOf h)
-      → meaning (pasted xs a (a + 18 - a) ys) words memory ≡ setThread t h (meaning xs words memory)
+  pub record-store : (ys : List ℕ) (h : Thread) → length xs ≡ 904 → ys ≡ sets (take (a + 24 - a) (drop a xs)) 0 (cellsOf h)
+      → meaning (pasted xs a (a + 24 - a) ys) words memory ≡ setThread t h (meaning xs words memory)
   record-store ys h n f =
-      let long : length (take (a + 18 - a) (drop a xs)) ≡ a + 18 - a = omega (arith, part-long xs a (omega arith)) in
-      thread-put xs (pasted xs a (a + 18 - a) ys) words memory t h l
-      (rw (← e) (record-out xs (take (a + 18 - a) (drop a xs)) ys a (a + 18 - a) h (omega arith) (omega arith) long f))
-      (rw (← e) (record-in xs (take (a + 18 - a) (drop a xs)) ys a (a + 18 - a) h (omega arith) (omega arith) long f))
+      let long : length (take (a + 24 - a) (drop a xs)) ≡ a + 24 - a = omega (arith, part-long xs a (omega arith)) in
+      thread-put xs (pasted xs a (a + 24 - a) ys) words memory t h l
+      (rw (← e) (record-out xs (take (a + 24 - a) (drop a xs)) ys a (a + 24 - a) h (omega arith) (omega arith) long f))
+      (rw (← e) (record-in xs (take (a + 24 - a) (drop a xs)) ys a (a + 24 - a) h (omega arith) (omega arith) long f))
 
-  pub position-store : (p : ℕ) → length xs ≡ 712
+  pub position-store : (p : ℕ) → length xs ≡ 904
       → meaning (set (set xs a (p % 256)) (a + 1) (p / 256)) words memory ≡ setThread t (movedTo p (threadAt (meaning xs words memory) t)) (meaning xs words memory)
   position-store p n =
       thread-put xs (set (set xs a (p % 256)) (a + 1) (p / 256)) words memory t (movedTo p (threadAt (meaning xs words memory) t)) l
@@ -185,79 +185,79 @@ module _ (xs : List ℕ) (a : ℕ) (q : Queue) (fits : a + 34 ≤ length xs) (lo
           ∙ sets-in xs (q .places) a k (omega arith) (omega arith)))
 
 -- the tops are read and stored by their part
-module _ (xs words memory : List ℕ) (l : length xs ≡ 712) where
-  part-tops : take 16 (drop 594 xs) ≡ from 0 16 (λ i. getD xs (594 + i) 0)
+module _ (xs words memory : List ℕ) (l : length xs ≡ 904) where
+  part-tops : take 16 (drop 786 xs) ≡ from 0 16 (λ i. getD xs (786 + i) 0)
   part-tops =
-      filled xs (take 16 (drop 594 xs)) 594 16 (simp (length-take, length-drop) (omega arith))
-      (λ k h. getD-take 16 (drop 594 xs) k 0 h ∙ getD-drop 594 xs k 0)
+      filled xs (take 16 (drop 786 xs)) 786 16 (simp (length-take, length-drop) (omega arith))
+      (λ k h. getD-take 16 (drop 786 xs) k 0 h ∙ getD-drop 786 xs k 0)
 
-  pub tops-are : topsOf (stackletsOf (take 16 (drop 594 xs))) ≡ meaning xs words memory .store .tops
+  pub tops-are : topsOf (stackletsOf (take 16 (drop 786 xs))) ≡ meaning xs words memory .store .tops
   unfolding meaning stackletsIn
   tops-are = ap (λ (tops : List ℕ). topsOf (stackletsOf tops)) part-tops
 
-  pub top-store : (ys : List ℕ) (x top : ℕ) → length ys ≡ 16 → topsOf (stackletsOf ys) ≡ set (topsOf (stackletsOf (take 16 (drop 594 xs)))) x top
-      → meaning (pasted xs 594 16 ys) words memory ≡ setTop x top (meaning xs words memory)
+  pub top-store : (ys : List ℕ) (x top : ℕ) → length ys ≡ 16 → topsOf (stackletsOf ys) ≡ set (topsOf (stackletsOf (take 16 (drop 786 xs)))) x top
+      → meaning (pasted xs 786 16 ys) words memory ≡ setTop x top (meaning xs words memory)
   unfolding stackletsIn
   top-store ys x top long e =
-      stacklets-put xs (pasted xs 594 16 ys) words memory (stackletsOf ys) (pasted-out xs ys 594 16 (omega arith) long)
-      (ap stackletsOf (sym (filled (pasted xs 594 16 ys) ys 594 16 long (λ k h. sym (pasted-in xs ys 594 16 (omega arith) long k h)))))
+      stacklets-put xs (pasted xs 786 16 ys) words memory (stackletsOf ys) (pasted-out xs ys 786 16 (omega arith) long)
+      (ap stackletsOf (sym (filled (pasted xs 786 16 ys) ys 786 16 long (λ k h. sym (pasted-in xs ys 786 16 (omega arith) long k h)))))
       ∙ ap (λ (tops : List ℕ). setTops tops (meaning xs words memory)) (e ∙ ap (λ (tops : List ℕ). set tops x top) tops-are)
 
 -- all tops are stored
-pub tops-store : (xs words memory : List ℕ) (s : Stacklets) → length xs ≡ 712 → length (s .tops) ≡ 16
-    → meaning (sets xs 594 (s .tops)) words memory ≡ setTops (topsOf s) (meaning xs words memory)
+pub tops-store : (xs words memory : List ℕ) (s : Stacklets) → length xs ≡ 904 → length (s .tops) ≡ 16
+    → meaning (sets xs 786 (s .tops)) words memory ≡ setTops (topsOf s) (meaning xs words memory)
 unfolding stackletsIn
 tops-store xs words memory s l long =
-    stacklets-put xs (sets xs 594 (s .tops)) words memory s (λ i o. sets-out xs (s .tops) 594 (omega arith) i (⊎-elim (λ p. inl p) (λ p. inr (omega arith)) o))
-    (ap stackletsOf (sym (filled (sets xs 594 (s .tops)) (s .tops) 594 16 long (λ k h. sym (sets-in xs (s .tops) 594 k (omega arith) (omega arith))))))
+    stacklets-put xs (sets xs 786 (s .tops)) words memory s (λ i o. sets-out xs (s .tops) 786 (omega arith) i (⊎-elim (λ p. inl p) (λ p. inr (omega arith)) o))
+    (ap stackletsOf (sym (filled (sets xs 786 (s .tops)) (s .tops) 786 16 long (λ k h. sym (sets-in xs (s .tops) 786 k (omega arith) (omega arith))))))
 
 -- the machine is finished
-pub finished-store : (xs words memory : List ℕ) (v : ℕ) → length xs ≡ 712
-    → meaning (set (set (set (set (set xs 585 1) 590 (v % 65536 % 256)) 591 (v % 65536 / 256)) 592 (v / 65536 % 256)) 593 (v / 65536 / 256)) words memory
+pub finished-store : (xs words memory : List ℕ) (v : ℕ) → length xs ≡ 904
+    → meaning (set (set (set (set (set xs 777 1) 782 (v % 65536 % 256)) 783 (v % 65536 / 256)) 784 (v / 65536 % 256)) 785 (v / 65536 / 256)) words memory
     ≡ setOutcome (finished v) (meaning xs words memory)
 unfolding outcomeIn
 finished-store xs words memory v l =
     outcome-put xs ys words memory (finished v) out (rw (over, whole))
   where
     ys : List ℕ
-    ys = set (set (set (set (set xs 585 1) 590 (v % 65536 % 256)) 591 (v % 65536 / 256)) 592 (v / 65536 % 256)) 593 (v / 65536 / 256)
+    ys = set (set (set (set (set xs 777 1) 782 (v % 65536 % 256)) 783 (v % 65536 / 256)) 784 (v / 65536 % 256)) 785 (v / 65536 / 256)
 
-    fits : 590 + 4 ≤ length (set xs 585 1)
+    fits : 782 + 4 ≤ length (set xs 777 1)
     fits = simp length-set (omega arith)
 
-    apart : (i : ℕ) → (i < 590) ⊎ (590 + 4 ≤ i) → getD ys i 0 ≡ getD (set xs 585 1) i 0
-    apart = four-out (set xs 585 1) 590 (v % 65536 % 256) (v % 65536 / 256) (v / 65536 % 256) (v / 65536 / 256) fits
+    apart : (i : ℕ) → (i < 782) ⊎ (782 + 4 ≤ i) → getD ys i 0 ≡ getD (set xs 777 1) i 0
+    apart = four-out (set xs 777 1) 782 (v % 65536 % 256) (v % 65536 / 256) (v / 65536 % 256) (v / 65536 / 256) fits
 
-    out : Outside xs ys 585 9
-    out i o = apart i (⊎-elim (λ p. inl (omega arith)) (λ p. inr (omega arith)) o) ∙ getD-set-other xs 585 i 1 0 (λ z. ⊎-elim (λ p. omega arith) (λ p. omega arith) o)
+    out : Outside xs ys 777 9
+    out i o = apart i (⊎-elim (λ p. inl (omega arith)) (λ p. inr (omega arith)) o) ∙ getD-set-other xs 777 i 1 0 (λ z. ⊎-elim (λ p. omega arith) (λ p. omega arith) o)
 
-    over : getD ys 585 0 ≡ 1
-    over = apart 585 (inl (omega arith)) ∙ getD-set-same xs 585 1 0 (omega arith)
+    over : getD ys 777 0 ≡ 1
+    over = apart 777 (inl (omega arith)) ∙ getD-set-same xs 777 1 0 (omega arith)
 
-    whole : fourAt ys 590 ≡ v
-    whole = four-in (set xs 585 1) 590 (v % 65536 % 256) (v % 65536 / 256) (v / 65536 % 256) (v / 65536 / 256) fits ∙ four-back v
+    whole : fourAt ys 782 ≡ v
+    whole = four-in (set xs 777 1) 782 (v % 65536 % 256) (v % 65536 / 256) (v / 65536 % 256) (v / 65536 / 256) fits ∙ four-back v
 
 -- the machine has faulted
-pub faulted-store : (xs words memory : List ℕ) (n t o : ℕ) → length xs ≡ 712
-    → meaning (set (set (set (set (set xs 585 2) 586 n) 587 t) 588 (o % 256)) 589 (o / 256)) words memory ≡ setOutcome (faulted n t o) (meaning xs words memory)
+pub faulted-store : (xs words memory : List ℕ) (n t o : ℕ) → length xs ≡ 904
+    → meaning (set (set (set (set (set xs 777 2) 778 n) 779 t) 780 (o % 256)) 781 (o / 256)) words memory ≡ setOutcome (faulted n t o) (meaning xs words memory)
 unfolding outcomeIn
 faulted-store xs words memory n t o l =
-    outcome-put xs ys words memory (faulted n t o) (λ i a. sets-out xs vs 585 (omega arith) i (⊎-elim (λ p. inl p) (λ p. inr (omega arith)) a)) (rw (cell 0 (omega arith), cell 1 (omega arith), cell 2 (omega arith), cell 3 (omega arith), cell 4 (omega arith), back))
+    outcome-put xs ys words memory (faulted n t o) (λ i a. sets-out xs vs 777 (omega arith) i (⊎-elim (λ p. inl p) (λ p. inr (omega arith)) a)) (rw (cell 0 (omega arith), cell 1 (omega arith), cell 2 (omega arith), cell 3 (omega arith), cell 4 (omega arith), back))
   where
     vs : List ℕ
     vs = 2 ∷ n ∷ t ∷ (o % 256) ∷ (o / 256) ∷ []
 
     ys : List ℕ
-    ys = sets xs 585 vs
+    ys = sets xs 777 vs
 
-    cell : (i : ℕ) → i < 5 → getD ys (585 + i) 0 ≡ getD vs i 0
-    cell i h = sets-in xs vs 585 i (omega arith) h
+    cell : (i : ℕ) → i < 5 → getD ys (777 + i) 0 ≡ getD vs i 0
+    cell i h = sets-in xs vs 777 i (omega arith) h
 
     back : o % 256 + 256 * (o / 256) ≡ o
     back = omega arith
 
 -- how the machine stands
-pub standing-is : (xs : List ℕ) → (getD xs 585 0 ≡ 0 → outcomeIn xs ≡ going) × ((getD xs 585 0 ≡ 0 → ⊥) → getD xs 585 0 ≡ 1 → outcomeIn xs ≡ finished (fourAt xs 590))
-    × ((getD xs 585 0 ≡ 0 → ⊥) → (getD xs 585 0 ≡ 1 → ⊥) → outcomeIn xs ≡ faulted (getD xs 586 0) (getD xs 587 0) (twoAt xs 588))
+pub standing-is : (xs : List ℕ) → (getD xs 777 0 ≡ 0 → outcomeIn xs ≡ going) × ((getD xs 777 0 ≡ 0 → ⊥) → getD xs 777 0 ≡ 1 → outcomeIn xs ≡ finished (fourAt xs 782))
+    × ((getD xs 777 0 ≡ 0 → ⊥) → (getD xs 777 0 ≡ 1 → ⊥) → outcomeIn xs ≡ faulted (getD xs 778 0) (getD xs 779 0) (twoAt xs 780))
 unfolding outcomeIn
 standing-is xs = (λ e. rw (eq-eqb _ _ e), λ n e. rw (ne-eqb _ _ n, eq-eqb _ _ e), λ n m. rw (ne-eqb _ _ n, ne-eqb _ _ m))

@@ -46,11 +46,11 @@ module _ (xs : List ℕ) (z : (k : ℕ) → getD xs k 0 ≡ 0) where
 
   pub zero-units : unitsIn xs ≡ 0
   unfolding unitsIn
-  zero-units = rw (z 580, z 581, z 582, z 583)
+  zero-units = rw (z 772, z 773, z 774, z 775)
 
   pub zero-outcome : outcomeIn xs ≡ going
   unfolding outcomeIn
-  zero-outcome = rw (z 585)
+  zero-outcome = rw (z 777)
 
 -- zeros read as zero at every place
 pub zeros : (n k : ℕ) → _≡_ {A = ℕ} (getD (replicate n 0) k 0) 0

@@ -16,13 +16,13 @@ ghost use Rattle.tables.specs.Cells.{from, Outside};
 ghost use Rattle.tables.specs.Meaning.{queueIn};
 ghost use Rattle.tables.specs.Change.{Reads, Becomes, setTop};
 
-const TOPS: usize = 594;
+const TOPS: usize = 786;
 
-const FREE_THREADS: usize = 610;
+const FREE_THREADS: usize = 802;
 
-const FREE_STACKLETS: usize = 644;
+const FREE_STACKLETS: usize = 836;
 
-const READY: usize = 678;
+const READY: usize = 870;
 
 // The 32 cells at a place.
 fn read_places(tables: &[u8], at: usize) -> [u8; 32]

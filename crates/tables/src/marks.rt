@@ -12,22 +12,22 @@ ghost use Rattle.rules.specs.State.{onCore, isOver, going, finished, faulted};
 ghost use Rattle.rules.specs.Update.{setCore, setOutcome};
 ghost use Rattle.tables.specs.Change.{Reads, Becomes, Clears, setUnits, setCount, charges, outcomeBy};
 
-const CORES: usize = 576;
+const CORES: usize = 768;
 
-const UNITS: usize = 580;
+const UNITS: usize = 772;
 
-const COUNT: usize = 584;
+const COUNT: usize = 776;
 
 // How the machine stands: 0 open, 1 finished, 2 faulted.
-const OVER: usize = 585;
+const OVER: usize = 777;
 
-const FAULT: usize = 586;
+const FAULT: usize = 778;
 
-const FAULT_THREAD: usize = 587;
+const FAULT_THREAD: usize = 779;
 
-const FAULT_OFFSET: usize = 588;
+const FAULT_OFFSET: usize = 780;
 
-const RESULT: usize = 590;
+const RESULT: usize = 782;
 
 // Every byte becomes 0.
 pub fn clear(tables: &mut [u8])

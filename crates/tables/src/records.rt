@@ -1,4 +1,4 @@
-// Thread records, of 18 bytes each.
+// Thread records, of 24 bytes each.
 use crate::SIZE;
 use crate::numbers::put_two;
 use cells::WIDE;
@@ -14,11 +14,11 @@ ghost use Rattle.rules.specs.Update.{setThread};
 ghost use Rattle.tables.specs.Change.{Reads, Becomes, movesOn};
 
 // The bytes of the thread table: it stands first in the tables, record after record.
-pub const THREADS: usize = 576;
+pub const THREADS: usize = 768;
 
 // Where thread t's record starts.
 fn place_of(t: u8) -> usize
-    ensures { λ r. ⌜ (r ≡ 18 * (t % 32)) × (r ≤ 558) ⌝ }
+    ensures { λ r. ⌜ (r ≡ 24 * (t % 32)) × (r ≤ 744) ⌝ }
 {
     WIDE * ((t % 32) as usize)
 }

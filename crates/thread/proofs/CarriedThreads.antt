@@ -13,14 +13,14 @@ use Rattle.forkjoin.proofs.Language.{Act, halt, advance, load, fork}
 use Rattle.forkjoin.proofs.Windows.{Windows}
 use Rattle.forkjoin.proofs.Carried.{Carried, SameAct, halts, advances, loads, stores, forks, joins, returns, KeepsHeld}
 use Rattle.thread.specs.declared.Effect.{Effect}
-use Rattle.thread.specs.declared.Effect.the-variants.{Faults, Sets, Loads, Stores, Goes, Continues, Lforks, Forks, Joins, Suspends, Yields, Returns}
+use Rattle.thread.specs.declared.Effect.the-variants.{Faults, Sets, Loads, Stores, Goes, Continues, Lforks, Forks, Joins, Suspends, Yields, Returns, Shares}
 use Rattle.thread.proofs.Routines.{Code}
 use Rattle.thread.proofs.EffectFacts.{Facts, ForkFacts, effect-hidden}
-use Rattle.thread.proofs.ThreadState.{WindowTests, ThreadState, view, command, effect, onward, started, behind-fork, behind-join, by-join, by-return, split, fork-act, load-act, actOf, deliver}
+use Rattle.thread.proofs.ThreadState.{WindowTests, ThreadState, view, command, effect, onward, started, behind-fork, behind-join, by-join, by-return, split, fork-act, load-act, share-act, actOf, deliver}
 use Rattle.thread.proofs.LawfulThreads.{threads, effect-facts}
 
 module _ (𝓦 : Windows) (tests : WindowTests 𝓦) (code : Code) where
-  open Windows 𝓦 using (W, cut)
+  open Windows 𝓦 using (W, cut, share)
 
   abbrev with-slots : ThreadState W → (ℕ → ℕ) → ThreadState W
   with-slots l f = record { routine = l .routine; position = l .position; slots = f; pending = l .pending; window = l .window }
@@ -125,6 +125,10 @@ module _ (𝓦 : Windows) (tests : WindowTests 𝓦) (code : Code) where
       go vs h k true e = h k e
       go vs h k false e = refl
 
+  share-alike : (l : ThreadState W) (r : Option W) → Alike l (share-act 𝓦 code l r) (share-act 𝓦 code (hide l) r)
+  share-alike l none = halts
+  share-alike l (some w) = advances (λ k p. (p, refl))
+
   act-alike : (n : ℕ) (l : ThreadState W) (e : Effect) → Facts (code .arguments) (view 𝓦 tests l) e
       → Alike l (actOf 𝓦 code (by-return 𝓦 code) n l e) (actOf 𝓦 code (by-join 𝓦 code) n (hide l) e)
   unfolding actOf
@@ -140,6 +144,7 @@ module _ (𝓦 : Windows) (tests : WindowTests 𝓦) (code : Code) where
   act-alike n l Suspends f = advances (λ k p. (p, refl))
   act-alike n l Yields f = advances (λ k p. (p, refl))
   act-alike n l (Returns v) f = returns
+  act-alike n l (Shares x) f = share-alike l (share (l .window) x)
 
   -- a machine's act
   abbrev pub does : ℕ → ThreadState W → Act (ThreadState W)

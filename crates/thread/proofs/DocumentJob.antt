@@ -17,14 +17,14 @@ use Rattle.forkjoin.proofs.ThreadPool.{Pool, Link, free, root, used}
 use Rattle.forkjoin.proofs.SerialRun.{Outcome, done, stopped}
 use Rattle.forkjoin.proofs.ScheduleIndependence.{Job, JobRun, job-serial, machine-agrees, machine-facts, machine-last, machine-sound, machine-unfinished, machine-units}
 use Rattle.thread.specs.declared.Effect.{Effect}
-use Rattle.thread.specs.declared.Effect.the-variants.{Faults, Sets, Loads, Stores, Goes, Continues, Lforks, Forks, Joins, Suspends, Yields, Returns}
+use Rattle.thread.specs.declared.Effect.the-variants.{Faults, Sets, Loads, Stores, Goes, Continues, Lforks, Forks, Joins, Suspends, Yields, Returns, Shares}
 use Rattle.thread.proofs.Routines.{Code}
-use Rattle.thread.proofs.ThreadState.{WindowTests, ThreadState, effect, onward, started, behind-fork, by-return, split, actOf, nothing-pending}
+use Rattle.thread.proofs.ThreadState.{WindowTests, ThreadState, effect, onward, started, behind-fork, by-return, split, share-act, actOf, nothing-pending}
 use Rattle.thread.proofs.LawfulThreads.{threads}
 use Rattle.thread.proofs.CarriedThreads.{carried-threads, does}
 
 module _ (𝓦 : Windows) (tests : WindowTests 𝓦) (code : Code) where
-  open Windows 𝓦 using (W, now, whole, cut, Fit)
+  open Windows 𝓦 using (W, now, whole, cut, share, Fit)
 
   abbrev acts : ℕ → ThreadState W → Effect → Act (ThreadState W)
   acts n l e = actOf 𝓦 code (by-return 𝓦 code) n l e
@@ -57,6 +57,7 @@ module _ (𝓦 : Windows) (tests : WindowTests 𝓦) (code : Code) where
   below n l Suspends h = refl
   below n l Yields h = refl
   below n l (Returns v) h = refl
+  below n l (Shares x) h = refl
 
   other : (n : ℕ) (l : ThreadState W) (e : Effect) → NoFork (acts 0 l e) → acts n l e ≡ acts 0 l e
   unfolding actOf
@@ -72,6 +73,7 @@ module _ (𝓦 : Windows) (tests : WindowTests 𝓦) (code : Code) where
   other n l Suspends h = refl
   other n l Yields h = refl
   other n l (Returns v) h = refl
+  other n l (Shares x) h = refl
 
   -- "A fork from 32 deep, the root being 1, meets 26"
   split-beyond : (l : ThreadState W) (r d a : ℕ) (x : Option (W × W))
@@ -98,6 +100,11 @@ module _ (𝓦 : Windows) (tests : WindowTests 𝓦) (code : Code) where
   beyond l c q d Suspends z = let y : _≡_ {A = ℕ} 0 1 = cc in absurd (omega arith)
   beyond l c q d Yields z = let y : _≡_ {A = ℕ} 0 1 = cc in absurd (omega arith)
   beyond l c q d (Returns v) z = let y : _≡_ {A = ℕ} 0 1 = cc in absurd (omega arith)
+  beyond l c q d (Shares x) z = absurd (no-fork (share (l .window) x) z)
+    where
+      no-fork : (r : Option W) → share-act 𝓦 code l r ≡ fork d c q → ⊥
+      no-fork none e = let y : _≡_ {A = ℕ} 0 1 = cc in omega arith
+      no-fork (some w) e = let y : _≡_ {A = ℕ} 0 1 = cc in omega arith
 
   pub bounded : Bounded (threads 𝓦 tests code) (carried-threads 𝓦 tests code) 31
   bounded = record {

@@ -7,10 +7,10 @@ use Prim.Native.Nat.{ℕ, zero, suc, _+_, _<_}
 use native.Mathlib.Omega.{arith}
 use lib.Dec.{eqb}
 use Rattle.command.specs.declared.Command.{Command}
-use Rattle.command.specs.declared.Command.the-variants.{Set, Add, Subtract, Load, Store, JumpIfZero, Jump, Lfork, Fork, Join, Suspend, Yield, Return}
+use Rattle.command.specs.declared.Command.the-variants.{Set, Add, Subtract, Load, Store, JumpIfZero, Jump, Lfork, Fork, Join, Suspend, Yield, Return, Share}
 use Rattle.command.proofs.Bools.{neither}
 use Rattle.thread.specs.declared.Effect.{Effect}
-use Rattle.thread.specs.declared.Effect.the-variants.{Faults, Sets, Loads, Stores, Goes, Continues, Lforks, Forks, Joins, Suspends, Yields, Returns}
+use Rattle.thread.specs.declared.Effect.the-variants.{Faults, Sets, Loads, Stores, Goes, Continues, Lforks, Forks, Joins, Suspends, Yields, Returns, Shares}
 use Rattle.thread.specs.Effect.{Context, run, anyPending, unlessPending, provided, sum, difference, forking, effectOf}
 use Rattle.thread.proofs.Routines.{InRange}
 
@@ -55,6 +55,7 @@ module _ (arguments : ℕ → ℕ) (own : Context) where
   Facts Suspends = Unit {0}
   Facts Yields = Unit {0}
   Facts (Returns v) = (k : ℕ) → k < 16 → own .pending k ≡ false
+  Facts (Shares x) = own .mayShare x ≡ true
 
   -- a record, so that the effect can be read off it
   pub record Guarded (e : Effect) : Type 0 where
@@ -87,6 +88,9 @@ module _ (arguments : ℕ → ℕ) (own : Context) where
   guarded-store : (a v : ℕ) → own .mayStore a ≡ true → Guarded (Stores a v)
   guarded-store a v allowed = record { facts = allowed }
 
+  guarded-share : (x : ℕ) → own .mayShare x ≡ true → Guarded (Shares x)
+  guarded-share x allowed = record { facts = allowed }
+
   guarded-return : (v : ℕ) → ((k : ℕ) → k < 16 → own .pending k ≡ false) → Guarded (Returns v)
   guarded-return v none = record { facts = none }
 
@@ -112,6 +116,7 @@ module _ (arguments : ℕ → ℕ) (own : Context) where
   guarded Suspend i = record { facts = tt }
   guarded Yield i = record { facts = tt }
   guarded (Return a) i = guarded-unless _ _ _ (λ none. guarded-return _ (λ k l. first-clear (own .pending) 16 none k l))
+  guarded (Share a) i = guarded-unless _ _ _ (λ none. guarded-provided _ _ _ (λ allowed. guarded-share _ allowed))
 
   -- the same with pending slots showing zero
   abbrev pub hidden : Context
@@ -121,6 +126,7 @@ module _ (arguments : ℕ → ℕ) (own : Context) where
     mayLoad = own .mayLoad;
     mayStore = own .mayStore;
     mayCut = own .mayCut;
+    mayShare = own .mayShare;
   }
 
   shown : (k : ℕ) → own .pending k ≡ false → own .slot k ≡ hidden .slot k
@@ -156,3 +162,4 @@ module _ (arguments : ℕ → ℕ) (own : Context) where
   effect-hidden Suspend i = refl
   effect-hidden Yield i = refl
   effect-hidden (Return a) i = unless-same _ _ _ _ (λ none. ap Returns (shown a (first-clear (own .pending) 16 none a i)))
+  effect-hidden (Share a) i = unless-same _ _ _ _ (λ none. ap (λ x. provided (own .mayShare x) 31 (Shares x)) (shown a (none .0)))

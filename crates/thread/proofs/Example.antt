@@ -8,7 +8,7 @@ use Rattle.forkjoin.proofs.SerialRun.{Outcome, done, stopped, out-of-fuel, zero
 use Rattle.forkjoin.proofs.DeliveredRun.{delivered-act, delivered-call, delivered-from}
 use Rattle.forkjoin.proofs.ScheduleIndependence.{job-serial}
 use Rattle.command.specs.declared.Command.{Command}
-use Rattle.command.specs.declared.Command.the-variants.{Set, Add, Subtract, Load, Store, JumpIfZero, Jump, Lfork, Fork, Join, Suspend, Yield, Return}
+use Rattle.command.specs.declared.Command.the-variants.{Set, Add, Subtract, Load, Store, JumpIfZero, Jump, Lfork, Fork, Join, Suspend, Yield, Return, Share}
 use Rattle.window.specs.Rights.{mayLoad, mayStore, cutAt}
 use Rattle.thread.specs.Effect.{run, anyPending, unlessPending, provided, forking, effectOf}
 use Rattle.thread.proofs.Routines.{Code, InRange}
@@ -30,6 +30,7 @@ weigh Join = 1
 weigh Suspend = 3
 weigh Yield = 3
 weigh (Return a) = 1
+weigh (Share a) = 1
 
 pub weigh-some : (c : Command) → 1 ≤ weigh c
 unfolding weigh
@@ -46,6 +47,7 @@ weigh-some Join = omega arith
 weigh-some Suspend = omega arith
 weigh-some Yield = omega arith
 weigh-some (Return a) = omega arith
+weigh-some (Share a) = omega arith
 
 -- codes `01 02 20 00 08 01 00 00 02 08 01 01 01 02 0A 02 00 00 01 0D 00` and `01 00 05 00 0D 00`
 unfoldable pub fetched : ℕ → ℕ → Command

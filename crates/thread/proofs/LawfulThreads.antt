@@ -14,13 +14,13 @@ use Rattle.forkjoin.proofs.Update.{update, update-same}
 use Rattle.forkjoin.proofs.Language.{Act, halt, advance, load, fork, KeepLaw, Lawful, Language}
 use Rattle.forkjoin.proofs.Windows.{Windows, Parts}
 use Rattle.thread.specs.declared.Effect.{Effect}
-use Rattle.thread.specs.declared.Effect.the-variants.{Faults, Sets, Loads, Stores, Goes, Continues, Lforks, Forks, Joins, Suspends, Yields, Returns}
+use Rattle.thread.specs.declared.Effect.the-variants.{Faults, Sets, Loads, Stores, Goes, Continues, Lforks, Forks, Joins, Suspends, Yields, Returns, Shares}
 use Rattle.thread.proofs.Routines.{Code}
 use Rattle.thread.proofs.EffectFacts.{Facts, ForkFacts, guarded}
-use Rattle.thread.proofs.ThreadState.{WindowTests, ThreadState, view, command, effect, onward, started, behind-fork, by-join, split, fork-act, load-act, actOf}
+use Rattle.thread.proofs.ThreadState.{WindowTests, ThreadState, view, command, effect, onward, started, behind-fork, by-join, split, fork-act, load-act, share-act, actOf}
 
 module _ (𝓦 : Windows) (tests : WindowTests 𝓦) (code : Code) where
-  open Windows 𝓦 using (W, now, whole, cut, Fit, cut-law, rejoin-fit, rejoin-same, rejoin-own)
+  open Windows 𝓦 using (W, now, whole, cut, share, Fit, cut-law, share-law, rejoin-fit, rejoin-same, rejoin-own)
 
   -- its window is a window, and its pending slots are among the sixteen
   abbrev pub Proper : ThreadState W → Type 0
@@ -96,6 +96,15 @@ module _ (𝓦 : Windows) (tests : WindowTests 𝓦) (code : Code) where
       by-cut none h = tt
       by-cut (some p) h = at-depth (ltb n 31) p h
 
+  -- a 0E gives up rights until the join
+  share-lawful : (l : ThreadState W) (x : ℕ) → Proper l → Obeys l (share-act 𝓦 code l (share (l .window) x))
+  share-lawful l x o = go (share (l .window) x) refl
+    where
+      go : (r : Option W) → share (l .window) x ≡ r → Obeys l (share-act 𝓦 code l r)
+      go none h = tt
+      go (some w) h = let f = share-law (l .window) x w (o .0) h in
+          record { valid = (f .fit, o .1); still-pending = λ k p. p; shrinks = f .less; same-whole = f .same }
+
   return-lawful : (l : ThreadState W) → Proper l → ((k : ℕ) → k < 16 → l .pending k ≡ false) → (k : ℕ) → l .pending k ≡ false
   return-lawful l o h k = go (decLt k 16)
     where
@@ -118,6 +127,7 @@ module _ (𝓦 : Windows) (tests : WindowTests 𝓦) (code : Code) where
   lawful-act n l Suspends o f = keeps l _ o refl refl
   lawful-act n l Yields o f = keeps l _ o refl refl
   lawful-act n l (Returns v) o f = return-lawful l o f
+  lawful-act n l (Shares x) o f = share-lawful l x o
 
   -- what has been tested where a thread's command has its effect
   pub effect-facts : (l : ThreadState W) → Facts (code .arguments) (view 𝓦 tests l) (effect 𝓦 tests code l)

@@ -2,7 +2,7 @@
 -- number of each routine's arguments; with the parameter words. An image that was read without a refusal fills it in.
 use Prim.Native.Nat.{ℕ, _≤_, _<_}
 use Rattle.command.specs.declared.Command.{Command}
-use Rattle.command.specs.declared.Command.the-variants.{Set, Add, Subtract, Load, Store, JumpIfZero, Jump, Lfork, Fork, Join, Suspend, Yield, Return}
+use Rattle.command.specs.declared.Command.the-variants.{Set, Add, Subtract, Load, Store, JumpIfZero, Jump, Lfork, Fork, Join, Suspend, Yield, Return, Share}
 
 -- a fork's result slot and a returned slot are among the sixteen ("6: slot, argument run or routine out of range")
 abbrev pub InRange : Command → Type 0
@@ -19,6 +19,7 @@ InRange Join = Unit {0}
 InRange Suspend = Unit {0}
 InRange Yield = Unit {0}
 InRange (Return a) = a < 16
+InRange (Share a) = Unit {0}
 
 pub record Code : Type 0 where
   pub fetch : ℕ → ℕ → Command

@@ -13,15 +13,15 @@ use Rattle.forkjoin.proofs.SerialRun.{Outcome, done, stopped, and-then}
 use Rattle.forkjoin.proofs.DeliveredRun.{delivered-act, delivered-from}
 use Rattle.forkjoin.proofs.Unroll.{unroll}
 use Rattle.thread.specs.declared.Effect.{Effect}
-use Rattle.thread.specs.declared.Effect.the-variants.{Faults, Sets, Loads, Stores, Goes, Continues, Lforks, Forks, Joins, Suspends, Yields, Returns}
+use Rattle.thread.specs.declared.Effect.the-variants.{Faults, Sets, Loads, Stores, Goes, Continues, Lforks, Forks, Joins, Suspends, Yields, Returns, Shares}
 use Rattle.thread.proofs.Routines.{Code}
-use Rattle.thread.proofs.ThreadState.{WindowTests, ThreadState, effect, onward, at-target, started, behind-fork, behind-join, by-return, split, actOf, deliver}
+use Rattle.thread.proofs.ThreadState.{WindowTests, ThreadState, effect, onward, at-target, started, behind-fork, behind-join, behind-share, by-return, split, share-act, actOf, deliver}
 use Rattle.thread.proofs.LawfulThreads.{threads}
 use Rattle.thread.proofs.CarriedThreads.{carried-threads, does}
 use Rattle.thread.proofs.ThreadSteps.{does-effect}
 
 module _ (𝓦 : Windows) (tests : WindowTests 𝓦) (code : Code) (allowance : ℕ) where
-  open Windows 𝓦 using (W, cut)
+  open Windows 𝓦 using (W, cut, share)
 
   -- the serial run from an open routine
   abbrev pub serial : ℕ → ThreadState W → (ℕ → ℕ) → ℕ → Outcome
@@ -98,6 +98,11 @@ module _ (𝓦 : Windows) (tests : WindowTests 𝓦) (code : Code) (allowance : 
       pub serial-returns : (v : ℕ) → effect 𝓦 tests code l ≡ Returns v → serial n l m u ≡ done v m (u + weight-at l)
       unfolding actOf delivered-act
       serial-returns v h = serial-act-of (Returns v) h
+
+      pub serial-shares : (x : ℕ) (w : W) → effect 𝓦 tests code l ≡ Shares x → share (l .window) x ≡ some w
+          → serial n l m u ≡ serial n (behind-share code l w) m (u + weight-at l)
+      unfolding actOf delivered-act
+      serial-shares x w h left = serial-act-of (Shares x) h ∙ ap (λ r. then-serial (share-act 𝓦 code l r)) left
 
       -- a fork's child runs to its end, then its value goes into slot d, still pending; c and w are the child's window and the rest
       abbrev pub then-child : ℕ → ℕ → ℕ → W → W → Outcome

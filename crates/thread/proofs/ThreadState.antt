@@ -11,7 +11,7 @@ use Rattle.forkjoin.proofs.Language.{Act, halt, advance, load, store, fork, joi
 use Rattle.forkjoin.proofs.Windows.{Windows}
 use Rattle.command.specs.declared.Command.{Command}
 use Rattle.thread.specs.declared.Effect.{Effect}
-use Rattle.thread.specs.declared.Effect.the-variants.{Faults, Sets, Loads, Stores, Goes, Continues, Lforks, Forks, Joins, Suspends, Yields, Returns}
+use Rattle.thread.specs.declared.Effect.the-variants.{Faults, Sets, Loads, Stores, Goes, Continues, Lforks, Forks, Joins, Suspends, Yields, Returns, Shares}
 use Rattle.thread.specs.Effect.{Context, effectOf}
 use Rattle.thread.proofs.Routines.{Code}
 
@@ -20,13 +20,16 @@ pub record WindowTests (𝓦 : Windows) : Type 0 where
   pub mayLoad : Windows.W 𝓦 → ℕ → Bool
   pub mayStore : Windows.W 𝓦 → ℕ → Bool
   pub mayCut : Windows.W 𝓦 → ℕ → Bool
+  pub mayShare : Windows.W 𝓦 → ℕ → Bool
   pub load-allowed : (w : Windows.W 𝓦) (a : ℕ) → 32 ≤ a → mayLoad w a ≡ true → 1 ≤ Windows.now 𝓦 w a
-  pub load-refused : (w : Windows.W 𝓦) (a : ℕ) → mayLoad w a ≡ false → (32 ≤ a) × (Windows.now 𝓦 w a ≡ 0)
+  pub load-refused : (w : Windows.W 𝓦) (a : ℕ) → Windows.Fit 𝓦 w → mayLoad w a ≡ false → (32 ≤ a) × (Windows.now 𝓦 w a ≡ 0)
   pub store-allowed : (w : Windows.W 𝓦) (a : ℕ) → mayStore w a ≡ true → 2 ≤ Windows.now 𝓦 w a
-  pub store-refused : (w : Windows.W 𝓦) (a : ℕ) → mayStore w a ≡ false → Windows.now 𝓦 w a ≤ 1
+  pub store-refused : (w : Windows.W 𝓦) (a : ℕ) → Windows.Fit 𝓦 w → mayStore w a ≡ false → Windows.now 𝓦 w a ≤ 1
   pub cut-refused : (w : Windows.W 𝓦) (e : ℕ) → mayCut w e ≡ false → Windows.cut 𝓦 w e ≡ none
   pub cut-allowed : (w : Windows.W 𝓦) (e : ℕ) → mayCut w e ≡ true
       → (c : Windows.W 𝓦) × (r : Windows.W 𝓦) × (Windows.cut 𝓦 w e ≡ some (c, r))
+  pub share-refused : (w : Windows.W 𝓦) (s : ℕ) → mayShare w s ≡ false → Windows.share 𝓦 w s ≡ none
+  pub share-allowed : (w : Windows.W 𝓦) (s : ℕ) → mayShare w s ≡ true → (r : Windows.W 𝓦) × (Windows.share 𝓦 w s ≡ some r)
 
 -- an open routine
 pub record ThreadState (W : Type 0) : Type 0 where
@@ -78,6 +81,16 @@ module _ {W : Type 0} (code : Code) where
     window = w;
   }
 
+  -- behind a 0E, with this window
+  abbrev pub behind-share : ThreadState W → W → ThreadState W
+  behind-share l w = record {
+    routine = l .routine;
+    position = code .next (l .routine) (l .position);
+    slots = l .slots;
+    pending = l .pending;
+    window = w;
+  }
+
   abbrev pub command : ThreadState W → Command
   command l = code .fetch (l .routine) (l .position)
 
@@ -91,7 +104,7 @@ pub record Delivery (W : Type 0) : Type 0 where
   pub join-act : ThreadState W → Act (ThreadState W)
 
 module _ (𝓦 : Windows) (code : Code) where
-  open Windows 𝓦 using (W, cut, rejoin)
+  open Windows 𝓦 using (W, cut, share, rejoin)
 
   -- the thread behind a join: nothing is pending, and the window is whole again
   abbrev pub behind-join : ThreadState W → (ℕ → ℕ) → ThreadState W
@@ -123,6 +136,11 @@ module _ (𝓦 : Windows) (code : Code) where
   abbrev pub fork-act : Delivery W → ℕ → ThreadState W → ℕ → ℕ → ℕ → ℕ → Act (ThreadState W)
   fork-act δ n l r d a e = split δ n l r d a (cut (l .window) e)
 
+  -- a 0E with what is left of the window
+  abbrev pub share-act : ThreadState W → Option W → Act (ThreadState W)
+  share-act l none = halt 31
+  share-act l (some w) = advance (behind-share code l w)
+
   -- an effect, n deep, as an act
   unfoldable pub actOf : Delivery W → ℕ → ThreadState W → Effect → Act (ThreadState W)
   actOf δ n l (Faults x) = halt x
@@ -137,6 +155,7 @@ module _ (𝓦 : Windows) (code : Code) where
   actOf δ n l Suspends = advance (onward code l (l .slots))
   actOf δ n l Yields = advance (onward code l (l .slots))
   actOf δ n l (Returns v) = ret v
+  actOf δ n l (Shares x) = share-act l (share (l .window) x)
 
 module _ (𝓦 : Windows) (tests : WindowTests 𝓦) where
   open Windows 𝓦 using (W)
@@ -149,6 +168,7 @@ module _ (𝓦 : Windows) (tests : WindowTests 𝓦) where
     mayLoad = tests .mayLoad (l .window);
     mayStore = tests .mayStore (l .window);
     mayCut = tests .mayCut (l .window);
+    mayShare = tests .mayShare (l .window);
   }
 
   abbrev pub effect : Code → ThreadState W → Effect

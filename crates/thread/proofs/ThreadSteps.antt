@@ -11,15 +11,15 @@ use Rattle.forkjoin.proofs.TaskTree.{word-after}
 use Rattle.forkjoin.proofs.Windows.{Windows}
 use Rattle.forkjoin.proofs.ThreadPool.{Pool, free, used, Link, child, OwnAct, PoolStep, step-own, step-fork, step-join, step-return}
 use Rattle.thread.specs.declared.Effect.{Effect}
-use Rattle.thread.specs.declared.Effect.the-variants.{Faults, Sets, Loads, Stores, Goes, Continues, Lforks, Forks, Joins, Suspends, Yields, Returns}
+use Rattle.thread.specs.declared.Effect.the-variants.{Faults, Sets, Loads, Stores, Goes, Continues, Lforks, Forks, Joins, Suspends, Yields, Returns, Shares}
 use Rattle.thread.proofs.Routines.{Code}
 use Rattle.thread.proofs.EffectFacts.{Facts, ForkFacts}
-use Rattle.thread.proofs.ThreadState.{view, WindowTests, ThreadState, effect, onward, at-target, started, behind-fork, behind-join, by-return, split, actOf, deliver}
+use Rattle.thread.proofs.ThreadState.{view, WindowTests, ThreadState, effect, onward, at-target, started, behind-fork, behind-join, behind-share, by-return, split, share-act, actOf, deliver}
 use Rattle.thread.proofs.LawfulThreads.{threads, effect-facts}
 use Rattle.thread.proofs.CarriedThreads.{carried-threads, does}
 
 module _ (𝓦 : Windows) (tests : WindowTests 𝓦) (code : Code) where
-  open Windows 𝓦 using (W, cut)
+  open Windows 𝓦 using (W, cut, share)
 
   abbrev pub ThreadStep : ℕ → Pool (ThreadState W) → Pool (ThreadState W) → Type 0
   ThreadStep t M N = PoolStep (threads 𝓦 tests code) (carried-threads 𝓦 tests code) 0 t M N
@@ -82,6 +82,10 @@ module _ (𝓦 : Windows) (tests : WindowTests 𝓦) (code : Code) where
     pub suspends-step : effect 𝓦 tests code l ≡ Suspends → ThreadStep t M (moved (onward code l (l .slots)))
     unfolding actOf
     suspends-step h = own-step (advance (onward code l (l .slots))) _ (does-effect 0 l Suspends h) refl
+
+    pub shares-step : (x : ℕ) (w : W) → effect 𝓦 tests code l ≡ Shares x → share (l .window) x ≡ some w → ThreadStep t M (moved (behind-share code l w))
+    unfolding actOf
+    shares-step x w h left = own-step (advance (behind-share code l w)) _ (does-effect 0 l (Shares x) h ∙ ap (λ r. share-act 𝓦 code l r) left) refl
 
     pub yields-step : effect 𝓦 tests code l ≡ Yields → ThreadStep t M (moved (onward code l (l .slots)))
     unfolding actOf

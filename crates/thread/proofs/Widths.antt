@@ -7,10 +7,10 @@ use native.Mathlib.Omega.{arith}
 use lib.Dec.{eqb}
 use lib.ListN.{length, getD}
 use Rattle.command.specs.declared.Command.{Command}
-use Rattle.command.specs.declared.Command.the-variants.{Set, Add, Subtract, Load, Store, JumpIfZero, Jump, Lfork, Fork, Join, Suspend, Yield, Return}
+use Rattle.command.specs.declared.Command.the-variants.{Set, Add, Subtract, Load, Store, JumpIfZero, Jump, Lfork, Fork, Join, Suspend, Yield, Return, Share}
 use Rattle.command.specs.Command.{bytesOfCommand, decoded, decodedAt, widthOf}
 use Rattle.thread.specs.declared.Effect.{Effect}
-use Rattle.thread.specs.declared.Effect.the-variants.{Faults, Sets, Loads, Stores, Goes, Continues, Lforks, Forks, Joins, Suspends, Yields, Returns}
+use Rattle.thread.specs.declared.Effect.the-variants.{Faults, Sets, Loads, Stores, Goes, Continues, Lforks, Forks, Joins, Suspends, Yields, Returns, Shares}
 use Rattle.thread.specs.Effect.{Context, anyPending, unlessPending, provided, forking, effectOf}
 use Rattle.thread.specs.Bytes.{bytesBy}
 
@@ -28,6 +28,7 @@ Wide n Joins = n ≡ 1
 Wide n Suspends = n ≡ 1
 Wide n Yields = n ≡ 1
 Wide n (Returns v) = Unit {0}
+Wide n (Shares x) = n ≡ 2
 
 -- a record, so that the effect can be read off it
 pub record Widened (n : ℕ) (e : Effect) : Type 0 where
@@ -71,6 +72,7 @@ wide arguments own Join = record { is = refl }
 wide arguments own Suspend = record { is = refl }
 wide arguments own Yield = record { is = refl }
 wide arguments own (Return a) = wide-unless _ _ _ _ (record { is = tt })
+wide arguments own (Share a) = wide-unless _ _ _ _ (wide-provided _ _ _ (record { is = refl }))
 
 -- what the code adds to a position stays below what the position behind the command stays below
 pub bytes-below : (p n top : ℕ) (e : Effect) → Widened n e → p + n < top → p + bytesBy e < top
@@ -86,6 +88,7 @@ bytes-below p n top Joins k h = let q = k .is in omega arith
 bytes-below p n top Suspends k h = let q = k .is in omega arith
 bytes-below p n top Yields k h = let q = k .is in omega arith
 bytes-below p n top (Returns v) k h = omega arith
+bytes-below p n top (Shares x) k h = let q = k .is in omega arith
 
 -- a decoded command has as many bytes as its first byte tells
 decoded-length : (x y z w byte : ℕ) → 1 ≤ widthOf byte → length (bytesOfCommand (decoded byte x y z w)) ≡ widthOf byte
@@ -104,7 +107,8 @@ decoded-length x y z w (suc (suc (suc (suc (suc (suc (suc (suc (suc (suc zero)))
 decoded-length x y z w (suc (suc (suc (suc (suc (suc (suc (suc (suc (suc (suc zero))))))))))) h = refl
 decoded-length x y z w (suc (suc (suc (suc (suc (suc (suc (suc (suc (suc (suc (suc zero)))))))))))) h = refl
 decoded-length x y z w (suc (suc (suc (suc (suc (suc (suc (suc (suc (suc (suc (suc (suc zero))))))))))))) h = refl
-decoded-length x y z w (suc (suc (suc (suc (suc (suc (suc (suc (suc (suc (suc (suc (suc (suc k)))))))))))))) h = absurd (omega arith)
+decoded-length x y z w (suc (suc (suc (suc (suc (suc (suc (suc (suc (suc (suc (suc (suc (suc zero)))))))))))))) h = refl
+decoded-length x y z w (suc (suc (suc (suc (suc (suc (suc (suc (suc (suc (suc (suc (suc (suc (suc k))))))))))))))) h = absurd (omega arith)
 
 -- so its effect tells that number
 pub decoded-wide : (arguments : ℕ → ℕ) (own : Context) (s : List ℕ) (at : ℕ) → 1 ≤ widthOf (getD s at 0)

@@ -1,13 +1,15 @@
--- What a command does to its own thread, as document 01's table of commands and its tests 12, 9, 10 and 11 say: the one definition
--- that the machine's step, the steal and the serial run use.
+-- What a command does to its own thread, as document 01's table of commands and its tests 12, 9, 10 and 11 say, and T-04's 0E and 31: the one
+-- definition that the machine's step, the steal and the serial run use.
 use mathlib.Core.Bool.{Bool, false, cond, _||_}
 use mathlib.Core.List.{List, [], _∷_}
-use Prim.Native.Nat.{ℕ, zero, suc, _+_, _-_, _%_, _^_}
+use mathlib.Core.Logic.{_⊎_}
+use mathlib.Core.Path.{_≡_}
+use Prim.Native.Nat.{ℕ, zero, suc, _+_, _-_, _%_, _^_, _≤_}
 use lib.Dec.{eqb}
 use Rattle.command.specs.declared.Command.{Command}
-use Rattle.command.specs.declared.Command.the-variants.{Set, Add, Subtract, Load, Store, JumpIfZero, Jump, Lfork, Fork, Join, Suspend, Yield, Return}
+use Rattle.command.specs.declared.Command.the-variants.{Set, Add, Subtract, Load, Store, JumpIfZero, Jump, Lfork, Fork, Join, Suspend, Yield, Return, Share}
 use Rattle.thread.specs.declared.Effect.{Effect}
-use Rattle.thread.specs.declared.Effect.the-variants.{Faults, Sets, Loads, Stores, Goes, Continues, Lforks, Forks, Joins, Suspends, Yields, Returns}
+use Rattle.thread.specs.declared.Effect.the-variants.{Faults, Sets, Loads, Stores, Goes, Continues, Lforks, Forks, Joins, Suspends, Yields, Returns, Shares}
 
 -- what a thread's command may look at: its slots' words, which slots are pending, and what its window allows
 pub record Context : Type 0 where
@@ -16,6 +18,11 @@ pub record Context : Type 0 where
   pub mayLoad : ℕ → Bool
   pub mayStore : ℕ → Bool
   pub mayCut : ℕ → Bool
+  pub mayShare : ℕ → Bool
+
+-- the numbers by which a command faults: document 01's 9 to 12, and T-04's 31
+abbrev pub IsFault : ℕ → Type 0
+IsFault n = ((9 ≤ n) × (n ≤ 12)) ⊎ (n ≡ 31)
 
 -- n slots in a row, from a on
 unfoldable pub run : ℕ → ℕ → List ℕ
@@ -31,7 +38,7 @@ anyPending p (k ∷ ks) = p k || anyPending p ks
 unfoldable pub unlessPending : ℕ → (ℕ → Bool) → List ℕ → Effect → Effect
 unlessPending n p ks e = cond (anyPending p ks) (Faults n) e
 
--- "10: address not allowed", "11: cut out of range"
+-- "10: address not allowed", "11: cut out of range"; T-04: "31 s out of range, a fault, tested after 9"
 unfoldable pub provided : Bool → ℕ → Effect → Effect
 provided test n e = cond test e (Faults n)
 
@@ -67,6 +74,7 @@ module _ (arguments : ℕ → ℕ) (own : Context) where
   effectOf Suspend = Suspends
   effectOf Yield = Yields
   effectOf (Return a) = unlessPending 12 (own .pending) (run 0 16) (Returns (own .slot a))
+  effectOf (Share a) = unlessPending 9 (own .pending) (a ∷ []) (provided (own .mayShare (own .slot a)) 31 (Shares (own .slot a)))
 
 -- what a fork asks for: the routine, the result slot, the first argument's slot and the cut
 pub record Asked : Type 0 where

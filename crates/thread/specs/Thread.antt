@@ -4,7 +4,7 @@ use Prim.Native.Nat.{ℕ, _+_, _-_, _/_, _%_, _^_}
 use lib.Bits.{bitOr}
 use lib.Dec.{eqb, leb}
 use Rattle.window.specs.declared.Window.{Window}
-use Rattle.window.specs.Rights.{rootWindow, rejoined}
+use Rattle.window.specs.Rights.{rootWindow, noWindow, sharingOf, rejoined}
 use Rattle.thread.specs.declared.Origin.{Origin}
 use Rattle.thread.specs.declared.Family.{Family}
 use Rattle.thread.specs.declared.Thread.{Thread}
@@ -54,7 +54,7 @@ blankThread = record {
   status = Free;
   connected = false;
   position = 0;
-  family = childless (record { lo = 0; mark = 0; hi = 0 });
+  family = childless noWindow;
 }
 
 -- a thread at its routine's start
@@ -80,9 +80,14 @@ movedTo p h = record { origin = h .origin; status = h .status; connected = h .co
 abbrev pub withFamily : Family → Status → Thread → Thread
 withFamily family status h = record { origin = h .origin; status = status; connected = h .connected; position = h .position; family = family }
 
--- behind a join, at p: "clearing pending slots", "A join puts the mark back to lo"
+-- behind a join, at p: "clearing pending slots", "A join puts the mark back to lo"; T-04: "The join restores the ceiling"
 abbrev pub joinedAt : ℕ → Thread → Thread
 joinedAt p h = movedTo p (withFamily (record { children = h .family .children; window = rejoined (h .family .window); pending = 0 }) (h .status) h)
+
+-- behind a 0E of x, at p: T-04, "The ceiling becomes s"
+abbrev pub sharedAt : ℕ → ℕ → Thread → Thread
+sharedAt p x h =
+    movedTo p (withFamily (record { children = h .family .children; window = sharingOf (h .family .window) x; pending = h .family .pending }) (h .status) h)
 
 -- a parent behind a fork, at p: one child more, slot d pending, the window w left to it
 abbrev pub behindFork : Status → ℕ → ℕ → Window → Thread → Thread

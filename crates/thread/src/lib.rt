@@ -49,7 +49,7 @@ pub struct Thread {
 
 // The effect of a command, computed from the thread's own slots, pending slots and window alone.
 pub enum Effect {
-    // the command faults by 9, 10, 11 or 12
+    // the command faults by 9, 10, 11, 12 or 31
     Faults(u8),
     // a slot becomes a value
     Sets(u8, u32),
@@ -68,4 +68,6 @@ pub enum Effect {
     Suspends,
     Yields,
     Returns(u32),
+    // the words from an address up to hi are shared for reading
+    Shares(u32),
 }

@@ -4,11 +4,12 @@ use crate::Origin;
 use crate::Status;
 use crate::Thread;
 use crate::pending::with_pending;
+use window::Share;
 use window::Window;
 ghost use mathlib.Core.Path.{_≡_};
 ghost use mathlib.Core.Logic.{_⊎_};
 ghost use Prim.Native.Nat.{_-_, _≤_, _<_};
-ghost use Rattle.thread.specs.Thread.{statusNumber, _is_, isRoot, blankThread, rootThread, newThread, withStatus, disconnected, joinedAt, behindFork, withoutChild};
+ghost use Rattle.thread.specs.Thread.{statusNumber, _is_, isRoot, blankThread, rootThread, newThread, withStatus, disconnected, joinedAt, sharedAt, behindFork, withoutChild};
 
 // A number for each status.
 pub fn status_number(status: Status) -> u8
@@ -41,11 +42,7 @@ pub fn blank_thread() -> Thread
         result: 0,
         base: 0,
     };
-    let window = Window {
-        lo: 0,
-        mark: 0,
-        hi: 0,
-    };
+    let window = Window::none();
     let family = Family {
         children: 0,
         window,
@@ -141,6 +138,30 @@ pub fn joined_at(h: Thread, position: u16) -> Thread
         children: h.family.children,
         window,
         pending: 0,
+    };
+    Thread {
+        origin,
+        status,
+        connected: h.connected,
+        position,
+        family,
+    }
+}
+
+// The thread behind a 0E of s, its next command at a position: its ceiling is s. Where s is out of the window's range the record stays as it is.
+pub fn shared_at(h: Thread, position: u16, s: u32) -> Thread
+    ensures { λ r. ⌜ (h .family .window .mark ≤ s → s ≤ h .family .window .ceiling → r ≡ sharedAt position s h) × ((s < h .family .window .mark) ⊎ (h .family .window .ceiling < s) → r ≡ h) ⌝ }
+{
+    let held = h.family.window;
+    let Share::Shared(window) = held.share(s) else {
+        return h;
+    };
+    let origin = h.origin;
+    let status = h.status;
+    let family = Family {
+        children: h.family.children,
+        window,
+        pending: h.family.pending,
     };
     Thread {
         origin,

@@ -1,6 +1,7 @@
 -- A refused entry changes nothing, and a suspended thread's enable is accepted. Assumes nothing.
 use borrow.Author.Tests.{le-leb, lt-ltb, le-ltb, leb-true}
 use mathlib.Core.Bool.{or-true, Bool, true, false, cond}
+use mathlib.Core.Logic.{inl, inr}
 use mathlib.Core.Path.{_≡_, refl, sym, _∙_}
 use Prim.Native.Nat.{ℕ, _≤_, _<_}
 use native.Mathlib.Omega.{arith}
@@ -8,6 +9,7 @@ use lib.Dec.{eqb, leb}
 use Rattle.schedule.specs.declared.Entry.{Entry}
 use Rattle.schedule.specs.declared.Entry.the-variants.{Step, Take, Steal, Enable}
 use Rattle.thread.specs.declared.Status.the-variants.{Suspended}
+use Rattle.thread.specs.Effect.{IsFault}
 use Rattle.thread.specs.Thread.{_is_}
 use Rattle.rules.specs.State.{Job, State, After, isOver, isBusy, threadAt}
 use Rattle.rules.specs.Update.{refused}
@@ -17,9 +19,10 @@ use Rattle.soundness.proofs.Tested.{fault-tested}
 use Rattle.search.specs.Search.{isNothing}
 use Rattle.rounds.specs.Rounds.{isWritten}
 
--- "accepted or faulting": 0 and 9 to 12 are
-fault-written : (n : ℕ) → 9 ≤ n → n ≤ 12 → isWritten n ≡ true
-fault-written n l h = rw (le-leb 9 n l, le-leb n 12 h) (or-true (eqb n 0))
+-- "accepted or faulting": a fault's number is written
+fault-written : (n : ℕ) → IsFault n → isWritten n ≡ true
+fault-written n (inl (l, h)) = rw (le-leb 9 n l, le-leb n 12 h) (or-true (eqb n 0))
+fault-written n (inr e) = rw e
 
 never : {A : Type 0} → true ≡ false → A
 never e = let z : _≡_ {A = ℕ} 0 1 = cc in absurd (omega arith)
@@ -31,7 +34,7 @@ module _ (j : Job) (s : State) where
   steps-stay : StepCases Stays j s
   steps-stay = record {
     refuses = λ n l h e. refl;
-    fault = λ c t k n f e. let w = fault-tested j s t n f in never (sym (fault-written n (w .0) (w .1)) ∙ e);
+    fault = λ c t k n f e. never (sym (fault-written n (fault-tested j s t n f)) ∙ e);
     waiting = λ c t k e. never e;
     sets = λ c t k d v f e. never e;
     loads = λ c t k d a f e. never e;
@@ -44,13 +47,14 @@ module _ (j : Job) (s : State) where
     suspends = λ c t k f e. never e;
     yields = λ c t k f e. never e;
     returns = λ c t k v f e. never e;
+    shares = λ c t k x f e. never e;
   }
 
   stays : Cases Stays j s
   stays = record {
     steps = steps-stay;
     takes = λ c t ts k e. never e;
-    seedFault = λ c t k n f e. let w = fault-tested j s t n f in never (sym (fault-written n (w .0) (w .1)) ∙ e);
+    seedFault = λ c t k n f e. never (sym (fault-written n (fault-tested j s t n f)) ∙ e);
     steals = λ c t k r d a w f n ns x xs g e. never e;
     enables = λ t k e. never e;
   }

@@ -52,7 +52,7 @@ tried-refused j e p h = rw h (same (mayTry p))
 or-none : (b : Bool) (n : ℕ) → isWritten n ≡ false → (b || eqb n 0) ≡ b
 or-none b n h = go (eqb n 0) h b
   where
-    go : (x : Bool) → (x || (leb 9 n && leb n 12)) ≡ false → (b : Bool) → (b || x) ≡ b
+    go : (x : Bool) → (x || ((leb 9 n && leb n 12) || eqb n 31)) ≡ false → (b : Bool) → (b || x) ≡ b
     go true e b = let z : _≡_ {A = ℕ} 0 1 = cc in absurd (omega arith)
     go false e true = refl
     go false e false = refl

@@ -1,7 +1,8 @@
--- Laws of windows: the two parts of a cut do not meet and are together what was held, a join gives back the whole, and every window made
--- from the root's lies within the memory words. Assumes nothing.
-use mathlib.Core.Bool.{Bool, true, false, cond, _&&_, _||_, and-false, or-false}
-use mathlib.Core.Path.{_≡_, sym}
+-- Laws of windows: a child's part and the rest of a cut do not meet, what is shared is stored by neither, a join gives back the whole, and
+-- every window made from the root's lies within the memory words. Assumes nothing.
+use mathlib.Core.Bool.{Bool, true, false, cond, _&&_, _||_, and-false, or-true}
+use mathlib.Core.Logic.{_⊎_, inl, inr}
+use mathlib.Core.Path.{_≡_, refl, ap}
 use Prim.Native.Nat.{ℕ, _≤_, _<_}
 use native.Mathlib.Decide.{decLe, decLt}
 use native.Mathlib.Omega.{arith}
@@ -9,44 +10,49 @@ use lib.Dec.{ltb, leb}
 use borrow.Author.Tests.{lt-ltb, le-ltb, le-leb, lt-leb}
 use Rattle.window.specs.declared.Window.{Window}
 use Rattle.window.specs.declared.Cut.the-variants.{Parts, BadCut}
-use Rattle.window.specs.Rights.{rootWindow, mayLoad, mayStore, cutAt, childOf, restOf, rejoined, Fits}
+use Rattle.window.specs.declared.Share.the-variants.{Shared, BadShare}
+use Rattle.window.specs.Rights.{rootWindow, isFrom, mayLoad, mayStore, sharesWord, spanFrom, spanTo, cutAt, childOf, restOf, shareAt, sharingOf, rejoined, Fits}
+use Rattle.window.specs.Numbers.{NotFrom}
 
--- whether a window may store, seen with the reason
-pub data Seen (w : Window) (address : ℕ) : Bool → Type 0 where
-  allowed : 32 ≤ address → w .mark ≤ address → address < w .hi → Seen w address true
-  parameter : address < 32 → Seen w address false
-  below : address < w .mark → Seen w address false
-  above : w .hi ≤ address → Seen w address false
+-- whether an address is one of those from x up to y, seen with the reason
+pub data Seen (x y a : ℕ) : Bool → Type 0 where
+  inside : x ≤ a → a < y → Seen x y a true
+  outside : NotFrom x y a → Seen x y a false
 
-pub seen : (w : Window) (address : ℕ) → Seen w address (mayStore w address)
+pub seen : (x y a : ℕ) → Seen x y a (isFrom x y a)
+seen x y a = go (decLe x a) (decLt a y)
+  where
+    go : Dec (x ≤ a) → Dec (a < y) → Seen x y a (leb x a && ltb a y)
+    go (yes p) (yes q) = rw (le-leb _ _ p, lt-ltb _ _ q) (inside p q)
+    go (no p) _ = rw (lt-leb x a (omega arith)) (outside (inl (omega arith)))
+    go (yes p) (no q) = rw (le-leb _ _ p, le-ltb a y (omega arith)) (outside (inr (omega arith)))
+
+pub inside-from : (x y a : ℕ) → x ≤ a → a < y → isFrom x y a ≡ true
+inside-from x y a p q = rw (le-leb _ _ p, lt-ltb _ _ q)
+
+pub outside-from : (x y a : ℕ) → NotFrom x y a → isFrom x y a ≡ false
+outside-from x y a (inl p) = rw (lt-leb x a p)
+outside-from x y a (inr p) = rw (le-ltb a y p, and-false)
+
+-- a stored address lies from the mark up to the ceiling and is no parameter word, and conversely
+pub store-means : (w : Window) (a : ℕ) → mayStore w a ≡ true → (32 ≤ a) × (w .mark ≤ a) × (a < w .ceiling)
 unfolding mayStore
-seen w a = go (decLe 32 a) (decLe (w .mark) a) (decLt a (w .hi))
+store-means w a h = go (decLe 32 a) (seen (w .mark) (w .ceiling) a) h
   where
-    go : Dec (32 ≤ a) → Dec (w .mark ≤ a) → Dec (a < w .hi) → Seen w a (leb 32 a && leb (w .mark) a && ltb a (w .hi))
-    go (yes x) (yes y) (yes z) = rw (le-leb _ _ x, le-leb _ _ y, lt-ltb _ _ z) (allowed x y z)
-    go (no x) _ _ = rw (lt-leb 32 a (omega arith)) (parameter (omega arith))
-    go (yes x) (no y) _ = rw (le-leb _ _ x, lt-leb (w .mark) a (omega arith)) (below (omega arith))
-    go (yes x) (yes y) (no z) = rw (le-leb _ _ x, le-leb _ _ y, le-ltb a (w .hi) (omega arith)) (above (omega arith))
+    go : {b : Bool} → Dec (32 ≤ a) → Seen (w .mark) (w .ceiling) a b → (leb 32 a && b) ≡ true → (32 ≤ a) × (w .mark ≤ a) × (a < w .ceiling)
+    go (yes l) (inside p q) e = (l, p, q)
+    go (yes l) (outside p) e = let x = le-leb 32 a l in let z : _≡_ {A = ℕ} 0 1 = cc in absurd (omega arith)
+    go (no l) _ e = let x = lt-leb 32 a (omega arith) in let z : _≡_ {A = ℕ} 0 1 = cc in absurd (omega arith)
 
--- a stored address lies from the mark up to hi and is no parameter word, and conversely
-pub store-means : (w : Window) (a : ℕ) → mayStore w a ≡ true → (32 ≤ a) × (w .mark ≤ a) × (a < w .hi)
-store-means w a h = go (seen w a) h
-  where
-    go : {b : Bool} → Seen w a b → b ≡ true → (32 ≤ a) × (w .mark ≤ a) × (a < w .hi)
-    go (allowed x y z) e = (x, y, z)
-    go (parameter x) e = let z : _≡_ {A = ℕ} 0 1 = cc in absurd (omega arith)
-    go (below x) e = let z : _≡_ {A = ℕ} 0 1 = cc in absurd (omega arith)
-    go (above x) e = let z : _≡_ {A = ℕ} 0 1 = cc in absurd (omega arith)
-
-pub store-allowed : (w : Window) (a : ℕ) → 32 ≤ a → w .mark ≤ a → a < w .hi → mayStore w a ≡ true
+pub store-allowed : (w : Window) (a : ℕ) → 32 ≤ a → w .mark ≤ a → a < w .ceiling → mayStore w a ≡ true
 unfolding mayStore
 store-allowed w a x y z = rw (le-leb _ _ x, le-leb _ _ y, lt-ltb _ _ z)
 
 -- a window that fits stores memory words alone
 pub store-in-memory : (w : Window) (a : ℕ) → Fits w → mayStore w a ≡ true → (32 ≤ a) × (a < 1024)
-store-in-memory w a f h = let m = store-means w a h in (m .0, omega (arith, f .within))
+store-in-memory w a f h = let m = store-means w a h in (m .0, omega (arith, f .below, f .above, f .span, f .within))
 
--- a parameter word is always loaded and never stored; any other word is loaded where it is stored
+-- a parameter word is always loaded and never stored
 pub load-parameter : (w : Window) (a : ℕ) → a < 32 → mayLoad w a ≡ true
 unfolding mayLoad
 load-parameter w a h = rw (lt-ltb _ _ h)
@@ -55,93 +61,165 @@ pub store-parameter : (w : Window) (a : ℕ) → a < 32 → mayStore w a ≡ fal
 unfolding mayStore
 store-parameter w a h = rw (lt-leb 32 a h)
 
-pub load-memory : (w : Window) (a : ℕ) → 32 ≤ a → mayLoad w a ≡ mayStore w a
+-- why an address may be loaded
+pub data Loading (w : Window) (a : ℕ) : Type 0 where
+  parameter : a < 32 → Loading w a
+  own : w .mark ≤ a → a < w .hi → Loading w a
+  given : w .from ≤ a → a < w .to → Loading w a
+
+pub load-means : (w : Window) (a : ℕ) → mayLoad w a ≡ true → Loading w a
 unfolding mayLoad
-load-memory w a h = rw (le-ltb a 32 h)
+load-means w a h = go (decLt a 32) (seen (w .mark) (w .hi) a) (seen (w .from) (w .to) a) h
+  where
+    go : {b c : Bool} → Dec (a < 32) → Seen (w .mark) (w .hi) a b → Seen (w .from) (w .to) a c → (ltb a 32 || (b || c)) ≡ true → Loading w a
+    go (yes l) _ _ e = parameter l
+    go (no l) (inside p q) _ e = own p q
+    go (no l) (outside p) (inside q r) e = given q r
+    go (no l) (outside p) (outside q) e = let x = le-ltb a 32 (omega arith) in let z : _≡_ {A = ℕ} 0 1 = cc in absurd (omega arith)
+
+pub load-own : (w : Window) (a : ℕ) → w .mark ≤ a → a < w .hi → mayLoad w a ≡ true
+unfolding mayLoad
+load-own w a p q = rw (inside-from (w .mark) (w .hi) a p q, or-true)
+
+pub load-given : (w : Window) (a : ℕ) → w .from ≤ a → a < w .to → mayLoad w a ≡ true
+unfolding mayLoad
+load-given w a p q = rw (inside-from (w .from) (w .to) a p q, or-true, or-true)
+
+-- a window that fits loads no word past the memory
+pub load-in-memory : (w : Window) (a : ℕ) → Fits w → mayLoad w a ≡ true → a < 1024
+load-in-memory w a f h = go (load-means w a h)
+  where
+    go : Loading w a → a < 1024
+    go (parameter p) = omega arith
+    go (own p q) = omega (arith, f .above, f .span, f .within)
+    go (given p q) = omega (arith, f .within)
 
 -- what a cut that was made tells
 pub record Cutting (w : Window) (e : ℕ) (child rest : Window) : Type 0 where
   pub low : w .mark ≤ e
-  pub high : e ≤ w .hi
+  pub high : e ≤ w .ceiling
   pub is-child : child ≡ childOf w e
   pub is-rest : rest ≡ restOf w e
 
 pub cut-means : (w : Window) (e : ℕ) (child rest : Window) → cutAt w e ≡ Parts child rest → Cutting w e child rest
 unfolding cutAt
-cut-means w e c r h = go (decLe (w .mark) e) (decLe e (w .hi)) h
+cut-means w e c r h = go (decLe (w .mark) e) (decLe e (w .ceiling)) h
   where
     refused : (x y : Bool) → x && y ≡ false → cond (x && y) (Parts (childOf w e) (restOf w e)) BadCut ≡ Parts c r → ⊥
     refused x y f p = let q : BadCut ≡ Parts c r = rw f at p in let z : _≡_ {A = ℕ} 0 1 = cc in omega arith
 
-    go : Dec (w .mark ≤ e) → Dec (e ≤ w .hi) → cond (leb (w .mark) e && leb e (w .hi)) (Parts (childOf w e) (restOf w e)) BadCut ≡ Parts c r → Cutting w e c r
+    go : Dec (w .mark ≤ e) → Dec (e ≤ w .ceiling) → cond (leb (w .mark) e && leb e (w .ceiling)) (Parts (childOf w e) (restOf w e)) BadCut ≡ Parts c r → Cutting w e c r
     go (yes x) (yes y) p =
         let q : Parts (childOf w e) (restOf w e) ≡ Parts c r = rw (le-leb _ _ x, le-leb _ _ y) at p in
         record { low = x; high = y; is-child = cc; is-rest = cc }
-    go (no x) _ p = absurd (refused (leb (w .mark) e) (leb e (w .hi)) (rw (lt-leb (w .mark) e (omega arith))) p)
-    go (yes x) (no y) p = absurd (refused (leb (w .mark) e) (leb e (w .hi)) (rw (le-leb _ _ x, lt-leb e (w .hi) (omega arith))) p)
+    go (no x) _ p = absurd (refused (leb (w .mark) e) (leb e (w .ceiling)) (rw (lt-leb (w .mark) e (omega arith))) p)
+    go (yes x) (no y) p = absurd (refused (leb (w .mark) e) (leb e (w .ceiling)) (rw (le-leb _ _ x, lt-leb e (w .ceiling) (omega arith))) p)
 
-pub cut-made : (w : Window) (e : ℕ) → w .mark ≤ e → e ≤ w .hi → cutAt w e ≡ Parts (childOf w e) (restOf w e)
+pub cut-made : (w : Window) (e : ℕ) → w .mark ≤ e → e ≤ w .ceiling → cutAt w e ≡ Parts (childOf w e) (restOf w e)
 unfolding cutAt
 cut-made w e x y = rw (le-leb _ _ x, le-leb _ _ y)
 
+-- what a share that was made tells
+pub record Sharing (w : Window) (s : ℕ) (rest : Window) : Type 0 where
+  pub low : w .mark ≤ s
+  pub high : s ≤ w .ceiling
+  pub is-rest : rest ≡ sharingOf w s
+
+pub share-means : (w : Window) (s : ℕ) (rest : Window) → shareAt w s ≡ Shared rest → Sharing w s rest
+unfolding shareAt
+share-means w s r h = go (decLe (w .mark) s) (decLe s (w .ceiling)) h
+  where
+    refused : (x y : Bool) → x && y ≡ false → cond (x && y) (Shared (sharingOf w s)) BadShare ≡ Shared r → ⊥
+    refused x y f p = let q : BadShare ≡ Shared r = rw f at p in let z : _≡_ {A = ℕ} 0 1 = cc in omega arith
+
+    go : Dec (w .mark ≤ s) → Dec (s ≤ w .ceiling) → cond (leb (w .mark) s && leb s (w .ceiling)) (Shared (sharingOf w s)) BadShare ≡ Shared r → Sharing w s r
+    go (yes x) (yes y) p =
+        let q : Shared (sharingOf w s) ≡ Shared r = rw (le-leb _ _ x, le-leb _ _ y) at p in
+        record { low = x; high = y; is-rest = cc }
+    go (no x) _ p = absurd (refused (leb (w .mark) s) (leb s (w .ceiling)) (rw (lt-leb (w .mark) s (omega arith))) p)
+    go (yes x) (no y) p = absurd (refused (leb (w .mark) s) (leb s (w .ceiling)) (rw (le-leb _ _ x, lt-leb s (w .ceiling) (omega arith))) p)
+
+pub share-made : (w : Window) (s : ℕ) → w .mark ≤ s → s ≤ w .ceiling → shareAt w s ≡ Shared (sharingOf w s)
+unfolding shareAt
+share-made w s x y = rw (le-leb _ _ x, le-leb _ _ y)
+
+-- which words a child forked now is given to read
+pub data Span (w : Window) : ℕ → ℕ → Type 0 where
+  shared : w .ceiling < w .hi → Span w (w .ceiling) (w .hi)
+  handed-on : w .hi ≤ w .ceiling → Span w (w .from) (w .to)
+
+pub span-of : (w : Window) → Span w (spanFrom w) (spanTo w)
+span-of w = go (decLt (w .ceiling) (w .hi))
+  where
+    go : Dec (w .ceiling < w .hi) → Span w (spanFrom w) (spanTo w)
+    go (yes h) = rw (lt-ltb (w .ceiling) (w .hi) h) (shared h)
+    go (no h) = rw (le-ltb (w .ceiling) (w .hi) (omega arith)) (handed-on (omega arith))
+
 -- every window that is made from the root's fits
 pub root-fits : Fits rootWindow
-root-fits = record { memory = omega arith; behind = omega arith; before = omega arith; within = omega arith }
+root-fits = record {
+  memory = omega arith;
+  behind = omega arith;
+  before = omega arith;
+  below = omega arith;
+  above = omega arith;
+  span = omega arith;
+  within = omega arith;
+}
 
 pub rejoined-fits : (w : Window) → Fits w → Fits (rejoined w)
-rejoined-fits w f = record { memory = f .memory; behind = omega arith; before = omega arith; within = f .within }
+rejoined-fits w f = record {
+  memory = f .memory;
+  behind = omega arith;
+  before = omega (arith, f .behind, f .before, f .below);
+  below = omega arith;
+  above = f .above;
+  span = f .span;
+  within = f .within;
+}
 
-module _ (w : Window) (e : ℕ) (child rest : Window) (made : cutAt w e ≡ Parts child rest) where
-  cutting : Cutting w e child rest
-  cutting = cut-means w e child rest made
+pub sharing-fits : (w : Window) (s : ℕ) → w .mark ≤ s → s ≤ w .ceiling → Fits w → Fits (sharingOf w s)
+sharing-fits w s low high f = record {
+  memory = f .memory;
+  behind = f .behind;
+  before = low;
+  below = omega (arith, f .below);
+  above = f .above;
+  span = f .span;
+  within = f .within;
+}
 
-  pub child-fits : Fits w → Fits child
-  child-fits f = rw (cutting .is-child) (record { memory = omega arith; behind = omega arith; before = cutting .low; within = omega (arith, cutting .high) })
-
-  pub rest-fits : Fits w → Fits rest
-  rest-fits f = rw (cutting .is-rest) (record { memory = f .memory; behind = omega (arith, cutting .low); before = cutting .high; within = f .within })
-
-  -- a child starts with its mark at its lo
-  pub child-fresh : child .mark ≡ child .lo
-  child-fresh = rw (cutting .is-child)
-
-  -- below the cut the child holds what was held and the parent nothing; from the cut on it is the other way round
-  child-below : (a : ℕ) → a < e → mayStore child a ≡ mayStore w a
-  unfolding mayStore
-  child-below a h = rw (cutting .is-child, lt-ltb a e h, lt-ltb a (w .hi) (omega (arith, cutting .high)))
-
-  child-above : (a : ℕ) → e ≤ a → mayStore child a ≡ false
-  unfolding mayStore
-  child-above a h = rw (cutting .is-child, le-ltb a e h, and-false)
-
-  rest-below : (a : ℕ) → a < e → mayStore rest a ≡ false
-  unfolding mayStore
-  rest-below a h = rw (cutting .is-rest, lt-leb e a h, and-false)
-
-  rest-above : (a : ℕ) → e ≤ a → mayStore rest a ≡ mayStore w a
-  unfolding mayStore
-  rest-above a h = rw (cutting .is-rest, le-leb e a h, le-leb (w .mark) a (omega (arith, cutting .low)))
-
-  -- what was held is what the child and the parent now hold together
-  pub cut-covers : (a : ℕ) → mayStore w a ≡ (mayStore child a || mayStore rest a)
-  cut-covers a = go (decLt a e)
+module _ (w : Window) (e : ℕ) (low : w .mark ≤ e) (high : e ≤ w .ceiling) (f : Fits w) where
+  pub child-fits : Fits (childOf w e)
+  child-fits = go (span-of w)
     where
-      go : Dec (a < e) → mayStore w a ≡ (mayStore child a || mayStore rest a)
-      go (yes h) = rw (child-below a h, rest-below a h, or-false)
-      go (no h) = rw (child-above a (omega arith), rest-above a (omega arith))
+      go : {x y : ℕ} → Span w x y → Fits (record { lo = w .mark; mark = w .mark; ceiling = e; hi = e; from = x; to = y })
+      go (shared h) = record {
+        memory = omega (arith, f .memory, f .behind);
+        behind = omega arith;
+        before = low;
+        below = omega arith;
+        above = high;
+        span = f .below;
+        within = omega (arith, f .above, f .span, f .within);
+      }
+      go (handed-on h) = record {
+        memory = omega (arith, f .memory, f .behind);
+        behind = omega arith;
+        before = low;
+        below = omega arith;
+        above = omega (arith, f .below, f .above);
+        span = f .span;
+        within = f .within;
+      }
 
-  -- and no address is held by both
-  pub cut-apart : (a : ℕ) → (mayStore child a && mayStore rest a) ≡ false
-  cut-apart a = go (decLt a e)
-    where
-      go : Dec (a < e) → (mayStore child a && mayStore rest a) ≡ false
-      go (yes h) = rw (rest-below a h, and-false)
-      go (no h) = rw (child-above a (omega arith))
-
-  -- a join of the rest is a join of the whole
-  pub rejoined-rest : rejoined rest ≡ rejoined w
-  rejoined-rest = rw (cutting .is-rest)
-
--- a window whose mark is its lo comes back from a cut and a join as it was
-pub rejoined-fresh : (w : Window) → w .mark ≡ w .lo → rejoined w ≡ w
-rejoined-fresh w e = λ ι. record { lo = w .lo; mark = sym e ι; hi = w .hi }
+  pub rest-fits : Fits (restOf w e)
+  rest-fits = record {
+    memory = f .memory;
+    behind = omega (arith, f .behind);
+    before = high;
+    below = f .below;
+    above = f .above;
+    span = f .span;
+    within = f .within;
+  }

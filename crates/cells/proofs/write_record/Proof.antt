@@ -31,7 +31,7 @@ bit-requires : tie.Need-bit-requires
 bit-requires c κs = search needs
 
 slice-write-cells-4 : tie.Need-slice-write-cells-4
-slice-write-cells-4 c = search needs
+slice-write-cells-4 c = simp length-set (omega arith)
 
 slice-write-cells-5 : tie.Need-slice-write-cells-5
 slice-write-cells-5 c = simp length-set (omega arith)

@@ -41,8 +41,44 @@ high-requires-3 c κs = search needs
 slice-write-cells-6 : tie.Need-slice-write-cells-6
 slice-write-cells-6 c = simp length-set (omega arith)
 
+low-requires-4 : tie.Need-low-requires-4
+low-requires-4 c κs = search needs
+
+slice-write-cells-7 : tie.Need-slice-write-cells-7
+slice-write-cells-7 c = simp length-set (omega arith)
+
+high-requires-4 : tie.Need-high-requires-4
+high-requires-4 c κs = search needs
+
+slice-write-cells-8 : tie.Need-slice-write-cells-8
+slice-write-cells-8 c = simp length-set (omega arith)
+
+low-requires-5 : tie.Need-low-requires-5
+low-requires-5 c κs = search needs
+
+slice-write-cells-9 : tie.Need-slice-write-cells-9
+slice-write-cells-9 c = simp length-set (omega arith)
+
+high-requires-5 : tie.Need-high-requires-5
+high-requires-5 c κs = search needs
+
+slice-write-cells-10 : tie.Need-slice-write-cells-10
+slice-write-cells-10 c = simp length-set (omega arith)
+
+low-requires-6 : tie.Need-low-requires-6
+low-requires-6 c κs = search needs
+
+slice-write-cells-11 : tie.Need-slice-write-cells-11
+slice-write-cells-11 c = simp length-set (omega arith)
+
+high-requires-6 : tie.Need-high-requires-6
+high-requires-6 c κs = search needs
+
+slice-write-cells-12 : tie.Need-slice-write-cells-12
+slice-write-cells-12 c = simp length-set (omega arith)
+
 same-length : tie.Need-same-length
-same-length c = search needs
+same-length c = simp length-set (omega arith)
 
 returns : tie.Need-returns
 returns c = (cc, simp length-set (omega arith))
@@ -63,5 +99,17 @@ write-window-spec =
     slice-write-cells-5
     high-requires-3
     slice-write-cells-6
+    low-requires-4
+    slice-write-cells-7
+    high-requires-4
+    slice-write-cells-8
+    low-requires-5
+    slice-write-cells-9
+    high-requires-5
+    slice-write-cells-10
+    low-requires-6
+    slice-write-cells-11
+    high-requires-6
+    slice-write-cells-12
     same-length
     returns)

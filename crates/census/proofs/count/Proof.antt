@@ -10,10 +10,10 @@ use Rattle.census.proofs.count.Statement.{statement}
 use Rattle.census.proofs.count.Tie as tie
 
 abbrev Inv-loop : tie.InvT-loop
-Inv-loop records many free₀ others₀ t₀ free others t = (t ≤ length records / 18) × Sofar records t free others
+Inv-loop records many free₀ others₀ t₀ free others t = (t ≤ length records / 24) × Sofar records t free others
 
 abbrev μ-loop : tie.MeasureT-loop
-μ-loop records many free₀ others₀ t₀ free others t = length records / 18 - t
+μ-loop records many free₀ others₀ t₀ free others t = length records / 24 - t
 
 loop-holds : tie.Need-loop-holds Inv-loop μ-loop
 loop-holds c = (omega arith, none _)
@@ -71,7 +71,7 @@ loop-again : tie.Need-loop-again Inv-loop μ-loop
 loop-again c =
     let loop' = c .before .before .before .before .before .loop in
     let bytes = c .before .before .before .before .before .before .before .args .records .now in
-    let read = c .before .before .read-record .ensures .0 (part-long bytes (18 * loop' .t) (omega arith)) in
+    let read = c .before .before .read-record .ensures .0 (part-long bytes (24 * loop' .t) (omega arith)) in
     let state = c .before .state-of .ensures .0 in (
       omega arith,
       ⊎-elim (λ w. rw (w .1, w .2) (one-free _ _ _ _ (loop' .inv .1) _ refl _ read _ state (w .0 .taken)))

@@ -104,6 +104,12 @@ enum-known-command-10 c = search needs
 first-bytes-requires-13 : tie.Need-first-bytes-requires-13
 first-bytes-requires-13 c κs = search needs
 
+enum-known-command-11 : tie.Need-enum-known-command-11
+enum-known-command-11 c = search needs
+
+first-bytes-requires-14 : tie.Need-first-bytes-requires-14
+first-bytes-requires-14 c κs = search needs
+
 returns : tie.Need-returns
 unfolding bytesOfCommand
 returns c = encodes (0 ∷ []) (c .before .before .before .before .command .given .1) (c .first-bytes .ensures .0) (rw (c .before .before .low-of .ensures, c .before .high-of .ensures) at (c .first-bytes .ensures .1)) refl (omega arith)
@@ -156,6 +162,10 @@ returns-13 : tie.Need-returns-13
 unfolding bytesOfCommand
 returns-13 c = encodes (0 ∷ 0 ∷ 0 ∷ []) (c .before .before .command10 .given .1) (c .first-bytes13 .ensures .0) (c .first-bytes13 .ensures .1) refl tt
 
+returns-14 : tie.Need-returns-14
+unfolding bytesOfCommand
+returns-14 c = encodes (0 ∷ 0 ∷ 0 ∷ []) (c .before .before .command11 .given .1) (c .first-bytes14 .ensures .0) (c .first-bytes14 .ensures .1) refl tt
+
 pub encode-spec : {M : Type 1} → statement M
 encode-spec =
     tie.close
@@ -192,6 +202,8 @@ encode-spec =
     first-bytes-requires-12
     enum-known-command-10
     first-bytes-requires-13
+    enum-known-command-11
+    first-bytes-requires-14
     returns
     returns-2
     returns-3
@@ -204,4 +216,5 @@ encode-spec =
     returns-10
     returns-11
     returns-12
-    returns-13)
+    returns-13
+    returns-14)

@@ -79,6 +79,15 @@ slot-requires-3 c κs = search needs
 give-back-requires : tie.Need-give-back-requires
 give-back-requires c κs = search needs
 
+enum-known-command-11 : tie.Need-enum-known-command-11
+enum-known-command-11 c = search needs
+
+slot-requires-4 : tie.Need-slot-requires-4
+slot-requires-4 c κs = search needs
+
+share-requires : tie.Need-share-requires
+share-requires c κs = search needs
+
 returns : tie.Need-returns
 unfolding effectOf
 returns c = rw (c .before .before .command .given .1) (c .set .ensures)
@@ -137,6 +146,12 @@ returns-13 c =
     rw (c .before .before .before .command10 .given .1)
     (rw (c .before .slot3 .ensures) at (c .give-back .ensures))
 
+returns-14 : tie.Need-returns-14
+unfolding effectOf
+returns-14 c =
+    rw (c .before .before .before .command11 .given .1)
+    (rw (c .before .slot4 .ensures) at (c .share .ensures))
+
 pub effect-spec : {M : Type 1} → statement M
 effect-spec =
     tie.close
@@ -166,6 +181,9 @@ effect-spec =
     enum-known-command-10
     slot-requires-3
     give-back-requires
+    enum-known-command-11
+    slot-requires-4
+    share-requires
     returns
     returns-2
     returns-3
@@ -178,4 +196,5 @@ effect-spec =
     returns-10
     returns-11
     returns-12
-    returns-13)
+    returns-13
+    returns-14)

@@ -39,6 +39,7 @@ use Rattle.serial.proofs.place.Place.first.Reads as first-reads
 use Rattle.serial.proofs.place.Place.forked.Reads as forked-reads
 use Rattle.serial.proofs.place.Place.joined.Reads as joined-reads
 use Rattle.serial.proofs.place.Place.moved.Reads as moved-reads
+use Rattle.serial.proofs.place.Place.shared.Reads as shared-reads
 use Rattle.serial.proofs.row.run_row.Reads as run-row-reads
 use Rattle.serial.proofs.+carry_fork+run_routine+run_turn.{statement}
 use Rattle.serial.proofs.+carry_fork+run_routine+run_turn.Tie.{close}
@@ -116,6 +117,8 @@ run-routine-calls t = (
   joined-reads.Learnt,
   forked-reads.Asked,
   forked-reads.Learnt,
+  shared-reads.Asked,
+  shared-reads.Learnt,
 )
 
 abbrev Inv : lts.InvT-loop
@@ -362,6 +365,15 @@ module _ (t : ℕ) where
   run-turn-returns-4 : turn.Need-returns-4 (run-turn-calls t) (run-turn-at t) run-turn.Post
   run-turn-returns-4 c x = ran (c .before .before .before .before .before) (c .before .row4 .given .1) x
 
+  run-turn-enum-known-row-5 : turn.Need-enum-known-row-5 (run-turn-calls t) (run-turn-at t) run-turn.Post
+  run-turn-enum-known-row-5 c = search needs
+
+  run-turn-same-length-5 : turn.Need-same-length-5 (run-turn-calls t) (run-turn-at t) run-turn.Post
+  run-turn-same-length-5 c = c .before .before .before .before .before .run-row .kept .1 .1 .1 .1 .1 .1 .0
+
+  run-turn-returns-5 : turn.Need-returns-5 (run-turn-calls t) (run-turn-at t) run-turn.Post
+  run-turn-returns-5 c x = ran (c .before .before .before .before .before) (c .before .row5 .given .1) x
+
   -- the routine's loop: where the routine starts, the loop's head, a turn over
   abbrev Start : Type 0
   Start = lts.Start (run-routine-calls t) (run-routine-at t) run-routine.Post Inv μ
@@ -493,6 +505,22 @@ module _ (t : ℕ) where
       let told = over o (c .before .turn4 .given .1) y in
       record { less = omega (arith, head o .loop .inv .1 y .0, told .0); is = told .1 }
 
+  run-routine-enum-known-turn-5 : lts.Need-enum-known-turn-5 (run-routine-calls t) (run-routine-at t) run-routine.Post Inv μ
+  run-routine-enum-known-turn-5 c = search needs
+
+  run-routine-shared-requires : lts.Need-shared-requires (run-routine-calls t) (run-routine-at t) run-routine.Post Inv μ
+  run-routine-shared-requires c κs = search needs
+
+  run-routine-loop-less-3 : lts.Need-loop-less-3 (run-routine-calls t) (run-routine-at t) run-routine.Post Inv μ
+  run-routine-loop-less-3 c =
+      let o = c .before .before .before .before .before .before in
+      omega (arith, ap (λ (p : Place). p .left) (c .shared .ensures), over o (c .before .before .turn5 .given .1) (one (head o)) .0)
+
+  run-routine-loop-again-3 : lts.Need-loop-again-3 (run-routine-calls t) (run-routine-at t) run-routine.Post Inv μ
+  run-routine-loop-again-3 c =
+      let o = c .before .before .before .before .before .before in
+      (ap (λ (p : Place). p .routine) (c .shared .ensures) ∙ head o .loop .inv .0, λ x. let told = over o (c .before .before .turn5 .given .1) x in far-next (c .shared .ensures) (omega (arith, head o .loop .inv .1 x .0, told .0)) (told .1))
+
 pub +carry-fork+run-routine+run-turn-spec : {M : Type 1} → statement M
 +carry-fork+run-routine+run-turn-spec =
     close μ-carry-fork μ-run-routine μ-run-turn
@@ -541,7 +569,11 @@ pub +carry-fork+run-routine+run-turn-spec : {M : Type 1} → statement M
     (run-routine-returns t)
     (run-routine-enum-known-turn-4 t)
     (run-routine-same-length-2 t)
-    (run-routine-returns-2 t))
+    (run-routine-returns-2 t)
+    (run-routine-enum-known-turn-5 t)
+    (run-routine-shared-requires t)
+    (run-routine-loop-less-3 t)
+    (run-routine-loop-again-3 t))
     λ t. turn.spec (run-turn-calls t) (run-turn-at t) run-turn.Post
     (run-turn-run-row-requires t)
     (run-turn-enum-known-row t)
@@ -558,3 +590,6 @@ pub +carry-fork+run-routine+run-turn-spec : {M : Type 1} → statement M
     (run-turn-enum-known-row-4 t)
     (run-turn-same-length-4 t)
     (run-turn-returns-4 t)
+    (run-turn-enum-known-row-5 t)
+    (run-turn-same-length-5 t)
+    (run-turn-returns-5 t)

@@ -71,11 +71,19 @@ return-value-requires c κs =
 enum-known-done-4 : tie.Need-enum-known-done-4
 enum-known-done-4 c = search needs
 
-fail-requires : tie.Need-fail-requires
-fail-requires c κs = search needs
+wrapping-add-u16-requires-3 : tie.Need-wrapping-add-u16-requires-3
+wrapping-add-u16-requires-3 c κs = search needs
+
+share-requires : tie.Need-share-requires
+share-requires c κs =
+    let pre' = c .before .before .before .before .before .before .before .before .before .before .pre in
+    (c .before .before .before .before .before .before .before .before .before .before .args .c, rw (c .before .before .before .done4 .given .1) at pre')
 
 enum-known-done-5 : tie.Need-enum-known-done-5
 enum-known-done-5 c = search needs
+
+fail-requires : tie.Need-fail-requires
+fail-requires c κs = search needs
 
 enum-known-done-6 : tie.Need-enum-known-done-6
 enum-known-done-6 c = search needs
@@ -85,6 +93,9 @@ enum-known-done-7 c = search needs
 
 enum-known-done-8 : tie.Need-enum-known-done-8
 enum-known-done-8 c = search needs
+
+enum-known-done-9 : tie.Need-enum-known-done-9
+enum-known-done-9 c = search needs
 
 enum-told-4 : tie.Need-enum-told-4
 enum-told-4 c = search needs
@@ -125,7 +136,7 @@ returns-3 c =
     let args' = c .before .before .before .before .before .before .before .before .before .before .before .args in
     let pre' = c .before .before .before .before .before .before .before .before .before .before .before .pre in
     let need = rw (enum-told' .given .1) at pre' in
-    λ starts parameters memory allowance. rw (enum-told' .given .1, ← c .before .before .before .before .before .before .wrapping-add-u162 .ensures) (ap accepted (c .before .before .pass-join .ensures (args' .c) (args' .place) .means (need .sized) (args' .words .now) memory))
+    λ starts parameters memory allowance. rw (enum-told' .given .1, ← c .before .before .before .before .before .before .wrapping-add-u162 .ensures, c .before .before .pass-join .ensures .0) (ap accepted (c .before .before .pass-join .ensures .1 (args' .c) (args' .place) .means (need .sized) (args' .words .now) memory))
 
 same-length-6 : tie.Need-same-length-6
 same-length-6 c = search needs
@@ -175,13 +186,22 @@ same-length-10 c = search needs
 returns-7 : tie.Need-returns-7
 unfolding carriedOf
 returns-7 c =
-    let done4' = c .before .before .before .before .before .done4 in
-    let args' = c .before .before .before .before .before .before .before .before .before .before .before .before .args in
-    let pre' = c .before .before .before .before .before .before .before .before .before .before .before .before .pre in
-    λ starts parameters memory allowance. rw (done4' .given .1) (ap (λ (s : State). record { state = s; log = done4' .given .0 .0 }) (c .before .before .fail .ensures .means (rw (done4' .given .1) at pre') (args' .words .now) memory))
+    let done4' = c .before .before .before .before .before .before .done4 in
+    let args' = c .before .before .before .before .before .before .before .before .before .before .before .before .before .args in
+    let pre' = c .before .before .before .before .before .before .before .before .before .before .before .before .before .pre in
+    let need = rw (done4' .given .1) at pre' in
+    λ starts parameters memory allowance. rw (done4' .given .1, ← c .before .before .before .wrapping-add-u163 .ensures, c .before .before .share .ensures .0) (ap accepted (c .before .before .share .ensures .1 (args' .c) (args' .place) .means (need .seated .sized) (args' .words .now) memory))
+
+same-length-11 : tie.Need-same-length-11
+same-length-11 c = search needs
 
 returns-8 : tie.Need-returns-8
-returns-8 c = absurd (rw (c .before .done5 .given .1) at (c .before .before .before .before .before .before .before .before .pre))
+unfolding carriedOf
+returns-8 c =
+    let done5' = c .before .before .before .before .before .done5 in
+    let args' = c .before .before .before .before .before .before .before .before .before .before .before .before .args in
+    let pre' = c .before .before .before .before .before .before .before .before .before .before .before .before .pre in
+    λ starts parameters memory allowance. rw (done5' .given .1) (ap (λ (s : State). record { state = s; log = done5' .given .0 .0 }) (c .before .before .fail .ensures .means (rw (done5' .given .1) at pre') (args' .words .now) memory))
 
 returns-9 : tie.Need-returns-9
 returns-9 c = absurd (rw (c .before .done6 .given .1) at (c .before .before .before .before .before .before .before .before .pre))
@@ -193,7 +213,10 @@ returns-11 : tie.Need-returns-11
 returns-11 c = absurd (rw (c .before .done8 .given .1) at (c .before .before .before .before .before .before .before .before .pre))
 
 returns-12 : tie.Need-returns-12
-returns-12 c = absurd (rw (c .enum-told4 .given .1) at (c .before .before .before .before .before .before .before .pre))
+returns-12 c = absurd (rw (c .before .done9 .given .1) at (c .before .before .before .before .before .before .before .before .pre))
+
+returns-13 : tie.Need-returns-13
+returns-13 c = absurd (rw (c .enum-told4 .given .1) at (c .before .before .before .before .before .before .before .pre))
 
 pub carry-other-spec : {M : Type 1} → statement M
 carry-other-spec =
@@ -217,11 +240,14 @@ carry-other-spec =
     enum-known-done-3
     return-value-requires
     enum-known-done-4
-    fail-requires
+    wrapping-add-u16-requires-3
+    share-requires
     enum-known-done-5
+    fail-requires
     enum-known-done-6
     enum-known-done-7
     enum-known-done-8
+    enum-known-done-9
     enum-told-4
     same-length
     same-length-2
@@ -240,8 +266,10 @@ carry-other-spec =
     returns-6
     same-length-10
     returns-7
+    same-length-11
     returns-8
     returns-9
     returns-10
     returns-11
-    returns-12)
+    returns-12
+    returns-13)

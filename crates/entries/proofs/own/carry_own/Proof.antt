@@ -70,6 +70,9 @@ enum-told-4 c = search needs
 enum-known-done-8 : tie.Need-enum-known-done-8
 enum-known-done-8 c = search needs
 
+enum-known-done-9 : tie.Need-enum-known-done-9
+enum-known-done-9 c = search needs
+
 same-length : tie.Need-same-length
 same-length c = search needs
 
@@ -123,6 +126,9 @@ returns-11 c = (refl, refl, rw (c .enum-told4 .given .1) tt)
 returns-12 : tie.Need-returns-12
 returns-12 c = (refl, refl, rw (c .before .done8 .given .1) tt)
 
+returns-13 : tie.Need-returns-13
+returns-13 c = (refl, refl, rw (c .before .done9 .given .1) tt)
+
 pub carry-own-spec : {M : Type 1} → statement M
 carry-own-spec =
     tie.close
@@ -149,6 +155,7 @@ carry-own-spec =
     enum-told-3
     enum-told-4
     enum-known-done-8
+    enum-known-done-9
     same-length
     returns
     same-length-2
@@ -164,4 +171,5 @@ carry-own-spec =
     returns-9
     returns-10
     returns-11
-    returns-12)
+    returns-12
+    returns-13)

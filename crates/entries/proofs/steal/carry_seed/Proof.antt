@@ -49,6 +49,9 @@ enum-told-4 c = search needs
 enum-known-seed-8 : tie.Need-enum-known-seed-8
 enum-known-seed-8 c = search needs
 
+enum-known-seed-9 : tie.Need-enum-known-seed-9
+enum-known-seed-9 c = search needs
+
 same-length : tie.Need-same-length
 same-length c = search needs
 
@@ -109,6 +112,10 @@ returns-12 : tie.Need-returns-12
 returns-12 c =
     absurd (rw (c .before .seed8 .given .1) at (c .before .before .before .before .before .before .pre))
 
+returns-13 : tie.Need-returns-13
+returns-13 c =
+    absurd (rw (c .before .seed9 .given .1) at (c .before .before .before .before .before .before .pre))
+
 pub carry-seed-spec : {M : Type 1} → statement M
 carry-seed-spec =
     tie.close
@@ -127,6 +134,7 @@ carry-seed-spec =
     enum-told-3
     enum-told-4
     enum-known-seed-8
+    enum-known-seed-9
     same-length
     same-length-2
     returns
@@ -141,4 +149,5 @@ carry-seed-spec =
     returns-9
     returns-10
     returns-11
-    returns-12)
+    returns-12
+    returns-13)

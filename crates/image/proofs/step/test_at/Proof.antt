@@ -41,6 +41,9 @@ fork-at-requires-2 c κs = search needs
 slot-at-requires-3 : tie.Need-slot-at-requires-3
 slot-at-requires-3 c κs = search needs
 
+slot-at-requires-4 : tie.Need-slot-at-requires-4
+slot-at-requires-4 c κs = search needs
+
 returns : tie.Need-returns
 unfolding decoded inRange
 returns c = c .slot-at .ensures ∙ known _ _ _ (c .before .before .before .before .before .pre) 1 3 (c .before .match .keys1) refl
@@ -94,7 +97,11 @@ unfolding decoded inRange
 returns-13 c = c .slot-at3 .ensures ∙ known _ _ _ (c .before .before .before .before .before .pre) 13 1 (c .before .match .keys13) refl
 
 returns-14 : tie.Need-returns-14
-returns-14 c = unknown _ _ _ (c .before .before .before .before .pre) (no-width _ (c .match .rest))
+unfolding decoded inRange
+returns-14 c = c .slot-at4 .ensures ∙ known _ _ _ (c .before .before .before .before .before .pre) 14 1 (c .before .match .keys14) refl
+
+returns-15 : tie.Need-returns-15
+returns-15 c = unknown _ _ _ (c .before .before .before .before .pre) (no-width _ (c .match .rest))
 
 pub test-at-spec : {M : Type 1} → statement M
 test-at-spec =
@@ -111,6 +118,7 @@ test-at-spec =
     fork-at-requires
     fork-at-requires-2
     slot-at-requires-3
+    slot-at-requires-4
     returns
     returns-2
     returns-3
@@ -124,4 +132,5 @@ test-at-spec =
     returns-11
     returns-12
     returns-13
-    returns-14)
+    returns-14
+    returns-15)

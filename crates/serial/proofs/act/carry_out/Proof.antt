@@ -12,8 +12,8 @@ enum-known-effect c = search needs
 put-requires : tie.Need-put-requires
 put-requires c κs = rw (c .before .before .effect .given .1) at (c .before .before .before .before .before .before .pre .2)
 
-add-t27 : tie.Need-add-t27
-add-t27 c = omega (arith, rw (c .before .before .before .effect .given .1) at (c .before .before .before .before .before .before .before .pre .3))
+add-t28 : tie.Need-add-t28
+add-t28 c = omega (arith, rw (c .before .before .before .effect .given .1) at (c .before .before .before .before .before .before .before .pre .3))
 
 enum-known-effect-2 : tie.Need-enum-known-effect-2
 enum-known-effect-2 c = search needs
@@ -24,8 +24,8 @@ word-at-requires c κs = (c .before .before .before .before .before .before .bef
 put-requires-2 : tie.Need-put-requires-2
 put-requires-2 c κs = (rw (c .before .before .before .before .effect2 .given .1) at (c .before .before .before .before .before .before .before .before .pre .2)) .0
 
-add-t33 : tie.Need-add-t33
-add-t33 c = omega (arith, rw (c .before .before .before .before .before .effect2 .given .1) at (c .before .before .before .before .before .before .before .before .before .pre .3))
+add-t34 : tie.Need-add-t34
+add-t34 c = omega (arith, rw (c .before .before .before .before .before .effect2 .given .1) at (c .before .before .before .before .before .before .before .before .before .pre .3))
 
 enum-known-effect-3 : tie.Need-enum-known-effect-3
 enum-known-effect-3 c = search needs
@@ -42,8 +42,8 @@ mul-memory c = search needs
 slice-write-memory : tie.Need-slice-write-memory
 slice-write-memory c = let h = rw (c .before .effect3 .given .1) at (c .before .before .before .before .before .pre .2) in omega (arith, c .before .before .before .before .before .pre .1)
 
-add-t36 : tie.Need-add-t36
-add-t36 c = omega (arith, rw (c .before .effect3 .given .1) at (c .before .before .before .before .before .pre .3))
+add-t37 : tie.Need-add-t37
+add-t37 c = omega (arith, rw (c .before .effect3 .given .1) at (c .before .before .before .before .before .pre .3))
 
 enum-known-effect-4 : tie.Need-enum-known-effect-4
 enum-known-effect-4 c = search needs
@@ -51,8 +51,8 @@ enum-known-effect-4 c = search needs
 enum-told : tie.Need-enum-told
 enum-told c = search needs
 
-add-t37 : tie.Need-add-t37
-add-t37 c = omega (arith, rw (c .enum-told .given .1) at (c .before .before .before .before .pre .3))
+add-t38 : tie.Need-add-t38
+add-t38 c = omega (arith, rw (c .enum-told .given .1) at (c .before .before .before .before .pre .3))
 
 enum-known-effect-5 : tie.Need-enum-known-effect-5
 enum-known-effect-5 c = search needs
@@ -66,20 +66,23 @@ enum-told-2 c = search needs
 enum-told-3 : tie.Need-enum-told-3
 enum-told-3 c = search needs
 
-add-t38 : tie.Need-add-t38
-add-t38 c = omega (arith, rw (c .enum-told3 .given .1) at (c .before .before .before .before .pre .3))
+add-t39 : tie.Need-add-t39
+add-t39 c = omega (arith, rw (c .enum-told3 .given .1) at (c .before .before .before .before .pre .3))
 
 enum-told-4 : tie.Need-enum-told-4
 enum-told-4 c = search needs
 
-add-t39 : tie.Need-add-t39
-add-t39 c = omega (arith, rw (c .enum-told4 .given .1) at (c .before .before .before .before .pre .3))
+add-t40 : tie.Need-add-t40
+add-t40 c = omega (arith, rw (c .enum-told4 .given .1) at (c .before .before .before .before .pre .3))
 
 enum-known-effect-7 : tie.Need-enum-known-effect-7
 enum-known-effect-7 c = search needs
 
 enum-known-effect-8 : tie.Need-enum-known-effect-8
 enum-known-effect-8 c = search needs
+
+enum-known-effect-9 : tie.Need-enum-known-effect-9
+enum-known-effect-9 c = search needs
 
 returns : tie.Need-returns
 unfolding slotsAfter memoryAfter askedOf
@@ -135,35 +138,40 @@ returns-12 : tie.Need-returns-12
 unfolding slotsAfter memoryAfter askedOf
 returns-12 c = rw (c .before .effect8 .given .1) (refl, refl, refl)
 
+returns-13 : tie.Need-returns-13
+unfolding slotsAfter memoryAfter askedOf
+returns-13 c = rw (c .before .effect9 .given .1) (refl, refl, refl)
+
 pub carry-out-spec : {M : Type 1} → statement M
 carry-out-spec =
     tie.close
     (tie.spec
     enum-known-effect
     put-requires
-    add-t27
+    add-t28
     enum-known-effect-2
     word-at-requires
     put-requires-2
-    add-t33
+    add-t34
     enum-known-effect-3
     cast-k
     sub-k
     mul-memory
     slice-write-memory
-    add-t36
+    add-t37
     enum-known-effect-4
     enum-told
-    add-t37
+    add-t38
     enum-known-effect-5
     enum-known-effect-6
     enum-told-2
     enum-told-3
-    add-t38
-    enum-told-4
     add-t39
+    enum-told-4
+    add-t40
     enum-known-effect-7
     enum-known-effect-8
+    enum-known-effect-9
     returns
     same-length
     returns-2
@@ -177,4 +185,5 @@ carry-out-spec =
     returns-9
     returns-10
     returns-11
-    returns-12)
+    returns-12
+    returns-13)

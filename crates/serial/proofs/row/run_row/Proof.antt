@@ -6,12 +6,13 @@ use native.Mathlib.Omega.{arith}
 use borrow.Author.Needs.{needs}
 use lib.ListN.{length}
 use Rattle.command.proofs.command_of.Reads as command-of-reads
+use Rattle.window.proofs.Window.share.Reads as share-reads
 use Rattle.thread.specs.Job.{Job, jobOf}
 use Rattle.effects.proofs.effect.Reads as effect-reads
 use Rattle.serial.specs.declared.Routine.{Routine}
 use Rattle.serial.specs.Serial.{weightAt}
 use Rattle.serial.specs.Steps.{openAt, Far, RowReady}
-use Rattle.serial.proofs.Loop.{Met, Acted, place-met, byte-met, cost-met, effect-met, some-cost, unpaid, reach, same-length, goes-again, join-fits, joins-on, stops-run, returns-run, at-fork}
+use Rattle.serial.proofs.Loop.{Met, Acted, place-met, byte-met, cost-met, effect-met, some-cost, unpaid, reach, same-length, goes-again, join-fits, joins-on, stops-run, returns-run, share-fits, share-good, shares-on, at-fork}
 use Rattle.serial.proofs.act.carry_out.Reads as carry-out-reads
 use Rattle.serial.proofs.act.cost_of.Reads as cost-of-reads
 use Rattle.serial.proofs.padded.five_of.Reads as five-of-reads
@@ -40,6 +41,8 @@ calls = (
   effect-reads.Learnt,
   carry-out-reads.Asked,
   carry-out-reads.Learnt,
+  share-reads.Asked,
+  share-reads.Learnt,
 )
 
 -- the places of the loop: where the row starts, the loop's head, a command's weight read, its effect to be carried out, and carried out
@@ -165,8 +168,8 @@ loop-again c x =
 enum-told : tie.Need-enum-told Inv-loop μ-loop
 enum-told c = search needs
 
-add-t34 : tie.Need-add-t34 Inv-loop μ-loop
-add-t34 c =
+add-t36 : tie.Need-add-t36 Inv-loop μ-loop
+add-t36 c =
     let d = c .before .before .before .before in
     omega (arith, join-fits (acted d (one (at d))) (c .enum-told .given .1))
 
@@ -216,6 +219,41 @@ returns-5 c x =
     let d = c .before .before .before .before .before in
     (omega (arith, at d .loop .inv x .0), returns-run (acted d x) (c .before .ask4 .given .1))
 
+-- a share
+enum-known-ask-5 : tie.Need-enum-known-ask-5 Inv-loop μ-loop
+enum-known-ask-5 c = search needs
+
+share-requires : tie.Need-share-requires Inv-loop μ-loop
+share-requires c κs = search needs
+
+enum-known-window : tie.Need-enum-known-window Inv-loop μ-loop
+enum-known-window c = search needs
+
+enum-told-2 : tie.Need-enum-told-2 Inv-loop μ-loop
+enum-told-2 c = search needs
+
+-- not met: the effect is a share only where s is in range
+same-length-6 : tie.Need-same-length-6 Inv-loop μ-loop
+same-length-6 c = length-kept (c .before .before .before .before .before .before .before .before)
+
+returns-6 : tie.Need-returns-6 Inv-loop μ-loop
+returns-6 c x = absurd (share-good (acted (c .before .before .before .before .before .before .before .before) x) (c .before .before .before .before .ask5 .given .1) (sym (c .before .before .share .ensures .is) ∙ c .enum-told2 .given .1))
+
+add-t40 : tie.Need-add-t40 Inv-loop μ-loop
+add-t40 c =
+    let d = c .before .before .before .before .before .before .before .before .before in
+    omega (arith, share-fits (acted d (one (at d))) (c .before .before .before .before .before .ask5 .given .1))
+
+same-length-7 : tie.Need-same-length-7 Inv-loop μ-loop
+same-length-7 c = length-kept (c .before .before .before .before .before .before .before .before .before)
+
+returns-7 : tie.Need-returns-7 Inv-loop μ-loop
+returns-7 c x =
+    let d = c .before .before .before .before .before .before .before .before .before in
+    let m = met (d .before) x in
+    let on = shares-on (acted d x) (c .before .before .before .before .before .ask5 .given .1) (c .before .before .before .share .ensures .is) (c .before .window .given .1) in
+    (omega (arith, at d .loop .inv x .0, some-cost (m .far) (m .weight), m .paid), on)
+
 pub run-row-spec : {M : Type 1} → statement M
 run-row-spec =
     tie.close
@@ -235,7 +273,7 @@ run-row-spec =
     loop-less
     loop-again
     enum-told
-    add-t34
+    add-t36
     same-length-2
     returns-2
     enum-known-ask-2
@@ -246,4 +284,13 @@ run-row-spec =
     returns-4
     enum-known-ask-4
     same-length-5
-    returns-5)
+    returns-5
+    enum-known-ask-5
+    share-requires
+    enum-known-window
+    enum-told-2
+    same-length-6
+    returns-6
+    add-t40
+    same-length-7
+    returns-7)

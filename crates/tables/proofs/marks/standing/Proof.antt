@@ -48,7 +48,7 @@ returns-4 : tie.Need-returns-4
 unfolding meaning
 returns-4 c =
     let args' = c .before .before .before .before .before .before .before .before .before .args in
-    read (args' .tables .now) (λ s. s .outcome) going _ (c .before .before .before .before .before .before .before .if1 .left) (λ words memory. ap (λ (o : ℕ). faulted (getD (args' .tables .now) 586 0) (getD (args' .tables .now) 587 0) o) (c .two-at .ensures) ∙ sym (standing-is (args' .tables .now) .2 (c .before .before .before .before .before .if2 .left) (c .before .before .before .if3 .left)))
+    read (args' .tables .now) (λ s. s .outcome) going _ (c .before .before .before .before .before .before .before .if1 .left) (λ words memory. ap (λ (o : ℕ). faulted (getD (args' .tables .now) 778 0) (getD (args' .tables .now) 779 0) o) (c .two-at .ensures) ∙ sym (standing-is (args' .tables .now) .2 (c .before .before .before .before .before .if2 .left) (c .before .before .before .if3 .left)))
 
 pub standing-spec : {M : Type 1} → statement M
 standing-spec =

@@ -25,7 +25,14 @@ cast-end c = search needs
 
 returns-3 : tie.Need-returns-3
 unfolding cutAt
-returns-3 c = cut-as _ _ _ (simp (le-leb _ _ (c .before .before .if1 .left), le-leb _ _ (c .if2 .left)))
+returns-3 c =
+    cut-as _ _ _ (simp (c .before .span-from .ensures, c .span-to .ensures, le-leb _ _ (c .before .before .before .before .if1 .left), le-leb _ _ (c .before .before .if2 .left)))
+
+span-from-requires : tie.Need-span-from-requires
+span-from-requires c κs = search needs
+
+span-to-requires : tie.Need-span-to-requires
+span-to-requires c κs = search needs
 
 pub cut-spec : {M : Type 1} → statement M
-cut-spec = tie.close (tie.spec cast-if1 returns cast-if2 returns-2 cast-end returns-3)
+cut-spec = tie.close (tie.spec cast-if1 returns cast-if2 returns-2 cast-end span-from-requires span-to-requires returns-3)
