@@ -59,7 +59,7 @@ pub const WITNESSES: [Witness; 7] = [
         definitions: &[("search", &["Search"]), ("rounds", &["Rounds"])],
         rows: &[("rounds", &["Rows"])],
     },
-    Witness { name: "serial", over: "serial", proof: "Cases", definitions: &[("serial", &["Serial"])], rows: &[("serial", &["Cases"])] },
+    Witness { name: "serial", over: "serial", proof: "Cases", definitions: &[("serial", &["Serial"])], rows: &[("serial", &["Cases", "SharesCases"])] },
     Witness {
         name: "lonecore",
         over: "lonecore",

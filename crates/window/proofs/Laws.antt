@@ -1,6 +1,6 @@
 -- Laws of windows: a child's part and the rest of a cut do not meet, what is shared is stored by neither, a join gives back the whole, and
 -- every window made from the root's lies within the memory words. Assumes nothing.
-use mathlib.Core.Bool.{Bool, true, false, cond, _&&_, _||_, and-false, or-true}
+use mathlib.Core.Bool.{Bool, true, false, cond, _&&_, _||_, or-true}
 use mathlib.Core.Logic.{_⊎_, inl, inr}
 use mathlib.Core.Path.{_≡_, refl, ap}
 use Prim.Native.Nat.{ℕ, _≤_, _<_}
@@ -29,10 +29,6 @@ seen x y a = go (decLe x a) (decLt a y)
 
 pub inside-from : (x y a : ℕ) → x ≤ a → a < y → isFrom x y a ≡ true
 inside-from x y a p q = rw (le-leb _ _ p, lt-ltb _ _ q)
-
-pub outside-from : (x y a : ℕ) → NotFrom x y a → isFrom x y a ≡ false
-outside-from x y a (inl p) = rw (lt-leb x a p)
-outside-from x y a (inr p) = rw (le-ltb a y p, and-false)
 
 -- a stored address lies from the mark up to the ceiling and is no parameter word, and conversely
 pub store-means : (w : Window) (a : ℕ) → mayStore w a ≡ true → (32 ≤ a) × (w .mark ≤ a) × (a < w .ceiling)
@@ -94,6 +90,20 @@ load-in-memory w a f h = go (load-means w a h)
     go (own p q) = omega (arith, f .above, f .span, f .within)
     go (given p q) = omega (arith, f .within)
 
+-- a cut, or what is to be shared, tested against the mark and the ceiling: seen with the reason
+pub data Range (w : Window) (e : ℕ) : Bool → Type 0 where
+  fitting : w .mark ≤ e → e ≤ w .ceiling → Range w e true
+  too-low : e < w .mark → Range w e false
+  too-high : w .ceiling < e → Range w e false
+
+pub range : (w : Window) (e : ℕ) → Range w e (leb (w .mark) e && leb e (w .ceiling))
+range w e = go (decLe (w .mark) e) (decLe e (w .ceiling))
+  where
+    go : Dec (w .mark ≤ e) → Dec (e ≤ w .ceiling) → Range w e (leb (w .mark) e && leb e (w .ceiling))
+    go (yes x) (yes y) = rw (le-leb _ _ x, le-leb _ _ y) (fitting x y)
+    go (no x) _ = rw (lt-leb (w .mark) e (omega arith)) (too-low (omega arith))
+    go (yes x) (no y) = rw (le-leb _ _ x, lt-leb e (w .ceiling) (omega arith)) (too-high (omega arith))
+
 -- what a cut that was made tells
 pub record Cutting (w : Window) (e : ℕ) (child rest : Window) : Type 0 where
   pub low : w .mark ≤ e
@@ -103,17 +113,12 @@ pub record Cutting (w : Window) (e : ℕ) (child rest : Window) : Type 0 where
 
 pub cut-means : (w : Window) (e : ℕ) (child rest : Window) → cutAt w e ≡ Parts child rest → Cutting w e child rest
 unfolding cutAt
-cut-means w e c r h = go (decLe (w .mark) e) (decLe e (w .ceiling)) h
+cut-means w e c r h = go (range w e) h
   where
-    refused : (x y : Bool) → x && y ≡ false → cond (x && y) (Parts (childOf w e) (restOf w e)) BadCut ≡ Parts c r → ⊥
-    refused x y f p = let q : BadCut ≡ Parts c r = rw f at p in let z : _≡_ {A = ℕ} 0 1 = cc in omega arith
-
-    go : Dec (w .mark ≤ e) → Dec (e ≤ w .ceiling) → cond (leb (w .mark) e && leb e (w .ceiling)) (Parts (childOf w e) (restOf w e)) BadCut ≡ Parts c r → Cutting w e c r
-    go (yes x) (yes y) p =
-        let q : Parts (childOf w e) (restOf w e) ≡ Parts c r = rw (le-leb _ _ x, le-leb _ _ y) at p in
-        record { low = x; high = y; is-child = cc; is-rest = cc }
-    go (no x) _ p = absurd (refused (leb (w .mark) e) (leb e (w .ceiling)) (rw (lt-leb (w .mark) e (omega arith))) p)
-    go (yes x) (no y) p = absurd (refused (leb (w .mark) e) (leb e (w .ceiling)) (rw (le-leb _ _ x, lt-leb e (w .ceiling) (omega arith))) p)
+    go : {b : Bool} → Range w e b → cond b (Parts (childOf w e) (restOf w e)) BadCut ≡ Parts c r → Cutting w e c r
+    go (fitting x y) p = record { low = x; high = y; is-child = cc; is-rest = cc }
+    go (too-low x) p = let z : _≡_ {A = ℕ} 0 1 = cc in absurd (omega arith)
+    go (too-high x) p = let z : _≡_ {A = ℕ} 0 1 = cc in absurd (omega arith)
 
 pub cut-made : (w : Window) (e : ℕ) → w .mark ≤ e → e ≤ w .ceiling → cutAt w e ≡ Parts (childOf w e) (restOf w e)
 unfolding cutAt
@@ -127,17 +132,12 @@ pub record Sharing (w : Window) (s : ℕ) (rest : Window) : Type 0 where
 
 pub share-means : (w : Window) (s : ℕ) (rest : Window) → shareAt w s ≡ Shared rest → Sharing w s rest
 unfolding shareAt
-share-means w s r h = go (decLe (w .mark) s) (decLe s (w .ceiling)) h
+share-means w s r h = go (range w s) h
   where
-    refused : (x y : Bool) → x && y ≡ false → cond (x && y) (Shared (sharingOf w s)) BadShare ≡ Shared r → ⊥
-    refused x y f p = let q : BadShare ≡ Shared r = rw f at p in let z : _≡_ {A = ℕ} 0 1 = cc in omega arith
-
-    go : Dec (w .mark ≤ s) → Dec (s ≤ w .ceiling) → cond (leb (w .mark) s && leb s (w .ceiling)) (Shared (sharingOf w s)) BadShare ≡ Shared r → Sharing w s r
-    go (yes x) (yes y) p =
-        let q : Shared (sharingOf w s) ≡ Shared r = rw (le-leb _ _ x, le-leb _ _ y) at p in
-        record { low = x; high = y; is-rest = cc }
-    go (no x) _ p = absurd (refused (leb (w .mark) s) (leb s (w .ceiling)) (rw (lt-leb (w .mark) s (omega arith))) p)
-    go (yes x) (no y) p = absurd (refused (leb (w .mark) s) (leb s (w .ceiling)) (rw (le-leb _ _ x, lt-leb s (w .ceiling) (omega arith))) p)
+    go : {b : Bool} → Range w s b → cond b (Shared (sharingOf w s)) BadShare ≡ Shared r → Sharing w s r
+    go (fitting x y) p = record { low = x; high = y; is-rest = cc }
+    go (too-low x) p = let z : _≡_ {A = ℕ} 0 1 = cc in absurd (omega arith)
+    go (too-high x) p = let z : _≡_ {A = ℕ} 0 1 = cc in absurd (omega arith)
 
 pub share-made : (w : Window) (s : ℕ) → w .mark ≤ s → s ≤ w .ceiling → shareAt w s ≡ Shared (sharingOf w s)
 unfolding shareAt

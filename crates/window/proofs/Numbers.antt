@@ -14,7 +14,7 @@ use Rattle.window.specs.declared.Share.{Share}
 use Rattle.window.specs.declared.Share.the-variants.{Shared, BadShare}
 use Rattle.window.specs.Rights.{isFrom, mayLoad, mayStore, cutAt, childOf, restOf, shareAt, sharingOf}
 use Rattle.window.specs.Numbers.{NotFrom, numberOfAccess, numberOfCut, numberOfShare, LoadAnswer, StoreAnswer, CutAnswer, ShareAnswer}
-use Rattle.window.proofs.Laws.{Seen, inside, outside, seen}
+use Rattle.window.proofs.Laws.{Seen, inside, outside, seen, Range, fitting, too-low, too-high, range}
 
 -- the number 0 is given where the test holds
 access-0 : (r : Bool) → (numberOfAccess r ≡ 0) ↔ (r ≡ true)
@@ -51,50 +51,36 @@ module _ (w : Window) (a : ℕ) where
   unfolding mayLoad
   loaded r is = record { is = is; number10 = rw is (load-10 (decLt a 32) (seen (w .mark) (w .hi) a) (seen (w .from) (w .to) a)); number0 = access-0 r }
 
--- a value tested against the mark and the ceiling, seen with the reason
-data Range (w : Window) (e : ℕ) : Bool → Type 0 where
-  fits : w .mark ≤ e → e ≤ w .ceiling → Range w e true
-  low : e < w .mark → Range w e false
-  high : w .ceiling < e → Range w e false
-
 module _ (w : Window) (e : ℕ) where
-  range : Range w e (leb (w .mark) e && leb e (w .ceiling))
-  range = go (decLe (w .mark) e) (decLe e (w .ceiling))
-    where
-      go : Dec (w .mark ≤ e) → Dec (e ≤ w .ceiling) → Range w e (leb (w .mark) e && leb e (w .ceiling))
-      go (yes x) (yes y) = rw (le-leb _ _ x, le-leb _ _ y) (fits x y)
-      go (no x) _ = rw (lt-leb (w .mark) e (omega arith)) (low (omega arith))
-      go (yes x) (no y) = rw (le-leb _ _ x, lt-leb e (w .ceiling) (omega arith)) (high (omega arith))
-
   never : w .mark ≤ e → e ≤ w .ceiling → (e < w .mark) ⊎ (w .ceiling < e) → ⊥
   never x y (inl h) = omega arith
   never x y (inr h) = omega arith
 
   cut-11 : {b : Bool} → Range w e b → (numberOfCut (cond b (Parts (childOf w e) (restOf w e)) BadCut) ≡ 11) ↔ ((e < w .mark) ⊎ (w .ceiling < e))
-  cut-11 (fits x y) = (λ p. absurd (omega arith), λ c. absurd (never x y c))
-  cut-11 (low x) = (λ p. inl x, λ c. refl)
-  cut-11 (high x) = (λ p. inr x, λ c. refl)
+  cut-11 (fitting x y) = (λ p. absurd (omega arith), λ c. absurd (never x y c))
+  cut-11 (too-low x) = (λ p. inl x, λ c. refl)
+  cut-11 (too-high x) = (λ p. inr x, λ c. refl)
 
   cut-0 : {b : Bool} → Range w e b → (numberOfCut (cond b (Parts (childOf w e) (restOf w e)) BadCut) ≡ 0)
       ↔ (cond b (Parts (childOf w e) (restOf w e)) BadCut ≡ Parts (childOf w e) (restOf w e))
-  cut-0 (fits x y) = (λ p. refl, λ c. refl)
-  cut-0 (low x) = (λ p. absurd (omega arith), ap numberOfCut)
-  cut-0 (high x) = (λ p. absurd (omega arith), ap numberOfCut)
+  cut-0 (fitting x y) = (λ p. refl, λ c. refl)
+  cut-0 (too-low x) = (λ p. absurd (omega arith), ap numberOfCut)
+  cut-0 (too-high x) = (λ p. absurd (omega arith), ap numberOfCut)
 
   pub cut-as : (r : Cut) → r ≡ cutAt w e → CutAnswer w e r
   unfolding cutAt
-  cut-as r is = record { is = is; number11 = rw is (cut-11 range); number0 = rw is (cut-0 range) }
+  cut-as r is = record { is = is; number11 = rw is (cut-11 (range w e)); number0 = rw is (cut-0 (range w e)) }
 
   share-31 : {b : Bool} → Range w e b → (numberOfShare (cond b (Shared (sharingOf w e)) BadShare) ≡ 31) ↔ ((e < w .mark) ⊎ (w .ceiling < e))
-  share-31 (fits x y) = (λ p. absurd (omega arith), λ c. absurd (never x y c))
-  share-31 (low x) = (λ p. inl x, λ c. refl)
-  share-31 (high x) = (λ p. inr x, λ c. refl)
+  share-31 (fitting x y) = (λ p. absurd (omega arith), λ c. absurd (never x y c))
+  share-31 (too-low x) = (λ p. inl x, λ c. refl)
+  share-31 (too-high x) = (λ p. inr x, λ c. refl)
 
   share-0 : {b : Bool} → Range w e b → (numberOfShare (cond b (Shared (sharingOf w e)) BadShare) ≡ 0) ↔ (cond b (Shared (sharingOf w e)) BadShare ≡ Shared (sharingOf w e))
-  share-0 (fits x y) = (λ p. refl, λ c. refl)
-  share-0 (low x) = (λ p. absurd (omega arith), ap numberOfShare)
-  share-0 (high x) = (λ p. absurd (omega arith), ap numberOfShare)
+  share-0 (fitting x y) = (λ p. refl, λ c. refl)
+  share-0 (too-low x) = (λ p. absurd (omega arith), ap numberOfShare)
+  share-0 (too-high x) = (λ p. absurd (omega arith), ap numberOfShare)
 
   pub share-as : (r : Share) → r ≡ shareAt w e → ShareAnswer w e r
   unfolding shareAt
-  share-as r is = record { is = is; number31 = rw is (share-31 range); number0 = rw is (share-0 range) }
+  share-as r is = record { is = is; number31 = rw is (share-31 (range w e)); number0 = rw is (share-0 (range w e)) }
