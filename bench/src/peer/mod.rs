@@ -21,6 +21,8 @@ mod share_tests;
 mod stacklet_tests;
 #[cfg(test)]
 mod tests;
+#[cfg(test)]
+mod watch;
 
 /// How a run by schedule or a house run ended.
 #[derive(Clone, Copy, Debug, PartialEq, Eq)]

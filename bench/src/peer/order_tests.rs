@@ -1,9 +1,9 @@
 //! Random jobs by random schedules on the second implementation alone: demand 3 as far as a test can show it, and what holds of windows at
 //! every state.
 
-use super::image::check;
-use super::machine::{Job, Machine, Status, Thread};
+use super::machine::{Machine, Status, Thread};
 use super::plain::measured;
+use super::watch::watch;
 use super::window::Window;
 use super::{Answer, PlainAnswer};
 use crate::generate::{job, schedule, Case};
@@ -56,28 +56,13 @@ fn sound(met: &mut Met, m: &Machine) -> bool {
 
 /// The states of a run by a schedule, each of which is checked, and its end against the plain run's.
 fn follow(met: &mut Met, case: &Case, bytes: &[u8]) {
-    let program = check(&case.image).expect("a good image");
-    let parameters = case.parameters[..].try_into().expect("32 parameter words");
-    let mut memory: [u32; 992] = case.memory[..].try_into().expect("992 memory words");
-    let job = Job { program: &program, parameters };
-    let mut m = Machine::blank(case.cores, case.allowance);
-    m.start(&program, &case.arguments);
-    let mut rest = bytes;
-    while !m.over && !rest.is_empty() {
-        let number;
-        (number, rest) = match *rest {
-            [1, core, ref more @ ..] => (m.step(&job, &mut memory, core), more),
-            [2, core, ref more @ ..] => (m.take(core), more),
-            [3, core, t, ref more @ ..] => (m.steal(&job, core, t), more),
-            [4, t, ref more @ ..] => (m.enable(t), more),
-            _ => unreachable!("a schedule"),
-        };
+    let (answer, memory) = watch(case, bytes, |number, m, _| {
         if number == 0 {
             met.states += 1;
-            assert!(sound(met, &m), "after {} bytes of {bytes:?}, image {:?}", bytes.len() - rest.len(), case.image);
+            assert!(sound(met, m), "state {} of {bytes:?}, image {:?}", met.states, case.image);
         }
-    }
-    ends_alike(met, case, m.answer(), &memory);
+    });
+    ends_alike(met, case, answer, &memory);
 }
 
 /// A run that finishes ends as the plain run does, and none faults where the plain run finishes.

@@ -1,9 +1,9 @@
 //! The stacklets' words on the second implementation: a frame's are cleared when it is given back, and no others.
 //! The words expected were worked out by hand from documents 01 and 02.
 
-use super::image::check;
 use super::machine::{Job, Machine, Status, WORDS};
 use super::run::{entries, run, Fed, Ran};
+use super::watch::watch;
 use super::Answer;
 use crate::assemble::{image, Routine};
 use crate::generate::{job, schedule};
@@ -234,29 +234,16 @@ fn free_words_are_zero_after_every_entry() {
     for seed in 0..400 {
         let mut random = Random::new(seed * 1_000_003);
         let case = job(&mut random);
-        let program = check(&case.image).expect("a good image");
-        let parameters = case.parameters[..].try_into().expect("32 parameter words");
-        let mut memory: [u32; 992] = case.memory[..].try_into().expect("992 memory words");
-        let job = Job { program: &program, parameters };
-        let mut m = Machine::blank(case.cores, case.allowance);
-        m.start(&program, &case.arguments);
         let bytes = schedule(&mut random, &case, 600);
-        let mut rest = &bytes[..];
-        while !rest.is_empty() {
-            let before = m.free_threads.len();
-            let number;
-            (number, rest) = match *rest {
-                [1, core, ref more @ ..] => (m.step(&job, &mut memory, core), more),
-                [2, core, ref more @ ..] => (m.take(core), more),
-                [3, core, t, ref more @ ..] => (m.steal(&job, core, t), more),
-                [4, t, ref more @ ..] => (m.enable(t), more),
-                _ => unreachable!("a schedule"),
-            };
+        let mut before = None;
+        watch(&case, &bytes, |number, m, job| {
             accepted += (number == 0) as u32;
-            freed += (m.free_threads.len() > before) as u32;
-            let held = held(&m, &job);
+            let free = m.free_threads.len();
+            freed += before.is_some_and(|before| free > before) as u32;
+            before = Some(free);
+            let held = held(m, job);
             assert!(m.words.iter().zip(held).all(|(word, held)| held || *word == 0), "seed {seed}, after {accepted} entries");
-        }
+        });
     }
     assert!(accepted > 10_000 && freed > 1000, "{accepted} entries accepted, {freed} frames given back");
 }
