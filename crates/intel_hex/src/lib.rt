@@ -1,4 +1,5 @@
 // Images as Intel HEX: the text of an image, and the bytes that a text's records say.
+#![tactic(auto)]
 
 mod bytes;
 mod digits;
@@ -8,12 +9,12 @@ pub mod number;
 mod scan;
 mod writing;
 
-ghost use Rattle.hex.specs.Answers.{HexWrites, HexReads};
+ghost use Rattle.intel_hex.specs.Answers.{HexWrites, HexReads};
 
 use image::{Refusal, Verdict};
 
 // What the writer answers: the number of characters, or why nothing is written.
-#[derive(Drop)]
+#[derive(Clone, Copy)]
 pub enum HexWritten {
     Characters(usize),
     // 1 to 8: a bad image
@@ -23,7 +24,7 @@ pub enum HexWritten {
 }
 
 // What the reader answers: the number of bytes, or why nothing is read.
-#[derive(Drop)]
+#[derive(Clone, Copy)]
 pub enum HexRead {
     Bytes(usize),
     // 27: a malformed line, record type or length, an end record whose address is not 0, or text after the end record
