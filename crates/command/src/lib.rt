@@ -1,4 +1,6 @@
 // The fourteen commands of an image: read from bytes, written to bytes, and their weights.
+#![tactic(auto)]
+
 ghost use Rattle.std.specs.Prelude.{◌≡◌, [], ◌∷◌, get_or};
 ghost use Rattle.command.specs.Command.{ReadAs, decoded, decoded_at, five_at, width_of, pair, low, high};
 ghost use Rattle.command.specs.Write.{Wrote};
@@ -6,7 +8,7 @@ ghost use Rattle.command.specs.Encoded.{Encodes};
 ghost use Rattle.command.specs.Weight.{weight_of, standard_weights};
 
 // A command with its operands, in the order of document 01's table.
-#[derive(Drop)]
+#[derive(Clone, Copy)]
 pub enum Command {
     // 01 d v: slot d becomes v
     Set(u8, u16),
@@ -49,7 +51,7 @@ pub enum Command {
 }
 
 // What reading one command finds.
-#[derive(Drop)]
+#[derive(Clone, Copy)]
 pub enum CommandRead {
     // the command and the number of its bytes
     Found(Command, u8),
@@ -60,7 +62,7 @@ pub enum CommandRead {
 }
 
 // What writing one command into a buffer did.
-#[derive(Drop)]
+#[derive(Clone, Copy)]
 pub enum CommandWritten {
     // the number of bytes written
     Bytes(u8),
@@ -69,7 +71,7 @@ pub enum CommandWritten {
 }
 
 // A command's bytes: the first `width` of five.
-#[derive(Drop)]
+#[derive(Clone, Copy)]
 struct Encoded {
     bytes: [u8; 5],
     width: u8,

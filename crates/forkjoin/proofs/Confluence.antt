@@ -57,9 +57,9 @@ module _ {S L : Type 0} {Step : L → S → S → Type 0} {Halts : L → S → �
   pub ahead : {n k : ℕ} {s f t : S} → Invariant s → Finished f → Steps Step n s f → Steps Step k s t
       → (m : ℕ) × (n ≡ k + m) × Steps Step m t f
   ahead {n = n} i e r stop = (n, omega arith, r)
-  ahead {n = n} {f = f} i e r (then {s = s} {t = t} {u = u} {n = k} a b) =
+  ahead {n = n} {f = f} i e r (then {p = p} {s = s} {t = t} {u = u} {n = k} a b) =
       let (m, e1, r1) = first i e r a in
-      let (x, e2, r2) = ahead (law.kept _ _ _ i a) e r1 b in
+      let (x, e2, r2) = ahead {n = m} (law.kept _ _ _ i a) e r1 b in
       (x, omega arith, r2)
 
   ends : {n : ℕ} {s t : S} → Invariant s → Finished s → Steps Step n s t → (n ≡ zero) × (s ≡ t)

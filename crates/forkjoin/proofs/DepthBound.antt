@@ -7,7 +7,7 @@ use Prim.Native.Nat.{◌+◌, ◌<◌, ◌≤◌, suc, zero, ℕ}
 use native.Mathlib.Decide.{dec_le, dec_lt, ℕ_discrete}
 use native.Mathlib.Omega.{arith}
 use lib.ListN.{length}
-use Rattle.forkjoin.proofs.TaskName.{TaskName, ◌⊑◌, down, here, ⊑-parent}
+use Rattle.forkjoin.proofs.TaskName.{TaskName, ◌⊑◌, down, here}
 use Rattle.forkjoin.proofs.Update.{update}
 use Rattle.forkjoin.proofs.Language.{Act, Language, advance, fork, halt, join, load, ret, store}
 use Rattle.forkjoin.proofs.TaskTree.{State, live, word_after}

@@ -62,8 +62,8 @@ module _ (𝓛 : Language) where
   live-steps i e r zero name alive apart = omega arith
   live-steps {s = s} i e stop (suc m) name alive apart =
       let (l, h) = alive 0 (omega arith) in absurd (finished-no-thread 𝓛 (name 0) s l i e h)
-  live-steps i e (then {p = q} {s = s} {t = t} g r) (suc m) name alive apart =
-      let rest = live-steps (kept 𝓛 q s t i g) e r m (others q m name) still (others_apart q m name apart) in omega arith
+  live-steps i e (then {p = q} {s = s} {t = t} {n = n} g r) (suc m) name alive apart =
+      let rest = live-steps {n = n} (kept 𝓛 q s t i g) e r m (others q m name) still (others_apart q m name apart) in omega arith
     where
       still : (x : ℕ) → x < m → (l : Local) × (t.at (others q m name x) ≡ live l)
       still x h =

@@ -65,11 +65,11 @@ module _ (𝓛 : Language) (𝓒 : Carried 𝓛) where
   abbrev pub Simulated : (ℕ → TaskName) → Pool Concrete → State Local → ℕ → Type 0
   Simulated name M' s t = (name' : ℕ → TaskName) × (s' : State Local) × Step 𝓛 (name t) s s' × Represents 𝓛 𝓒 name' M' s'
 
-  -- A step of the pool is a step of the tree, by the thread's name.
-  pub simulates : (name : ℕ → TaskName) (M M' : Pool Concrete) (s : State Local) → Represents 𝓛 𝓒 name M s → Invariant 𝓛 s → (t : ℕ)
+  -- the cases of `simulates`; the pool that the step gives stands after the thread that steps, since each case names it by that thread
+  by-step : (name : ℕ → TaskName) (M : Pool Concrete) (s : State Local) → Represents 𝓛 𝓒 name M s → Invariant 𝓛 s → (t : ℕ) (M' : Pool Concrete)
       → PoolStep 𝓛 𝓒 (length (name t)) t M M' → Simulated name M' s t
   unfolding next-state own-pool fork-pool return-pool fork-names fork-cells return-cells
-  simulates name M M' s R i t (step-own r q k ct o) = (
+  by-step name M s R i t M' (step-own r q k ct o) = (
     name,
     next-state S,
     tree-step S,
@@ -98,7 +98,7 @@ module _ (𝓛 : Language) (𝓒 : Carried 𝓛) where
 
       wm : (next-state S).memory ≡ (λ x. word_after (does n r) x (M.words x))
       wm = fun_ext (λ x. O.words x (s.memory x) ∙ ap (λ m. word_after (does n r) x (m x)) R.same_memory)
-  simulates name M M' s R i t (step-fork r c q k d z ct e cz) = (
+  by-step name M s R i t M' (step-fork r c q k d z ct e cz) = (
     fork-names S d z c q F.0 cz F.1 F.2,
     next-state S,
     tree-step S,
@@ -121,7 +121,7 @@ module _ (𝓛 : Language) (𝓒 : Carried 𝓛) where
 
       S : Stepping 𝓛 𝓒 name M s t r k b
       S = record { related = R; invariant = i; in_use = ct; acts = refl; enabled = rd }
-  simulates name M M' s R i t (step-join r q k ct e alone) = (
+  by-step name M s R i t M' (step-join r q k ct e alone) = (
     name,
     next-state S,
     tree-step S,
@@ -189,7 +189,7 @@ module _ (𝓛 : Language) (𝓒 : Carried 𝓛) where
 
       wm : (next-state S).memory ≡ M.words
       wm = ap (λ z x. word_after z x (s.memory x)) F.1 ∙ R.same_memory
-  simulates name M M' s R i t (step-return r r₀ k₀ q d v ct e cq) = (
+  by-step name M s R i t M' (step-return r r₀ k₀ q d v ct e cq) = (
     name,
     next-state S,
     tree-step S,
@@ -210,6 +210,11 @@ module _ (𝓛 : Language) (𝓒 : Carried 𝓛) where
 
       S : Stepping 𝓛 𝓒 name M s t r (child q d) b
       S = record { related = R; invariant = i; in_use = ct; acts = refl; enabled = rd }
+
+  -- A step of the pool is a step of the tree, by the thread's name.
+  pub simulates : (name : ℕ → TaskName) (M M' : Pool Concrete) (s : State Local) → Represents 𝓛 𝓒 name M s → Invariant 𝓛 s → (t : ℕ)
+      → PoolStep 𝓛 𝓒 (length (name t)) t M M' → Simulated name M' s t
+  simulates name M M' s R i t step = by-step name M s R i t M' step
 
   -- a fault of the pool is a halt of the tree
   pub faults : (name : ℕ → TaskName) (M : Pool Concrete) (s : State Local) → Represents 𝓛 𝓒 name M s → (t x : ℕ) (r : Concrete) (k : Link)

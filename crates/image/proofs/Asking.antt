@@ -3,13 +3,14 @@ use borrow.Author.Tests.{eq-eqb, ne_eqb}
 use mathlib.Core.Bool.{Bool, true, false}
 use mathlib.Core.List.{List}
 use mathlib.Core.Path.{◌≡◌, refl, sym, ◌∙◌}
-use Prim.Native.Nat.{ℕ, ◌≤◌, ◌<◌}
+use Prim.Native.Nat.{ℕ, ◌+◌, ◌≤◌, ◌<◌}
 use native.Mathlib.Decide.{ℕ_discrete, dec_lt}
 use native.Mathlib.Omega.{arith}
 use lib.Dec.{eqb}
 use lib.ListN.{length, get_or, set, length-set, get_or-eq_default}
 use lib.Seq.{get_or-set_same, get_or-set_other}
-use Rattle.image.specs.Marks.{marked, MarksAsked}
+use borrow.Author.Count.{below_more}
+use Rattle.image.specs.Marks.{marked, Left, MarksAsked}
 
 pub never : {P : Type 0} → ◌≡◌ {A = Bool} false true → P
 never h = let z : ◌≡◌ {A = ℕ} 0 1 = cc in absurd (omega arith)
@@ -84,3 +85,11 @@ untested test marks holds = record {
   put = λ start i a e. (refl, a);
   back = λ start i f a. (a, holds start);
 }
+
+-- a byte that is asked for, and was not met, is left
+pub left_here : (marks : List ℕ) (i : ℕ) → get_or marks i 0 ≡ 2 → Left marks
+left_here marks i two = record { byte = i; asked = two }
+
+-- none is asked for below i, nor at i, so none below the next
+pub none_more : (marks : List ℕ) (i : ℕ) → ((t : ℕ) → t < i → get_or marks t 0 ≡ 2 → ⊥) → (get_or marks i 0 ≡ 2 → ⊥) → (t : ℕ) → t < i + 1 → get_or marks t 0 ≡ 2 → ⊥
+none_more marks i below here = below_more _ _ below here

@@ -1,6 +1,6 @@
 -- The pass over a code, turn by turn: what is left of the code gives what the whole gives. Assumes nothing.
-use borrow.Author.Tests.{le-leb, lt-leb, eq-eqb, ne_eqb, eqb-true, not-true, not-false}
-use mathlib.Core.Bool.{Bool, true, false, ◌&&◌, ◌||◌, not, or-false, or-true}
+use borrow.Author.Tests.{le-leb, lt-leb, eq-eqb, ne_eqb, eqb-true}
+use mathlib.Core.Bool.{Bool, true, false, ◌&&◌, ◌||◌, or-false, or-true}
 use mathlib.Core.List.{List, []}
 use mathlib.Core.Path.{◌≡◌, refl, sym, ◌∙◌, ap}
 use Prim.Native.Nat.{ℕ, zero, suc, ◌+◌, ◌≤◌, ◌<◌}
@@ -124,11 +124,11 @@ module _ (start : ℕ → Bool) (marks : List ℕ) (at : ℕ) (here : start at �
 
 -- whether each target so far is inside, after one more was asked for
 module _ (asked inside later : Bool) where
-  pub falls : not asked ≡ true → later ≡ false → later ≡ (asked && inside)
-  falls h e = e ∙ rw (not-true asked h)
+  pub falls : asked ≡ false → later ≡ false → later ≡ (asked && inside)
+  falls h e = e ∙ rw h
 
-  pub stays : not asked ≡ false → later ≡ inside → later ≡ (asked && inside)
-  stays h e = e ∙ rw (not-false asked h)
+  pub stays : asked ≡ true → later ≡ inside → later ≡ (asked && inside)
+  stays h e = e ∙ rw h
 
 -- the command found here is in range; it is marked, and its target asked for
 module _ (ok : Command → Bool) (code marks after : List ℕ) (at n : ℕ) (c : Command) (last end inside asked later : Bool) (room : length code ≡ length marks)

@@ -1,6 +1,6 @@
 -- Where an image's parts stand: "One byte: count of routines, 1 to 32. Then per routine a row of four bytes: slots (1 to 16), arguments (at
 -- most the slots), code length (two bytes, at least 1). Then the codes in row order, and nothing after."
-use Rattle.std.specs.Prelude.{List, ℕ, zero, suc, ◌+◌, ◌*◌, get_or, length, take, drop, replicate, set}
+use Rattle.std.specs.Prelude.{List, ℕ, zero, suc, ◌+◌, ◌*◌, get_or, take, drop, replicate, set}
 use Rattle.command.specs.Command.{pair}
 use Rattle.image.specs.declared.Row.{Row}
 use Rattle.image.specs.declared.Program.{Program}

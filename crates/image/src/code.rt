@@ -9,7 +9,7 @@ use crate::step::{Tested, test_at};
 use crate::{Refusal, Verdict};
 
 // What the pass finds: a verdict by 4, 5 and 6, the last command's first byte, and whether each target is inside the code.
-#[derive(Drop)]
+#[derive(Clone, Copy)]
 struct Walked {
     verdict: Verdict,
     last: u8,

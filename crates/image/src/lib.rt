@@ -1,4 +1,5 @@
 // The image reader: it accepts an image and says where its routines stand, or gives the number of the first test that fails.
+#![tactic(auto)]
 
 mod code;
 mod marks;
@@ -17,7 +18,7 @@ use crate::code::check_routine;
 use command::byte_at;
 
 // A routine's row with the place of its code: its slots, its arguments, its code's first byte in the image and its code's length.
-#[derive(Drop)]
+#[derive(Clone, Copy)]
 pub struct Row {
     pub slots: u8,
     pub arguments: u8,
@@ -26,7 +27,7 @@ pub struct Row {
 }
 
 // An accepted image's routines: their count and, for each, its row.
-#[derive(Drop)]
+#[derive(Clone, Copy)]
 pub struct Program {
     pub count: u8,
     pub rows: [Row; 32],
@@ -49,7 +50,7 @@ impl Program {
 }
 
 // Why an image is refused.
-#[derive(Drop)]
+#[derive(Clone, Copy)]
 pub enum Refusal {
     // 1: empty, over 4,096 bytes, rows past the end, or total length wrong
     BadLength,
@@ -70,14 +71,14 @@ pub enum Refusal {
 }
 
 // What the reader says of an image.
-#[derive(Drop)]
+#[derive(Clone, Copy)]
 pub enum Verdict {
     Accepted,
     Rejected(Refusal),
 }
 
 // The verdict with the program; the program of a refused image has no routine.
-#[derive(Drop)]
+#[derive(Clone, Copy)]
 pub struct Checked {
     pub verdict: Verdict,
     pub program: Program,

@@ -42,6 +42,7 @@ pub fn ask_target(code: &[u8], at: usize, marks: &mut [u8]) -> bool
 }
 
 // Was a command met wherever a byte was asked for? It goes on to the end whatever it finds, so that many cells are looked at at once.
+#[tactic(auto, using(crate::proofs::Asking::left_here, crate::proofs::Asking::none_more))]
 pub fn all_met(marks: &[u8]) -> bool
     ensures { Met marks.now result }
 {

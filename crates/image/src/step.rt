@@ -9,7 +9,7 @@ use crate::range::{fork_in_range, three_slots, two_slots};
 
 // What the tests say of a command: its width where it passes. A width of one byte would be packed with the variant into one number, for which the
 // next command's place would have to wait.
-#[derive(Drop)]
+#[derive(Clone, Copy)]
 pub enum Tested {
     Width(usize),
     Fails(Refusal),

@@ -2,4 +2,5 @@
 pub mod Ascending
 pub mod Ring
 pub mod Laws
+pub mod Filled
 pub mod Examples

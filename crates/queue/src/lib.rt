@@ -1,6 +1,8 @@
 // A first-in first-out queue of at most 32 numbers, document 01's "line". Its places are a ring, found by a comparison with its end and a
 // subtraction (`wrapped`), where document 01 has a remainder of 32.
 // Every value of the struct stands for a list (`contents`), so no function here asks anything of its caller.
+#![tactic(auto)]
+
 ghost use Rattle.std.specs.Prelude.{◌≡◌, [], ◌-◌, ◌%◌, ◌<◌, min, length};
 ghost use Rattle.queue.specs.declared.Front.TheVariants.{Number};
 ghost use Rattle.queue.specs.Contents.{capacity, contents, ascending_from, Dequeues, Enqueues};
@@ -26,7 +28,7 @@ fn wrapped(i: u8) -> u8
 }
 
 // Its fields are public, since every value of them is a queue: the machine's tables hold them as bytes.
-#[derive(Drop)]
+#[derive(Clone, Copy)]
 pub struct Queue {
     pub places: [u8; 32],
     pub head: u8,
@@ -34,14 +36,14 @@ pub struct Queue {
 }
 
 // The number at the head of a queue.
-#[derive(Drop)]
+#[derive(Clone, Copy)]
 pub enum Front {
     Number(u8),
     Nothing,
 }
 
 // What `dequeue` gives back.
-#[derive(Drop)]
+#[derive(Clone, Copy)]
 pub struct Dequeued {
     pub first: Front,
     pub queue: Queue,
@@ -60,6 +62,7 @@ impl Queue {
     }
 
     // The queue of the numbers from 0 up to n, n left out; of 0 to 31 where n is above 32.
+    #[tactic(auto, using(crate::proofs::Filled::ascending_few, crate::proofs::Filled::ascending_all))]
     pub fn ascending(n: u8) -> Queue
         ensures { contents result ≡ ascending_from 0 (min n capacity) }
     {
@@ -107,6 +110,7 @@ impl Queue {
     }
 
     // The queue with n at its tail. A full queue takes nothing and comes back unchanged.
+    #[tactic(auto, using(crate::proofs::Filled::full_stays))]
     pub fn enqueue(mut self, n: u8) -> Queue
         ensures { Enqueues self n result }
     {

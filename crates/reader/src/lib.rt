@@ -1,5 +1,7 @@
 // "An entry reader keeps the schedule together with the next entry's position." Thin functions take it apart and leave the work to
 // `schedule::read`, which takes a slice and a number.
+#![tactic(auto)]
+
 ghost use Rattle.std.specs.Prelude.{◌≡◌, ◌+◌, ◌*◌};
 ghost use Rattle.schedule.specs.Format.{EntryAnswer};
 ghost use Rattle.reader.specs.Row.{is_pair, are_four, StepsRow};
@@ -7,7 +9,7 @@ ghost use Rattle.reader.specs.Row.{is_pair, are_four, StepsRow};
 use schedule::EntryRead;
 
 // A schedule, and the position of its next entry.
-#[derive(Drop)]
+#[derive(Clone, Copy)]
 pub struct EntryReader<'a> {
     pub schedule: &'a [u8],
     pub at: usize,

@@ -1,5 +1,7 @@
 // The print program's input taken apart: which numbers it gives, and where its image and its schedule stand. Numbers have one, two or four bytes,
 // the low byte first. Bytes past the end read as 0.
+#![tactic(auto)]
+
 ghost use Rattle.std.specs.Prelude.{◌≡◌, ◌<◌, ◌≤◌, length};
 ghost use Rattle.reading.specs.Reading.{pair_of, word_of, pair_at, four_bytes_at, read_over, ArgumentsRead, core_count, argument_count, allowance_at, image_at, schedule_at};
 

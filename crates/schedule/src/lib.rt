@@ -1,5 +1,7 @@
 // A schedule: a run of entries, each one command byte with one or two operand bytes. An entry is read at a position and
 // written at a position, and the entries of a whole schedule are counted, which is where document 01's number 13 is found.
+#![tactic(auto)]
+
 ghost use Rattle.std.specs.Prelude.{◌≡◌, [], ◌∷◌};
 ghost use Rattle.schedule.specs.Format.{bytes_of_entry, EntryAnswer};
 ghost use Rattle.schedule.specs.Four.{four_steps};
@@ -13,7 +15,7 @@ const LONGEST: usize = 32768;
 const STEP: u8 = 1;
 
 // One entry: 01 c, 02 c, 03 c t, 04 t.
-#[derive(Drop)]
+#[derive(Clone, Copy)]
 pub enum Entry {
     Step(u8),
     Take(u8),
@@ -22,7 +24,7 @@ pub enum Entry {
 }
 
 // What reading at a position finds.
-#[derive(Drop)]
+#[derive(Clone, Copy)]
 pub enum EntryRead {
     // An entry, and the position after it.
     Found(Entry, usize),
@@ -33,14 +35,14 @@ pub enum EntryRead {
 }
 
 // How many entries a schedule has.
-#[derive(Drop)]
+#[derive(Clone, Copy)]
 pub enum Counted {
     Entries(usize),
     Malformed,
 }
 
 // How many bytes were written.
-#[derive(Drop)]
+#[derive(Clone, Copy)]
 pub enum Written {
     Bytes(usize),
     // The entry does not fit: nothing was written.

@@ -1,19 +1,22 @@
 // The stacklet store: 16 stacklets of 64 words. Frames are pushed above a stacklet's top and popped off it, and their slots are read and
 // written. The 1,024 words are lent by the caller; the tops are a small struct by value. A frame is known by its base, its first word's
 // number among all words, so that its stacklet is base / 64.
+#![tactic(auto)]
+
 ghost use Rattle.std.specs.Prelude.{◌⊎◌, ◌≡◌, ◌%◌, ◌<◌, ◌≤◌, get_or, set, replicate};
 ghost use Rattle.stacklets.specs.Tops.{tops_of, stacklets_of, top_at, fits_on, is_topmost, base_on, pushed_tops, popped_tops};
 ghost use Rattle.stacklets.specs.Frames.{slot_of, with_slot, arguments_at, framed, wiped, pushed_words};
 
 // How many words of each stacklet its frames take. A stacklet with top 0 has no frame. The tops are public, since any of them may be: the
 // machine's tables hold them as bytes.
-#[derive(Drop)]
+#[derive(Clone, Copy)]
 pub struct Stacklets {
     pub tops: [u8; 16],
 }
 
 impl Stacklets {
     // No frame at all.
+    #[tactic(auto, unfolding(crate::specs::Tops::tops_of))]
     pub fn new() -> Stacklets
         ensures { tops_of result ≡ replicate 16 0 }
     {
@@ -28,6 +31,7 @@ impl Stacklets {
     }
 
     // The same of any number.
+    #[tactic(auto, unfolding(crate::specs::Tops::tops_of))]
     fn top_of(self, x: usize) -> u8
         ensures { result ≡ top_at (tops_of self) x }
     {
@@ -43,6 +47,7 @@ impl Stacklets {
     }
 
     // Whether a frame of so many words fits above a stacklet's top.
+    #[tactic(auto, unfolding(crate::specs::Tops::fits_on))]
     pub fn fits(self, stacklet: u8, size: u8) -> bool
         ensures { result ≡ fits_on (tops_of self) stacklet size }
     {
@@ -63,6 +68,7 @@ impl Stacklets {
 
     // A new frame above a stacklet's top, its arguments the words from `from` on, as they stand before the push. Refused, with nothing
     // changed, where it does not fit.
+    #[tactic(auto, unfolding(crate::specs::Tops::tops_of, crate::specs::Tops::fits_on, crate::specs::Tops::pushed_tops, crate::specs::Frames::pushed_words))]
     pub fn push(
         mut self,
         words: &mut [u32],
@@ -91,6 +97,7 @@ impl Stacklets {
     }
 
     // A new frame above a stacklet's top, with these arguments in its first slots. Refused, with nothing changed, where it does not fit.
+    #[tactic(auto, unfolding(crate::specs::Tops::tops_of, crate::specs::Tops::fits_on, crate::specs::Tops::pushed_tops, crate::specs::Frames::pushed_words))]
     pub fn push_arguments(
         mut self,
         words: &mut [u32],
@@ -112,6 +119,7 @@ impl Stacklets {
     }
 
     // The frame at a base, of so many words, is given back: its words are cleared, and it goes with all above it.
+    #[tactic(auto, unfolding(crate::specs::Tops::tops_of))]
     pub fn pop(mut self, words: &mut [u32], base: u16, size: u8) -> Stacklets
         ensures tops { tops_of result ≡ popped_tops (tops_of self) base }
         ensures words { words.new ≡ wiped words.old base size }
@@ -127,6 +135,7 @@ impl Stacklets {
 }
 
 // A stacklet's top, among tops that stand in a part of other numbers; stacklets are taken by their remainder.
+#[tactic(auto, unfolding(crate::specs::Tops::tops_of))]
 pub fn read_top(tops: &[u8], stacklet: u8) -> u8
     ensures { result ≡ top_at (tops_of (stacklets_of tops.now)) (stacklet % 16) }
 {
@@ -138,6 +147,7 @@ pub fn read_top(tops: &[u8], stacklet: u8) -> u8
 }
 
 // It becomes another, where there is one.
+#[tactic(auto, unfolding(crate::specs::Tops::tops_of))]
 pub fn write_top(tops: &mut [u8], stacklet: u8, top: u8)
     ensures { tops_of (stacklets_of tops.new) ≡ set (tops_of (stacklets_of tops.old)) (stacklet % 16) top }
 {

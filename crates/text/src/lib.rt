@@ -1,5 +1,7 @@
 // Text put into a buffer at a position. Each function gives the position after it; what does not fit is left out. No position is too large for
 // a number: a line begins below 2 ^ 32, and a word, like every slice, has fewer than 2 ^ 63 bytes.
+#![tactic(auto)]
+
 ghost use Rattle.std.specs.Prelude.{◌≡◌, [], ◌∷◌, ◌++◌, ◌<◌, ◌≤◌, ◌+◌, ◌*◌, ◌%◌, length, take};
 ghost use Rattle.text.specs.Text.{ascii, decimal_of, spaced, entry_line, entry_lines};
 ghost use Rattle.text.specs.Buffer.{Put, Fills};

@@ -1,5 +1,7 @@
 // The view of a range of addresses, document 01's "bench view": the part of the parameter words or of the memory words that
 // stands there, lent on as it is and not copied.
+#![tactic(auto)]
+
 ghost use Rattle.view.specs.Part.{Shows, IsPart};
 
 // The number of parameter words: addresses below it are theirs.

@@ -1,8 +1,8 @@
 -- Laws of windows: a child's part and the rest of a cut do not meet, what is shared is stored by neither, a join gives back the whole, and
 -- every window made from the root's lies within the memory words. Assumes nothing.
 use mathlib.Core.Bool.{Bool, true, false, cond, ◌&&◌, ◌||◌, or-true}
-use mathlib.Core.Logic.{◌⊎◌, inl, inr}
-use mathlib.Core.Path.{◌≡◌, refl, ap}
+use mathlib.Core.Logic.{inl, inr}
+use mathlib.Core.Path.{◌≡◌}
 use Prim.Native.Nat.{ℕ, ◌≤◌, ◌<◌}
 use native.Mathlib.Decide.{dec_le, dec_lt}
 use native.Mathlib.Omega.{arith}
@@ -11,7 +11,7 @@ use borrow.Author.Tests.{lt-ltb, le-ltb, le-leb, lt-leb}
 use Rattle.window.specs.declared.Window.{Window}
 use Rattle.window.specs.declared.Cut.TheVariants.{Parts, BadCut}
 use Rattle.window.specs.declared.Share.TheVariants.{Shared, BadShare}
-use Rattle.window.specs.Rights.{root_window, is_from, may_load, may_store, shares_word, span_from, span_to, cut_at, child_of, rest_of, share_at, sharing_of, rejoined, Fits}
+use Rattle.window.specs.Rights.{root_window, is_from, may_load, may_store, span_from, span_to, cut_at, child_of, rest_of, share_at, sharing_of, rejoined, Fits}
 use Rattle.window.specs.Numbers.{NotFrom}
 
 -- whether an address is one of those from x up to y, seen with the reason

@@ -12,7 +12,7 @@ use Rattle.window.specs.declared.Cut.{Cut}
 use Rattle.window.specs.declared.Cut.TheVariants.{Parts, BadCut}
 use Rattle.window.specs.declared.Share.{Share}
 use Rattle.window.specs.declared.Share.TheVariants.{Shared, BadShare}
-use Rattle.window.specs.Rights.{is_from, may_load, may_store, cut_at, child_of, rest_of, share_at, sharing_of}
+use Rattle.window.specs.Rights.{may_load, may_store, cut_at, child_of, rest_of, share_at, sharing_of}
 use Rattle.window.specs.Numbers.{NotFrom, number_of_access, number_of_cut, number_of_share, LoadAnswer, StoreAnswer, CutAnswer, ShareAnswer}
 use Rattle.window.proofs.Laws.{Seen, inside, outside, seen, Range, fitting, too-low, too-high, range}
 

@@ -1,12 +1,14 @@
 // A thread's window on memory: which addresses it may load and store, the part that a fork cuts off for the child, the words that it shares for
 // reading, and what a join gives back.
+#![tactic(auto)]
+
 ghost use Rattle.std.specs.Prelude.{◌≡◌};
 ghost use Rattle.window.specs.Rights.{root_window, no_window, is_from, span_from, span_to, rejoined};
 ghost use Rattle.window.specs.Numbers.{LoadAnswer, StoreAnswer, CutAnswer, ShareAnswer};
 
 // Addresses from lo up to but not including hi. Those below the mark are cut off, those from the ceiling on are shared: loaded and not stored.
 // Addresses from `from` up to but not including `to` are what an ancestor shared before the fork.
-#[derive(Drop)]
+#[derive(Clone, Copy)]
 pub struct Window {
     pub lo: u16,
     pub mark: u16,
@@ -17,14 +19,14 @@ pub struct Window {
 }
 
 // What a cut gives: the child's window and what is left of the parent's, or nothing.
-#[derive(Drop)]
+#[derive(Clone, Copy)]
 pub enum Cut {
     Parts { child: Window, rest: Window },
     BadCut,
 }
 
 // What sharing gives: the window with its new ceiling, or nothing.
-#[derive(Drop)]
+#[derive(Clone, Copy)]
 pub enum Share {
     Shared(Window),
     BadShare,
