@@ -1,5 +1,7 @@
 // A thread's record as its 24 bytes: how it is read and how it is stored. Where the records stand is the tables' matter. Nothing is asked of the
 // caller: another number of bytes is read as a free record and never changed.
+#![tactic(auto)]
+
 ghost use Rattle.std.specs.Prelude.{◌≡◌, ◌+◌, ◌*◌, ◌%◌, ◌/◌, length};
 ghost use Rattle.std.proofs.lemmas.List.Edits.{sets};
 ghost use Rattle.thread.specs.Thread.{blank_thread};
@@ -32,6 +34,7 @@ pub fn high(x: u16) -> u8
 }
 
 // The status of a number.
+#[tactic(auto, unfolding(crate::specs::Record::status_of))]
 fn status_of(n: u8) -> Status
     ensures { result ≡ status_of n }
 {

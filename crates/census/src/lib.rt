@@ -1,4 +1,6 @@
 // How many records of the thread table are in each state.
+#![tactic(auto)]
+
 ghost use Rattle.std.specs.Prelude.{◌≡◌, ◌≤◌};
 ghost use Rattle.thread.specs.Thread.{status_number};
 ghost use Rattle.census.specs.Counted.{census_of};
@@ -9,7 +11,7 @@ use thread::Thread;
 use thread::record::status_number;
 
 // The records in each state.
-#[derive(Drop)]
+#[derive(Clone, Copy)]
 pub struct Census {
     pub free: usize,
     pub running: usize,

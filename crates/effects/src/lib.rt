@@ -1,4 +1,6 @@
 // What a command does to its own thread: one function for each kind of command, its tests in document 01's order.
+#![tactic(auto, unfolding(thread::specs::Effect::unless_pending, thread::specs::Effect::any_pending, thread::specs::Effect::provided, thread::specs::Effect::forking, thread::specs::Effect::effect_of))]
+
 ghost use Rattle.std.specs.Prelude.{◌≡◌, [], ◌∷◌, if◌then◌else◌, nat_eq};
 ghost use Rattle.image.specs.Layout.{arguments_of};
 ghost use Rattle.window.specs.Rights.{may_load, may_store};

@@ -1,4 +1,5 @@
 // A thread: its record, its pending slots, and what a command's effect on it may be. Crate `effects` computes the effect.
+#![tactic(auto)]
 
 pub mod pending;
 pub mod record;
@@ -6,7 +7,7 @@ pub mod record;
 use window::Window;
 
 // What a thread is doing: document 01's states of a thread record. Free comes first, so that the record of zeros is a free one.
-#[derive(Drop)]
+#[derive(Clone, Copy)]
 pub enum Status {
     Free,
     Running,
@@ -18,7 +19,7 @@ pub enum Status {
 }
 
 // What a thread has from its start to its end.
-#[derive(Drop)]
+#[derive(Clone, Copy)]
 pub struct Origin {
     pub routine: u8,
     // the parent's number; 32 for the root
@@ -30,7 +31,7 @@ pub struct Origin {
 }
 
 // A thread's children, and what its forks have left to it beside them.
-#[derive(Drop)]
+#[derive(Clone, Copy)]
 pub struct Family {
     pub window: Window,
     // one bit for each pending slot
@@ -40,7 +41,7 @@ pub struct Family {
 }
 
 // A thread record. Its parts stand as its bytes do in the tables, so that they are copied together.
-#[derive(Drop)]
+#[derive(Clone, Copy)]
 pub struct Thread {
     // its next command's first byte, from its routine's start
     pub position: u16,
@@ -52,7 +53,7 @@ pub struct Thread {
 }
 
 // The effect of a command, computed from the thread's own slots, pending slots and window alone.
-#[derive(Drop)]
+#[derive(Clone, Copy)]
 pub enum Effect {
     // the command faults by 9, 10, 11, 12 or 31
     Faults(u8),
