@@ -1,4 +1,4 @@
-/* Images as Intel HEX: link libabi_hex.a, which `rt staticlib abi_hex` writes to target/staticlib/. */
+/* Images as Intel HEX: link libabi_hex.a, which `rt lib` in crates/abi_hex writes to its folder out/. */
 #ifndef HOFNULDA_HEX_H
 #define HOFNULDA_HEX_H
 

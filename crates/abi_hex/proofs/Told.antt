@@ -2,9 +2,9 @@
 use mathlib.Core.List.{List}
 use mathlib.Core.Path.{◌≡◌, ap, ◌∙◌}
 use Prim.Native.Nat.{ℕ}
-use Rattle.hex.specs.declared.HexWritten.{HexWritten}
-use Rattle.hex.specs.declared.HexRead.{HexRead}
-use Rattle.hex.specs.Answers.{hex_written, text_after, HexWrites, hex_read, bytes_after, HexReads}
+use Rattle.intel_hex.specs.declared.HexWritten.{HexWritten}
+use Rattle.intel_hex.specs.declared.HexRead.{HexRead}
+use Rattle.intel_hex.specs.Answers.{hex_written, text_after, HexWrites, hex_read, bytes_after, HexReads}
 use Rattle.abi_hex.specs.Words.{written_words, read_words}
 
 module _ {before after words : List ℕ} where

@@ -1,10 +1,10 @@
 -- The answers of writing and reading as two words of an array.
 use Rattle.std.specs.Prelude.{List, [], ◌∷◌, ℕ}
-use Rattle.hex.specs.declared.HexWritten.{HexWritten}
-use Rattle.hex.specs.declared.HexWritten.TheVariants.{Characters, BadImage, NoRoom as NoTextRoom}
-use Rattle.hex.specs.declared.HexRead.{HexRead}
-use Rattle.hex.specs.declared.HexRead.TheVariants.{Bytes, Malformed, BadChecksum, BadSpan, NoRoom as NoByteRoom}
-use Rattle.hex.specs.Answers.{number_of_hex_written, number_of_hex_read}
+use Rattle.intel_hex.specs.declared.HexWritten.{HexWritten}
+use Rattle.intel_hex.specs.declared.HexWritten.TheVariants.{Characters, BadImage, NoRoom as NoTextRoom}
+use Rattle.intel_hex.specs.declared.HexRead.{HexRead}
+use Rattle.intel_hex.specs.declared.HexRead.TheVariants.{Bytes, Malformed, BadChecksum, BadSpan, NoRoom as NoByteRoom}
+use Rattle.intel_hex.specs.Answers.{number_of_hex_written, number_of_hex_read}
 
 -- a refused call: 0 and the number
 abbrev pub refused_words : ℕ → List ℕ

@@ -1,11 +1,13 @@
 // Images as Intel HEX for C and Rust programs, in a library of its own: lent slices in, two words of an array out. A slice is passed as a
 // pointer and a length, an array as a pointer.
+#![tactic(auto)]
+
 ghost use Rattle.std.specs.Prelude.{◌≡◌};
-ghost use Rattle.hex.specs.Answers.{hex_written, text_after, hex_read, bytes_after};
+ghost use Rattle.intel_hex.specs.Answers.{hex_written, text_after, hex_read, bytes_after};
 ghost use Rattle.abi_hex.specs.Words.{written_words, read_words};
 
-use hex::{HexRead, HexWritten};
 use image::number::number_of;
+use intel_hex::{HexRead, HexWritten};
 
 fn written_words(answer: HexWritten) -> [usize; 2]
     ensures { result ≡ written_words answer }
@@ -35,7 +37,7 @@ pub extern "C" fn hofnulda_hex_write(image: &[u8], text: &mut [u8], answer: &mut
     ensures answer_after { answer.new ≡ written_words (hex_written image.now text.old) }
     ensures text_after { text.new ≡ text_after (hex_written image.now text.old) image.now text.old }
 {
-    let written = hex::write(image, text);
+    let written = intel_hex::write(image, text);
     *answer = written_words(written);
 }
 
@@ -45,6 +47,6 @@ pub extern "C" fn hofnulda_hex_read(text: &[u8], bytes: &mut [u8], answer: &mut 
     ensures answer_after { answer.new ≡ read_words (hex_read text.now bytes.old) }
     ensures bytes_after { bytes.new ≡ bytes_after (hex_read text.now bytes.old) text.now bytes.old }
 {
-    let read = hex::read(text, bytes);
+    let read = intel_hex::read(text, bytes);
     *answer = read_words(read);
 }

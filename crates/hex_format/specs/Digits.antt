@@ -1,5 +1,5 @@
 -- Characters, by their ASCII codes, and hexadecimal digits.
-use Rattle.std.specs.Prelude.{Bool, cond, ◌&&◌, ◌||◌, ℕ, ◌+◌, ◌*◌, ◌-◌, ltb, leb}
+use Rattle.std.specs.Prelude.{Bool, cond, ◌&&◌, ◌||◌, ℕ, ◌+◌, ◌-◌, ltb, leb}
 
 abbrev pub colon : ℕ
 colon = 58

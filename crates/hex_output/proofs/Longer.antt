@@ -15,9 +15,9 @@ use Rattle.image.specs.Image.{image_verdict}
 use Rattle.hex_format.specs.Lines.{before, text_lines}
 use Rattle.hex_format.specs.Record.{bytes_from, count_of, data_of}
 use Rattle.hex_format.specs.Reading.{malformed, said_by}
-use Rattle.hex.specs.Answers.{ReadsAs, hex_written}
-use Rattle.hex.proofs.RecordLaws.{formed, data-parts, end-parts, Good, end, more, good}
-use Rattle.hex.proofs.Canonical.{below-64k}
+use Rattle.intel_hex.specs.Answers.{ReadsAs, hex_written}
+use Rattle.intel_hex.proofs.RecordLaws.{formed, data-parts, end-parts, Good, end, more, good}
+use Rattle.intel_hex.proofs.Canonical.{below-64k}
 use Rattle.hex_output.specs.Output.{refused_line, write_output}
 
 too_long : (image : List ℕ) → 4096 < length image → image_verdict image ≡ Rejected BadLength

@@ -1,4 +1,4 @@
--- What `read_output` puts, by the answer of `hex::read`. Assumes nothing.
+-- What `read_output` puts, by the answer of `intel_hex::read`. Assumes nothing.
 use mathlib.Core.Bool.{Bool, true, false, cond}
 use mathlib.Core.List.{List, ◌++◌}
 use mathlib.Core.Path.{◌≡◌, refl, ap, sym, ◌∙◌}
@@ -8,12 +8,12 @@ use borrow.Author.Tests.{leb-true}
 use lib.Dec.{leb}
 use lib.ListN.{length, drop}
 use Rattle.text.specs.Buffer.{Put}
-use Rattle.hex.specs.declared.HexRead.{HexRead}
-use Rattle.hex.specs.declared.HexRead.TheVariants.{Bytes, Malformed, BadChecksum, BadSpan, NoRoom as NoByteRoom}
+use Rattle.intel_hex.specs.declared.HexRead.{HexRead}
+use Rattle.intel_hex.specs.declared.HexRead.TheVariants.{Bytes, Malformed, BadChecksum, BadSpan, NoRoom as NoByteRoom}
 use Rattle.hex_format.specs.Lines.{text_lines}
 use Rattle.hex_format.specs.Reading.{said_by}
-use Rattle.hex.specs.Answers.{number_of_hex_read, bytes_in, verdict_of, within, hex_read, bytes_after, HexReads}
-use Rattle.hex.proofs.Canonical.{below-64k}
+use Rattle.intel_hex.specs.Answers.{number_of_hex_read, bytes_in, verdict_of, within, hex_read, bytes_after, HexReads}
+use Rattle.intel_hex.proofs.Canonical.{below-64k}
 use Rattle.hex_output.specs.Output.{refused_line, ReadsOutput}
 use Rattle.hex_output.proofs.Fronts.{laid, refused-for, few-refused}
 

@@ -1,4 +1,4 @@
--- What `write_output` puts, by the answer of `hex::write`. Assumes nothing.
+-- What `write_output` puts, by the answer of `intel_hex::write`. Assumes nothing.
 use mathlib.Core.Bool.{Bool, true, false, cond}
 use mathlib.Core.List.{List, ◌++◌}
 use mathlib.Core.Path.{◌≡◌, refl, ap, sym, ◌∙◌}
@@ -14,10 +14,10 @@ use Rattle.image.specs.declared.Verdict.TheVariants.{Accepted, Rejected}
 use Rattle.image.specs.Image.{number_of_refusal, image_verdict}
 use Rattle.image.proofs.Accepted.{accepted}
 use Rattle.text.specs.Buffer.{Put}
-use Rattle.hex.specs.declared.HexWritten.{HexWritten}
-use Rattle.hex.specs.declared.HexWritten.TheVariants.{Characters, BadImage, NoRoom as NoTextRoom}
+use Rattle.intel_hex.specs.declared.HexWritten.{HexWritten}
+use Rattle.intel_hex.specs.declared.HexWritten.TheVariants.{Characters, BadImage, NoRoom as NoTextRoom}
 use Rattle.hex_format.specs.Text.{hex_of}
-use Rattle.hex.specs.Answers.{number_of_hex_written, characters_of, written_for, hex_written, text_after, text_length, HexWrites}
+use Rattle.intel_hex.specs.Answers.{number_of_hex_written, characters_of, written_for, hex_written, text_after, text_length, HexWrites}
 use Rattle.hex_output.specs.Output.{refused_line, WritesOutput}
 use Rattle.hex_output.proofs.Fronts.{laid, refused-for, few-refused}
 

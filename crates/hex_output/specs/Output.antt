@@ -5,7 +5,7 @@ use Rattle.text.specs.Buffer.{Put}
 use Rattle.hex_format.specs.Text.{hex_of}
 use Rattle.hex_format.specs.Lines.{text_lines}
 use Rattle.hex_format.specs.Reading.{said_by}
-use Rattle.hex.specs.Answers.{number_of_hex_written, hex_written, number_of_hex_read, hex_read}
+use Rattle.intel_hex.specs.Answers.{number_of_hex_written, hex_written, number_of_hex_read, hex_read}
 
 -- "or alone `refused` number", as the print program says it
 abbrev pub refused_line : ℕ → List ℕ

@@ -1,0 +1,3 @@
+-- The answers, and what only the code's contracts need.
+pub mod Answers
+pub mod Found
