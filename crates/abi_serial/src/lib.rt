@@ -1,5 +1,7 @@
 // The serial run for C and Rust programs, in a library of its own: what a command does is one function, which the compiler puts in line in
 // the serial run's loop only where no other loop calls it. A slice is passed as a pointer and a length, an array as a pointer.
+#![tactic(auto)]
+
 ghost use Rattle.std.specs.Prelude.{◌≡◌, List, ℕ};
 ghost use Rattle.image.specs.Layout.{program_of, starts_in};
 ghost use Rattle.thread.specs.Job.{job_of};

@@ -1,4 +1,4 @@
--- The whole_run tests of the serial run in their order, and what they give: a good job and a good first routine. Assumes nothing.
+-- The whole-run tests of the serial run in their order, and what they give: a good job and a good first routine. Assumes nothing.
 use mathlib.Core.List.{List}
 use mathlib.Core.Path.{◌≡◌, sym, ◌∙◌, ap}
 use Prim.Native.Nat.{ℕ, ◌-◌, ◌≤◌, ◌<◌}

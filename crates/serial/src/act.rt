@@ -47,6 +47,7 @@ fn word_at(parameters: &[u32], memory: &[u32], address: u32) -> u32
 
 // Writes the slot or the word that an effect changes, and says what is left to the run. An effect by which the routine goes on tells the
 // number of the command's bytes, so that the next position does not wait for a table.
+#[tactic(auto, unfolding(crate::specs::Steps::slots_after, crate::specs::Steps::memory_after, crate::specs::Steps::asked_of))]
 pub fn carry_out(
     effect: Effect,
     slots: &mut [u32; 16],

@@ -1,4 +1,5 @@
 // The serial run (document 01's plain run): each fork is a call.
+#![tactic(auto)]
 
 mod act;
 mod frame;
@@ -25,7 +26,7 @@ use image::routines::arguments_of;
 use window::{Cut, Window};
 
 // An open routine, as the definition of the run has it. The code holds its parts.
-#[derive(Drop)]
+#[derive(Clone, Copy)]
 pub struct Routine {
     pub routine: u8,
     pub position: u16,
@@ -36,14 +37,14 @@ pub struct Routine {
 }
 
 // How the run ended, with its units: finished with a result, or by a number.
-#[derive(Drop)]
+#[derive(Clone, Copy)]
 pub enum SerialAnswer {
     Returned(u32, u32),
     Stopped(u8, u32),
 }
 
 // What an effect leaves to the run once its slot or its word is written.
-#[derive(Drop)]
+#[derive(Clone, Copy)]
 enum Ask {
     // the routine goes on at a position
     GoOn(u16),
@@ -60,14 +61,14 @@ enum Ask {
 }
 
 // How a routine ended, with what is left of the allowance: by a number, or with a value.
-#[derive(Drop)]
+#[derive(Clone, Copy)]
 enum Ending {
     ByNumber(u8, u32),
     ByReturn(u32, u32),
 }
 
 // Where a turn led, with what is left of the allowance.
-#[derive(Drop)]
+#[derive(Clone, Copy)]
 enum Turn {
     // behind a join: the position
     AfterJoin(u16, u32),

@@ -8,7 +8,7 @@ use thread::pending::with_pending;
 use window::Window;
 
 // An open routine's place: the position of its next command, one bit for each pending slot, its window, and what is left of the allowance.
-#[derive(Drop)]
+#[derive(Clone, Copy)]
 pub struct Place {
     pub routine: u8,
     pub position: u16,

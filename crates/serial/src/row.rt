@@ -12,7 +12,7 @@ use effects::effect;
 use window::{Share, Window};
 
 // A fork: where it cuts the window, the child's routine, the slot for its result, the first argument's slot, and its weight.
-#[derive(Drop)]
+#[derive(Clone, Copy)]
 pub struct Fork {
     pub cut: u32,
     pub routine: u8,
@@ -22,7 +22,7 @@ pub struct Fork {
 }
 
 // What ended a row, with what is left of the allowance.
-#[derive(Drop)]
+#[derive(Clone, Copy)]
 pub enum Row {
     // a join: the position behind it, and what is left then
     AtJoin(u16, u32),

@@ -1,39 +1,32 @@
--- The entry lemma: what each entry of a schedule is to the theory. Refused, it changes nothing; accepted, it leaves the pool as it is, or is
--- one step of the pool, or the root's return; faulting, its thread's act is a halt. Assumes a sound state whose result slots lie in the
--- parents' frames.
+-- The entry lemma: what each entry of a schedule is to the theory (`Moves`). Assumes a sound state whose result slots lie in the parents'
+-- frames.
 use mathlib.Core.Bool.{Bool, true, false, cond}
 use mathlib.Core.List.{List}
-use mathlib.Core.Logic.{◌⊎◌, inl, inr, ⊎_elim}
-use mathlib.Core.Path.{◌≡◌, refl, sym, ◌∙◌, ap, subst}
-use Prim.Native.Nat.{ℕ, ◌+◌, ◌-◌, ◌≤◌, ◌<◌}
+use mathlib.Core.Logic.{⊎_elim}
+use mathlib.Core.Path.{◌≡◌, refl, sym, ◌∙◌, subst}
+use Prim.Native.Nat.{ℕ, ◌+◌, ◌<◌}
 use native.Mathlib.Omega.{arith}
 use Rattle.image.specs.Layout.{routine_count}
 use Rattle.schedule.specs.declared.Entry.{Entry}
-use Rattle.window.specs.declared.Window.{Window}
 use Rattle.window.proofs.Instance.{windows}
-use Rattle.forkjoin.proofs.Language.{halt, ret}
-use Rattle.forkjoin.proofs.ThreadPool.{Link, root, used}
 use Rattle.thread.specs.declared.Effect.TheVariants.{Faults, Lforks, Forks, Returns}
 use Rattle.thread.specs.declared.Status.{Status}
 use Rattle.thread.specs.declared.Status.TheVariants.{Ready, Suspended, Waiting}
 use Rattle.thread.specs.declared.Thread.{Thread}
-use Rattle.thread.specs.Effect.{IsFault}
 use Rattle.thread.specs.Thread.{status_number, is_root, disconnected, none}
-use Rattle.thread.proofs.ThreadState.{ThreadState}
-use Rattle.thread.proofs.CarriedThreads.{does}
 use Rattle.thread.proofs.MarkedWindows.{window-tests}
 use Rattle.thread.proofs.ThreadSteps.{ThreadStep, does-fault}
 use Rattle.rules.specs.declared.ForkKind.{ForkKind}
 use Rattle.rules.specs.declared.ForkKind.TheVariants.{Called, Queued, Stolen}
-use Rattle.rules.specs.State.{Job, State, After, going, finished, faulted, thread_at}
-use Rattle.rules.specs.Update.{accepted, refused, set_thread, set_core, set_ready}
+use Rattle.rules.specs.State.{Job, State, going, thread_at}
+use Rattle.rules.specs.Update.{accepted, set_thread, set_core, set_ready}
 use Rattle.rules.specs.Turn.{Turn, turn_at, effect_at, goes_on, faults, offset_of}
 use Rattle.rules.specs.Leave.{leaves, runs}
 use Rattle.rules.specs.Fork.{Asked, asked, born, handed}
 use Rattle.rules.specs.Return.{return_of, return_to_parent}
 use Rattle.rules.specs.Rules.{entry_of}
 use Rattle.rules.specs.Sound.{GoodJob, Sound, Used}
-use Rattle.soundness.proofs.Tested.{fault-tested, no-fault}
+use Rattle.soundness.proofs.Tested.{fault-tested}
 use Rattle.soundness.proofs.EntryCases.{Stepped, Chosen, above, on_free, Forked, StepCases, Cases, entry-by}
 use Rattle.soundness.proofs.ThreadsMet.{runner, waiter-used, lent-used, linked-parent}
 use Rattle.simulation.proofs.JobCode.{weight_in, code_of}
@@ -44,82 +37,7 @@ use Rattle.simulation.proofs.ForkStep.{Room, room-above, room-free, lforks-goes,
 use Rattle.simulation.proofs.ReturnStep.{returns, root-cell, returns-goes}
 use Rattle.simulation.proofs.SamePool.{runs-pool, leaves-pool, enable-pool}
 use Rattle.simulation.proofs.UsedThreads.{ready-used, moved-used, moved-parent}
-
-module _ (j : Job) (good : GoodJob j) (s : State) where
-  -- an accepted entry that the pool does not see: a take, an enable, a join that waits
-  pub record Rests (a : After) : Type 0 where
-    pub log : a.log ≡ 0
-    pub ongoing : a.state.outcome ≡ going
-    pub pool : pool_of j a.state ≡ pool_of j s
-
-  -- an accepted entry that is a step of a thread
-  pub record Steps (a : After) : Type 0 where
-    pub log : a.log ≡ 0
-    pub ongoing : a.state.outcome ≡ going
-    pub thread : ℕ
-    pub step : ThreadStep windows window-tests (code_of j good) thread (pool_of j s) (pool_of j a.state)
-
-  -- the accepted entry by which the root returns
-  pub record Finishes (a : After) : Type 0 where
-    pub log : a.log ≡ 0
-    pub thread : ℕ
-    pub result : ℕ
-    pub over : a.state.outcome ≡ finished result
-    pub last : ThreadState Window
-    pub is-root : (pool_of j s).cell thread ≡ used last root
-    pub returns : does windows window-tests (code_of j good) 0 last ≡ ret result
-    pub memory : a.state.store.memory ≡ s.store.memory
-    pub units : a.state.units ≡ s.units + weight_in j last.routine last.position
-    pub paid : a.state.units ≤ j.allowance
-
-  -- an entry that faults
-  pub record FaultsBy (a : After) : Type 0 where
-    pub number : ℕ
-    pub fault : IsFault number
-    pub thread : ℕ
-    pub offset : ℕ
-    pub halted : ThreadState Window
-    pub link : Link
-    pub there : (pool_of j s).cell thread ≡ used halted link
-    pub halts : does windows window-tests (code_of j good) 0 halted ≡ halt number
-    pub log : a.log ≡ number
-    pub over : a.state.outcome ≡ faulted number thread offset
-    pub pool : pool_of j a.state ≡ pool_of j s
-
-  -- what an entry is to the pool
-  pub data Moves (a : After) : Type 0 where
-    refuses : (n : ℕ) → 14 ≤ n → n ≤ 22 → a ≡ refused n s → Moves a
-    rests : s.outcome ≡ going → Rests a → Moves a
-    steps : s.outcome ≡ going → Steps a → Moves a
-    finishes : s.outcome ≡ going → Finishes a → Moves a
-    faults-by : s.outcome ≡ going → FaultsBy a → Moves a
-
-  -- by the log byte: 0 is accepted, 9 to 12 and 31 a fault, any other a refusal
-  pub data Accepted (a : After) : Type 0 where
-    resting : Rests a → Accepted a
-    stepping : Steps a → Accepted a
-    finishing : Finishes a → Accepted a
-
-  pub accepted-moves : (a : After) → Moves a → a.log ≡ 0 → Accepted a
-  accepted-moves a (refuses n l m e) z = absurd (let y = ap (λ b. b.log) e in omega arith)
-  accepted-moves a (rests o m) z = resting m
-  accepted-moves a (steps o m) z = stepping m
-  accepted-moves a (finishes o m) z = finishing m
-  accepted-moves a (faults-by o m) z = absurd (let y = m.log in no-fault m.number m.fault (inl (omega arith)))
-
-  pub faulted-moves : (a : After) → Moves a → IsFault a.log → FaultsBy a
-  faulted-moves a (refuses n l m e) x = absurd (let z = ap (λ b. b.log) e in no-fault a.log x (inr (omega arith, omega arith)))
-  faulted-moves a (rests o m) x = absurd (let z = m.log in no-fault a.log x (inl (omega arith)))
-  faulted-moves a (steps o m) x = absurd (let z = m.log in no-fault a.log x (inl (omega arith)))
-  faulted-moves a (finishes o m) x = absurd (let z = m.log in no-fault a.log x (inl (omega arith)))
-  faulted-moves a (faults-by o m) x = m
-
-  pub refused-moves : (a : After) → Moves a → 13 ≤ a.log → a.log ≤ 30 → a.state ≡ s
-  refused-moves a (refuses n l m e) x y = ap (λ b. b.state) e
-  refused-moves a (rests o m) x y = absurd (let z = m.log in omega arith)
-  refused-moves a (steps o m) x y = absurd (let z = m.log in omega arith)
-  refused-moves a (finishes o m) x y = absurd (let z = m.log in omega arith)
-  refused-moves a (faults-by o m) x y = absurd (let z = m.log in no-fault m.number m.fault (inr (omega arith, omega arith)))
+pub use Rattle.simulation.proofs.Moves.{Rests, Steps, Finishes, FaultsBy, Moves, refuses, rests, steps, finishes, faults-by, Accepted, resting, stepping, finishing, accepted-moves, faulted-moves, refused-moves}
 
 -- who leaves a core, and where a child goes, are no part of the outcome
 leaves-outcome : (c t : ℕ) (x : Status) (s : State) → (leaves c t x s).outcome ≡ s.outcome

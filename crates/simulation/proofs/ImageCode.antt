@@ -1,6 +1,6 @@
 -- An accepted image gives the theory's routines: the command at a routine's position is the one that stands there in the image. Where no
 -- command starts, which no thread comes to, a join is read. Assumes nothing.
-use mathlib.Core.Bool.{Bool, true, false, cond, ◌&&◌}
+use mathlib.Core.Bool.{Bool, true, false, cond}
 use mathlib.Core.List.{List}
 use mathlib.Core.Path.{◌≡◌, refl}
 use Prim.Native.Nat.{ℕ, ◌+◌, ◌≤◌, ◌<◌}
@@ -8,7 +8,6 @@ use native.Mathlib.Omega.{arith}
 use lib.Dec.{ltb}
 use lib.ListN.{get_or}
 use borrow.Author.Tests.{ltb-true, lt-ltb}
-use Rattle.command.specs.declared.Command.{Command}
 use Rattle.command.specs.declared.Command.TheVariants.{Join}
 use Rattle.command.specs.Command.{decoded_at, width_of}
 use Rattle.command.specs.Weight.{weight_of}
@@ -22,20 +21,8 @@ use Rattle.image.proofs.Accepted.{Accepts, accepted}
 use Rattle.image.proofs.Laws.{placed, slots-most}
 use Rattle.thread.proofs.Routines.{Code, InRange}
 use Rattle.met.proofs.Operands.{InFrame, in_frame, in-range}
-
--- does a command of routine r start at position p?
-abbrev pub is_command : List ℕ → ℕ → ℕ → Bool
-is_command image r p = ltb r (routine_count image) && is_start (commands_of (code_of image r)) p
-
--- its first byte
-abbrev pub first_byte : List ℕ → ℕ → ℕ → ℕ
-first_byte image r p = get_or image (start_of image r + p) 0
-
-unfoldable pub fetch_of : List ℕ → ℕ → ℕ → Command
-fetch_of image r p = cond (is_command image r p) (decoded_at image (start_of image r + p)) Join
-
-unfoldable pub weight_at : List ℕ → List ℕ → ℕ → ℕ → ℕ
-weight_at image weights r p = cond (is_command image r p) (weight_of weights (first_byte image r p)) 1
+unfoldable pub use Rattle.simulation.proofs.Fetched.{fetch_of, weight_at}
+pub use Rattle.simulation.proofs.Fetched.{is_command, first_byte}
 
 pub is-command : (image : List ℕ) (r p : ℕ) → r < routine_count image → is_start (commands_of (code_of image r)) p ≡ true → is_command image r p ≡ true
 is-command image r p h st = rw (lt-ltb r (routine_count image) h) st

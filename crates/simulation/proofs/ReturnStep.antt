@@ -2,7 +2,7 @@
 -- last command. The frame that goes is cleared, which no other frame sees. Assumes a sound state and a thread in use.
 use mathlib.Core.Bool.{Bool, true, false, cond}
 use mathlib.Core.List.{List, []}
-use mathlib.Core.Logic.{◌⊎◌, ⊎_elim, ite}
+use mathlib.Core.Logic.{⊎_elim, ite}
 use mathlib.Core.Path.{◌≡◌, refl, sym, ◌∙◌, ap, subst, fun_ext}
 use Prim.Native.Nat.{ℕ, ◌+◌, ◌<◌}
 use native.Mathlib.Decide.{ℕ_discrete, dec_lt}

@@ -3,11 +3,11 @@
 use mathlib.Core.List.{List}
 use mathlib.Core.Logic.{◌⊎◌}
 use mathlib.Core.Path.{◌≡◌}
-use Prim.Native.Nat.{ℕ, ◌-◌, ◌<◌}
+use Prim.Native.Nat.{ℕ, ◌<◌}
 use Rattle.schedule.specs.declared.Entry.{Entry}
 use Rattle.thread.specs.declared.Effect.TheVariants.{Faults, Sets, Loads, Stores, Goes, Continues, Lforks, Forks, Joins, Suspends, Yields, Returns, Shares}
 use Rattle.thread.specs.declared.Status.TheVariants.{Ready, Suspended, Waiting}
-use Rattle.thread.specs.Thread.{moved_to, joined_at, shared_at, with_status, ◌is◌}
+use Rattle.thread.specs.Thread.{moved_to, joined_at, shared_at, with_status}
 use Rattle.thread.specs.Job.{word_at}
 use Rattle.rules.specs.declared.ForkKind.TheVariants.{Called, Queued, Stolen}
 use Rattle.rules.specs.State.{Job, State, going, faulted, thread_at}

@@ -1,9 +1,9 @@
 -- Every entry, whatever its log byte, changes frames and windows in one of three ways (`entry-change`). Assumes nothing.
 use mathlib.Core.Bool.{Bool, true, false, cond, ◌&&◌}
 use mathlib.Core.List.{List, ◌∷◌}
-use mathlib.Core.Logic.{◌⊎◌, inl, inr, ⊎_elim}
+use mathlib.Core.Logic.{◌⊎◌, ⊎_elim}
 use mathlib.Core.Path.{◌≡◌, refl, sym, ◌∙◌, ap}
-use Prim.Native.Nat.{ℕ, ◌+◌, ◌-◌, ◌/◌, ◌≤◌, ◌<◌}
+use Prim.Native.Nat.{ℕ, ◌+◌, ◌/◌, ◌≤◌, ◌<◌}
 use native.Mathlib.Decide.{ℕ_discrete}
 use native.Mathlib.Omega.{arith}
 use lib.ListN.{get_or, set, length, length-set}
@@ -21,7 +21,7 @@ use Rattle.thread.specs.declared.Thread.{Thread}
 use Rattle.thread.specs.declared.Status.{Status}
 use Rattle.thread.specs.declared.Status.TheVariants.{Running, Ready, Suspended, Waiting}
 use Rattle.thread.specs.declared.Effect.TheVariants.{Sets, Loads, Lforks, Forks, Joins, Returns, Shares}
-use Rattle.thread.specs.Thread.{status_number, blank_thread, origin_of, new_thread, with_status, disconnected, moved_to, joined_at, shared_at, behind_fork, without_child, is_root, none, ◌is◌}
+use Rattle.thread.specs.Thread.{status_number, blank_thread, origin_of, new_thread, with_status, disconnected, moved_to, joined_at, shared_at, behind_fork, without_child, is_root, none}
 use Rattle.rules.proofs.Laws.{child-in-use, parent-in-use}
 use Rattle.rules.specs.declared.ForkKind.{ForkKind}
 use Rattle.rules.specs.declared.ForkKind.TheVariants.{Called, Queued, Stolen}
@@ -29,7 +29,7 @@ use Rattle.rules.specs.State.{Job, State, going, finished, thread_at}
 use Rattle.rules.specs.Update.{set_thread, set_core, set_outcome}
 use Rattle.rules.specs.Turn.{effect_at, turn_at, completed, goes_on}
 use Rattle.rules.specs.Leave.{runs, leaves}
-use Rattle.rules.specs.Fork.{born, goes-above, is_connected, child_status, parent_status}
+use Rattle.rules.specs.Fork.{born, goes_above, is_connected, child_status, parent_status}
 use Rattle.rules.specs.Return.{freed, wakes, status_after, return_to_parent, return_of}
 use Rattle.rules.specs.Rules.{entry_of}
 use Rattle.rules.specs.Lists.{Every}
@@ -150,9 +150,9 @@ module _ (j : Job) (s : State) (ok : Sound j s) where
       (record { routine = refl; parent = refl; result = refl; base = refl; was = λ x. x; still = λ x. x }) (shares x m.low m.high refl)
 
   -- what goes above its parent's frame finds it topmost, and fits
-  goes-above : (kind : ForkKind) (t r : ℕ) → goes-above j s kind (thread_at s t) r ≡ true
+  goes-above : (kind : ForkKind) (t r : ℕ) → goes_above j s kind (thread_at s t) r ≡ true
       → (is_topmost s.store.tops (thread_at s t).origin.base (size_at j s t) ≡ true) × (fits_on s.store.tops ((thread_at s t).origin.base / 64) (slots_of j.image r) ≡ true)
-  unfolding goes-above
+  unfolding goes_above
   goes-above kind t r g =
       both _ _ (both (is_connected kind) (is_topmost s.store.tops (thread_at s t).origin.base (size_at j s t) && fits_on s.store.tops ((thread_at s t).origin.base / 64) (slots_of j.image r)) g).1
 

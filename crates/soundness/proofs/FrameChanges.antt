@@ -3,7 +3,7 @@
 use mathlib.Core.Bool.{Bool, true}
 use mathlib.Core.List.{List, ◌∷◌}
 use mathlib.Core.Path.{◌≡◌, refl, ◌∙◌}
-use Prim.Native.Nat.{ℕ, ◌+◌, ◌-◌, ◌/◌, ◌≤◌, ◌<◌}
+use Prim.Native.Nat.{ℕ, ◌+◌, ◌/◌, ◌≤◌, ◌<◌}
 use native.Mathlib.Decide.{ℕ_discrete, dec_lt}
 use native.Mathlib.Omega.{arith}
 use lib.ListN.{get_or, set, length}
@@ -15,7 +15,7 @@ use Rattle.stacklets.specs.Tops.{top_at, base_on, fits_on, pushed_tops, popped_t
 use Rattle.stacklets.specs.Frames.{wiped, pushed_words}
 use Rattle.thread.specs.declared.Thread.{Thread}
 use Rattle.thread.specs.declared.Status.{Status}
-use Rattle.thread.specs.Thread.{status_number, blank_thread, origin_of, new_thread, ◌is◌}
+use Rattle.thread.specs.Thread.{status_number, blank_thread, origin_of, new_thread}
 use Rattle.rules.specs.State.{Job, State, thread_at}
 use Rattle.rules.specs.Return.{stacklets_without}
 use Rattle.rules.specs.Sound.{Used, status_at, size_at, window_held, IsFreeWord}

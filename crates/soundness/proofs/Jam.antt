@@ -17,6 +17,7 @@ use Rattle.soundness.proofs.LentThreads.{not-both}
 use Rattle.soundness.proofs.ForkTree.{Unfinished, child-some, among-some}
 use Rattle.soundness.proofs.Tested.{fault-tested, no-fault}
 use Rattle.soundness.proofs.Parts.{going-unfinished}
+pub use Rattle.soundness.proofs.Lacks.{Lacks}
 use Rattle.soundness.proofs.Logs.{StepLog, step_over, step_no_core, step_idle, step_dear, step_faults, step_few_threads, step_few_stacklets, step_accepted, step-log, TakeLog, take_over, take_no_core, take_busy, take_empty, take_accepted, take-log}
 
 -- Where no core runs anything, nothing is ready and nothing is suspended, each thread in use waits or is lent, so it has a child in use,
@@ -80,10 +81,6 @@ search P d (suc n) = go (d n) (search P d n)
 -- a log byte that is a refusal, neither 0 nor a fault's number
 abbrev pub Refused : ℕ → Type 0
 Refused n = (14 ≤ n) × (n ≤ 22)
-
--- "20: no free thread number. 21: a stacklet is needed and none is free. 22: .. pass the allowance"
-abbrev pub Lacks : ℕ → Type 0
-Lacks n = (n ≡ 20) ⊎ ((n ≡ 21) ⊎ (n ≡ 22))
 
 -- a busy core's step is refused for lack of something only
 busy-lacks : (j : Job) (s : State) (c : ℕ) → s.outcome ≡ going → c < s.count → on_core s c < none → (n : ℕ) → StepLog j s c n → Refused n → Lacks n

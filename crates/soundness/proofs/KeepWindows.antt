@@ -9,11 +9,10 @@ use Rattle.schedule.specs.declared.Entry.{Entry}
 use Rattle.window.specs.declared.Window.{Window}
 use Rattle.window.specs.Rights.{span_from, span_to, rest_of, Fits}
 use Rattle.window.proofs.Laws.{Span, shared, handed-on, span_of, child_fits, rest-fits, sharing-fits, rejoined-fits}
-use Rattle.rules.specs.State.{Job, State, thread_at}
+use Rattle.rules.specs.State.{Job, State}
 use Rattle.rules.specs.Rules.{entry_of}
 use Rattle.rules.specs.Sound.{Sound, Windows, Used, parent_at, window_held, GivenBy}
 use Rattle.soundness.proofs.Changes.{used_low}
-use Rattle.soundness.proofs.ForkTree.{Childless}
 use Rattle.soundness.proofs.FrameChanges.{Turned, kept, rejoins, shares, Steady, Birth, Ending, Change, steady, birth, ending, Family, newborn, elder, child_of_birth, family, not-newborn, survivor}
 use Rattle.soundness.proofs.ThreadsMet.{parent_of, child-not-root}
 use Rattle.soundness.proofs.EntryChanges.{entry-change}

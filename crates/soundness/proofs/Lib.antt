@@ -35,6 +35,7 @@ pub mod KeepPlaced
 pub mod KeepSized
 pub mod Kept
 pub mod Logs
+pub mod Lacks
 pub mod Jam
 pub mod Finished
 pub mod Exactly

@@ -2,7 +2,7 @@
 -- Said once of a status k and a queue; `Turns` and `FreeThreads` follow. A change leaves the queue alone, takes its head, or adds at
 -- its tail, where there is room by `appended-new`. Assumes nothing.
 use mathlib.Core.List.{List, [], ◌∷◌, ◌++◌}
-use mathlib.Core.Logic.{◌⊎◌, ⊎_elim}
+use mathlib.Core.Logic.{⊎_elim}
 use mathlib.Core.Path.{◌≡◌, sym, ◌∙◌, ap, subst}
 use Prim.Native.Nat.{ℕ, ◌<◌}
 use native.Mathlib.Decide.{ℕ_discrete}

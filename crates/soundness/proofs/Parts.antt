@@ -1,7 +1,7 @@
 -- Every entry keeps the six parts of soundness that are about threads, cores and queues, whatever its log byte. Assumes nothing but
 -- that the state before is sound.
 use mathlib.Core.Bool.{false}
-use mathlib.Core.Logic.{◌⊎◌, inl, inr, ⊎_elim}
+use mathlib.Core.Logic.{inl, inr, ⊎_elim}
 use mathlib.Core.Path.{◌≡◌, refl, ◌∙◌}
 use Prim.Native.Nat.{ℕ, ◌<◌}
 use native.Mathlib.Omega.{arith}

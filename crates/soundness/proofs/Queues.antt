@@ -4,7 +4,7 @@ use mathlib.Core.Bool.{Bool, true, false, cond}
 use mathlib.Core.List.{List, [], ◌∷◌, ◌++◌}
 use mathlib.Core.Logic.{◌⊎◌, inl, inr, ⊎_elim}
 use mathlib.Core.Path.{◌≡◌, refl, sym, ◌∙◌, ap, subst}
-use Prim.Native.Nat.{ℕ, zero, suc, ◌+◌, ◌<◌, ◌≤◌}
+use Prim.Native.Nat.{ℕ, zero, suc, ◌<◌, ◌≤◌}
 use native.Mathlib.Decide.{ℕ_discrete}
 use native.Mathlib.Omega.{arith}
 use lib.Dec.{eqb}
@@ -21,6 +21,7 @@ every_map f (x ∷ xs) h = (f x h.0, every_map f xs h.1)
 
 -- what holds of every number holds of a member
 pub every-member : (P : ℕ → Type 0) (xs : List ℕ) → Every P xs → (x : ℕ) → Member x xs → P x
+every-member P [] h x m = elim m [ ]
 every-member P (y ∷ ys) h x m = ⊎_elim (λ e. subst P (sym e) h.0) (λ k. every-member P ys h.1 x k) m
 
 -- what holds of all members holds of every number
@@ -34,6 +35,7 @@ every-last P (x ∷ xs) n h p = (h.0, every-last P xs n h.1 p)
 
 -- MEMBER
 pub member-left : (u : ℕ) (xs ys : List ℕ) → Member u xs → Member u (xs ++ ys)
+member-left u [] ys h = elim h [ ]
 member-left u (x ∷ xs) ys h = ⊎_elim (λ e. inl e) (λ k. inr (member-left u xs ys k)) h
 
 pub member-last : (u : ℕ) (xs : List ℕ) → Member u (xs ++ (u ∷ []))
@@ -102,6 +104,7 @@ without n (x ∷ xs) = cond (eqb n x) xs (x ∷ without n xs)
 
 without-stays : (n x : ℕ) (xs : List ℕ) → ¬ (x ≡ n) → Member x xs → Member x (without n xs)
 unfolding without
+without-stays n x [] d m = elim m [ ]
 without-stays n x (y ∷ ys) d m = go (eqb n y) refl (λ k. without-stays n x ys d k)
   where
     go : (b : Bool) → eqb n y ≡ b → (Member x ys → Member x (without n ys)) → Member x (cond b ys (y ∷ without n ys))
@@ -110,6 +113,7 @@ without-stays n x (y ∷ ys) d m = go (eqb n y) refl (λ k. without-stays n x ys
 
 without-shorter : (n : ℕ) (xs : List ℕ) → Member n xs → suc (length (without n xs)) ≡ length xs
 unfolding without
+without-shorter n [] m = elim m [ ]
 without-shorter n (y ∷ ys) m = go (eqb n y) refl (λ k. without-shorter n ys k)
   where
     go : (b : Bool) → eqb n y ≡ b → (Member n ys → suc (length (without n ys)) ≡ length ys)

@@ -10,7 +10,7 @@ use native.Mathlib.Omega.{arith}
 use borrow.Author.Tests.{lt-ltb, le-ltb, lt-leb, le-leb}
 use Rattle.thread.specs.declared.Effect.TheVariants.{Faults}
 use Rattle.thread.specs.Effect.{IsFault}
-use Rattle.thread.specs.Thread.{none, ◌is◌}
+use Rattle.thread.specs.Thread.{none}
 use Rattle.rules.specs.declared.ForkKind.{ForkKind}
 use Rattle.rules.specs.State.{Job, State, going, is_over, thread_at, on_core}
 use Rattle.rules.specs.Turn.{Turn, turn_at, effect_at}

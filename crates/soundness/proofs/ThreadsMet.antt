@@ -3,12 +3,12 @@ use mathlib.Core.Bool.{true, false}
 use mathlib.Core.List.{List, ◌∷◌}
 use mathlib.Core.Logic.{◌⊎◌, ⊎_elim}
 use mathlib.Core.Path.{◌≡◌}
-use Prim.Native.Nat.{ℕ, ◌-◌, ◌<◌}
+use Prim.Native.Nat.{ℕ, ◌<◌}
 use native.Mathlib.Omega.{arith}
 use borrow.Author.Tests.{leb-false}
 use Rattle.thread.specs.declared.Effect.{Effect}
 use Rattle.thread.specs.declared.Effect.TheVariants.{Lforks, Forks}
-use Rattle.thread.specs.Thread.{is_root, none, ◌is◌}
+use Rattle.thread.specs.Thread.{is_root, none}
 use Rattle.rules.specs.State.{Job, State, thread_at}
 use Rattle.rules.specs.Turn.{effect_at}
 use Rattle.rules.specs.Lists.{Every}

@@ -1,4 +1,6 @@
 // What a fork, a return and a join make of the threads that they concern, by the rules: small tests, with no table at hand.
+#![tactic(auto)]
+
 ghost use Rattle.std.specs.Prelude.{cond, ◌&&◌, ◌||◌, ◌≡◌, ◌%◌, eqb, ltb};
 ghost use Rattle.thread.specs.Thread.{none};
 ghost use Rattle.rules.specs.Fork.{child_status, parent_status, is_connected};
@@ -45,6 +47,7 @@ pub fn is_connected(kind: ForkKind) -> bool
 }
 
 // Does a parent, whose record is q, become ready when a child of its ends?
+#[tactic(auto, unfolding(rules::specs::Return::wakes))]
 pub fn does_wake(connected: bool, q: Thread) -> bool
     ensures { result ≡ wakes connected q }
 {
@@ -59,6 +62,7 @@ pub fn does_wake(connected: bool, q: Thread) -> bool
 }
 
 // A parent's status, whose record was q, once a child of its has ended.
+#[tactic(auto, unfolding(rules::specs::Return::status_after))]
 pub fn status_after(connected: bool, q: Thread) -> Status
     ensures { result ≡ status_after connected q }
 {

@@ -1,6 +1,7 @@
 // The machine's tables in one lent slice of bytes: where each part stands, how it is read and how it is stored. This crate alone knows the
 // layout (`cells` has the bytes of one thread record); those above know of the bytes what they mean (`meaning`). Nothing is asked of the caller:
 // a number of a thread, core or stacklet is taken by its remainder, and tables of another size are read as nothing and never changed.
+#![tactic(auto)]
 
 pub mod frames;
 pub mod lines;
@@ -12,7 +13,7 @@ pub mod records;
 pub const SIZE: usize = 904;
 
 // How the machine stands.
-#[derive(Drop)]
+#[derive(Clone, Copy)]
 pub enum Standing {
     Going,
     Over(u32),
