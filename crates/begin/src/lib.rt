@@ -1,4 +1,5 @@
 // What stands before a run's first entry: the whole-run tests, the machine at Start, and where the routines' codes start.
+#![tactic(auto)]
 
 mod refusal;
 
@@ -12,7 +13,7 @@ use image::number::image_number;
 use start::start;
 
 // A run at its beginning.
-#[derive(Drop)]
+#[derive(Clone, Copy)]
 pub struct Begun {
     // the number of the first whole-run test that is met, or 0
     pub number: u8,

@@ -1,7 +1,7 @@
 -- T-04's promise holds at every state of a run (`shared-reading`). What one thread may store and another may load is the fork-join theory's: the
 -- windows of two threads are apart. The rest is soundness and the changes that an entry can make. Assumes nothing.
 use mathlib.Core.Bool.{Bool, true, false, cond, true≢false}
-use mathlib.Core.List.{List, []}
+use mathlib.Core.List.{List}
 use mathlib.Core.Logic.{◌⊎◌, inl, inr}
 use mathlib.Core.Path.{◌≡◌, refl, sym, ◌∙◌, ap}
 use Prim.Native.Nat.{ℕ, zero, suc, ◌+◌, ◌-◌, ◌≤◌, ◌<◌}
@@ -30,11 +30,10 @@ use Rattle.rules.specs.Fork.{Asked, asked, born, handed}
 use Rattle.rules.specs.Return.{freed, return_of, return_to_parent}
 use Rattle.rules.specs.Rules.{entry_of}
 use Rattle.rules.specs.Runs.{run_from}
-use Rattle.rules.specs.Start.{start_state}
 use Rattle.rules.specs.Sound.{GoodJob, Sound, Used, parent_at, window_held, GivenBy}
 use Rattle.soundness.proofs.Entries.{Stepped, Kept, entry-by}
 use Rattle.soundness.proofs.ForkTree.{Childless}
-use Rattle.soundness.proofs.FrameChanges.{Turned, kept, rejoins, shares, Steady, Birth, Ending, Change, steady, birth, ending, elder-stays, not-newborn}
+use Rattle.soundness.proofs.FrameChanges.{Turned, kept, rejoins, shares, Change, steady, birth, ending, elder-stays, not-newborn}
 use Rattle.soundness.proofs.EntryChanges.{entry-change}
 use Rattle.soundness.proofs.ThreadsMet.{runner, parent_of}
 use Rattle.simulation.proofs.StatePool.{pool_of, link_of, thread_of, cell-used}

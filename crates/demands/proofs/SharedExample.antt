@@ -1,10 +1,9 @@
 -- T-04's promise has something to speak of: a run in which the root shares 1,020 to 1,023, its child shares nothing and its grandchild reads them.
 -- The first word and the last one are shared and read, those beside them are not. Assumes nothing.
-use mathlib.Core.List.{List, [], ◌∷◌, ◌++◌}
+use mathlib.Core.List.{[], ◌∷◌, ◌++◌}
 use mathlib.Core.Path.{◌≡◌, refl, ap}
-use Prim.Native.Nat.{ℕ, ◌<◌}
 use native.Mathlib.Omega.{arith}
-use lib.ListN.{get_or, replicate}
+use lib.ListN.{replicate}
 use Rattle.command.specs.Command.{command_at, decoded}
 use Rattle.image.specs.Layout.{start_of, rows_of, starts_up_to}
 use Rattle.image.specs.Code.{commands_from, commands_of, verdict_from, last_ends, is_start, targets_good, routine_verdict}
@@ -12,7 +11,6 @@ use Rattle.image.specs.Image.{rows_good, in_range, routines_verdict, image_verdi
 use Rattle.schedule.specs.declared.Entry.TheVariants.{Step}
 use Rattle.schedule.specs.Meaning.{schedule_of, entries_of}
 use Rattle.queue.specs.Contents.{appended}
-use Rattle.window.specs.declared.Window.{Window}
 use Rattle.window.specs.Rights.{may_store, may_load, cut_at, share_at}
 use Rattle.stacklets.specs.Tops.{fits_on, pushed_tops}
 use Rattle.stacklets.specs.Frames.{arguments_at, framed, pushed_words}
@@ -26,7 +24,7 @@ use Rattle.rules.specs.Return.{stacklets_without, wakes, status_after, ready_aft
 use Rattle.rules.specs.Rules.{carried_of, turn_of, step_of, take_into, take_of, is_seed, stolen_of, steal_of, enable_of, entry_of}
 use Rattle.rules.specs.Start.{start_state}
 use Rattle.rules.specs.Runs.{run_from, logs_from}
-use Rattle.rules.specs.Sound.{Used, status_at, parent_at, window_held}
+use Rattle.rules.specs.Sound.{status_at, parent_at, window_held}
 use Rattle.demands.specs.Input.{Input, refusal_of}
 use Rattle.demands.specs.Demands.{state_after}
 use Rattle.demands.specs.Shared.{Shares, Reads, Ancestor, parent, further}

@@ -1,7 +1,9 @@
 // What a run is given and what is demanded of it, as definitions (specs/): a run is a fold of the rules, and no code stands beside them.
 
+#![tactic(auto)]
+
 // What a run answers.
-#[derive(Drop)]
+#[derive(Clone, Copy)]
 pub enum RunAnswer {
     // a whole-run test is met; nothing was written
     Refused(u8),

@@ -7,7 +7,6 @@ use Prim.Native.Nat.{ℕ, ◌<◌}
 use native.Mathlib.Omega.{arith}
 use Rattle.queue.specs.declared.Front.TheVariants.{Number}
 use Rattle.queue.specs.Contents.{contents, front_of, tail_of, appended, capacity, Dequeues, Enqueues}
-use Rattle.thread.specs.Thread.{◌is◌}
 use Rattle.dispatch.specs.Orderly.{HeadBelow}
 
 -- the first number of a queue whose head is below k

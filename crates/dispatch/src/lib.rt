@@ -1,5 +1,7 @@
 // The ready queue's entries, carried out in place in lent tables: an idle core takes its head, and a suspended thread joins it. Each is its rule
 // (crate `rules`).
+#![tactic(auto)]
+
 ghost use Rattle.std.specs.Prelude.{List, ◌≡◌, ℕ, length};
 ghost use Rattle.rules.specs.Rules.{take_of, enable_of};
 ghost use Rattle.tables.specs.Meaning.{size, meaning};

@@ -5,7 +5,7 @@ use Rattle.tables.specs.Change.{Becomes, charges, pops, set_units}
 use Rattle.thread.specs.declared.Thread.{Thread}
 use Rattle.thread.specs.declared.Status.{Status}
 use Rattle.thread.specs.declared.Status.TheVariants.{Running}
-use Rattle.thread.specs.Thread.{with_status, disconnected, ◌is◌}
+use Rattle.thread.specs.Thread.{with_status, disconnected}
 use Rattle.rules.specs.State.{State, thread_at}
 use Rattle.rules.specs.Update.{set_thread, set_core, set_tops, charge}
 use Rattle.rules.specs.Leave.{leaves}

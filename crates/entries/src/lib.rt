@@ -1,4 +1,5 @@
 // The machine's entries, carried out in place in lent tables, words and memory. Each is its rule (crate `rules`).
+#![tactic(auto)]
 
 mod carry;
 mod fork;
@@ -20,7 +21,7 @@ use dispatch::{enable, take};
 use schedule::Entry;
 
 // An entry was carried out once and then so often again, and the last one's log byte.
-#[derive(Drop)]
+#[derive(Clone, Copy)]
 pub struct Carried {
     pub again: usize,
     pub log: u8,

@@ -8,7 +8,7 @@ use std::num::wrapping_add_u16;
 use thread::Effect;
 
 // What carrying out an effect gave.
-#[derive(Drop)]
+#[derive(Clone, Copy)]
 pub enum Own {
     // done: the next position
     Moved(u16),

@@ -34,7 +34,7 @@ use Rattle.rules.specs.State.{Job}
 use Rattle.rules.specs.Sound.{GoodJob}
 use Rattle.simulation.proofs.ImageCode.{is_command, first_byte, weight_at, stood}
 use Rattle.simulation.proofs.JobCode.{code_of as jobCode}
-use Rattle.lonecore.specs.Commands.{one-each, counting_job}
+use Rattle.lonecore.specs.Commands.{one_each, counting_job}
 
 -- a row that is no command, or weighs 1
 abbrev is_one : ℕ → ℕ → Bool
@@ -53,11 +53,11 @@ one_at (x ∷ xs) [] h i l = let z : ◌≡◌ {A = ℕ} 0 1 = cc in absurd (ome
 one_at (x ∷ xs) (y ∷ ys) h zero l = eqb-true y 1 (ap (λ b. cond b (eqb y 1) true) (sym (le-leb 1 x l)) ∙ (both (is_one x y) (are_ones xs ys) h).0)
 one_at (x ∷ xs) (y ∷ ys) h (suc i) l = one_at xs ys (both (is_one x y) (are_ones xs ys) h).1 i l
 
-one-each : (byte : ℕ) → 1 ≤ width_of byte → weight_of one-each byte ≡ 1
-one-each byte h = one_at widths one-each refl byte h
+one-each : (byte : ℕ) → 1 ≤ width_of byte → weight_of one_each byte ≡ 1
+one-each byte h = one_at widths one_each refl byte h
 
 module _ (j : Job) (good : GoodJob j) where
-  pub ones-weigh : (byte : ℕ) → 1 ≤ width_of byte → 1 ≤ weight_of one-each byte
+  pub ones-weigh : (byte : ℕ) → 1 ≤ width_of byte → 1 ≤ weight_of one_each byte
   ones-weigh byte h = let z = one-each byte h in omega arith
 
   abbrev pub counting-good : GoodJob (counting_job j)
@@ -72,11 +72,11 @@ module _ (j : Job) (good : GoodJob j) where
   abbrev Local : Type 0
   Local = ThreadState Window
 
-  weight-one : (r p : ℕ) → weight_at j.image one-each r p ≡ 1
+  weight-one : (r p : ℕ) → weight_at j.image one_each r p ≡ 1
   unfolding weight_at
   weight-one r p = go (is_command j.image r p) refl
     where
-      go : (b : Bool) → is_command j.image r p ≡ b → cond b (weight_of one-each (first_byte j.image r p)) 1 ≡ 1
+      go : (b : Bool) → is_command j.image r p ≡ b → cond b (weight_of one_each (first_byte j.image r p)) 1 ≡ 1
       go true h =
           let q = both (ltb r (routine_count j.image)) (is_start (commands_of (code_of j.image r)) p) h in
           one-each (first_byte j.image r p) (stood j.image good.image r p (ltb-true r (routine_count j.image) q.0) q.1).wide

@@ -67,5 +67,6 @@ ready-works s u m = member_right u (running_on s s.count) s.queues.ready m
 
 -- a place where a member stands
 pub member-index : (a : ℕ) (xs : List ℕ) → Member a xs → (k : ℕ) × (k < length xs) × (get_or xs k 0 ≡ a)
+member-index a [] m = elim m [ ]
 member-index a (x ∷ xs) (inl e) = (0, omega arith, sym e)
 member-index a (x ∷ xs) (inr m) = let z = member-index a xs m in (suc z.0, (let l = z.1 in omega arith), z.2)

@@ -1,4 +1,6 @@
 // The machine goes through a schedule's entries.
+#![tactic(auto)]
+
 ghost use Rattle.std.specs.Prelude.{false, List, [], ◌∷◌, ◌++◌, ◌≡◌, ℕ, ◌+◌, ◌≤◌, ◌<◌, min, length, replicate};
 ghost use Rattle.schedule.specs.declared.Entry.TheVariants.{Step};
 ghost use Rattle.rules.specs.State.{job_of};

@@ -1,4 +1,6 @@
 // The tests of a round of the built-in scheduler: whether it goes on, and which entries it writes.
+#![tactic(auto)]
+
 ghost use Rattle.std.specs.Prelude.{not, ◌&&◌, ◌||◌, ◌≡◌, eqb, leb};
 ghost use Rattle.rounds.specs.Rounds.{is_written, usable};
 

@@ -1,4 +1,5 @@
 // A run by a schedule: the whole-run tests, and then the machine from Start through the schedule's entries, one log byte for each.
+#![tactic(auto)]
 
 pub mod tell;
 
@@ -13,7 +14,7 @@ pub use demands::RunAnswer;
 use play::play;
 
 // The answer, with the thread records in each state, as the run left them.
-#[derive(Drop)]
+#[derive(Clone, Copy)]
 pub struct Shown {
     pub answer: RunAnswer,
     pub counts: Census,
@@ -22,7 +23,7 @@ pub struct Shown {
 }
 
 // The same, with the words of its stacklets.
-#[derive(Drop)]
+#[derive(Clone, Copy)]
 pub struct Ran {
     pub answer: RunAnswer,
     pub counts: Census,

@@ -1,4 +1,6 @@
 // The built-in scheduler, document 01's "house run": it makes its own schedule, round by round, and writes the entries it used.
+#![tactic(auto)]
+
 ghost use Rattle.std.specs.Prelude.{[], ℕ};
 ghost use Rattle.start.specs.Start.{Starts};
 ghost use Rattle.begin.specs.Begins.{Begins};
@@ -11,7 +13,7 @@ use run::{Census, RunAnswer};
 use turns::play_rounds;
 
 // The answer, with the thread records in each state, as the run left them.
-#[derive(Drop)]
+#[derive(Clone, Copy)]
 pub struct ScheduleShown {
     pub answer: RunAnswer,
     pub counts: Census,
@@ -22,7 +24,7 @@ pub struct ScheduleShown {
 }
 
 // The same, with the words of its stacklets.
-#[derive(Drop)]
+#[derive(Clone, Copy)]
 pub struct Scheduled {
     pub answer: RunAnswer,
     pub counts: Census,

@@ -1,5 +1,7 @@
 // What a core tries, and which thread is enabled, as the lent tables have it. Nothing is asked of the caller: any number of cores is gone
 // through, and each contract says what tables of another size give, which are read as nothing.
+#![tactic(auto)]
+
 ghost use Rattle.std.specs.Prelude.{◌&&◌, ◌||◌, List, ◌≡◌, ℕ, ◌+◌, eqb, get_or};
 ghost use Rattle.schedule.specs.declared.Entry.TheVariants.{Step, Steal};
 ghost use Rattle.thread.specs.declared.Status.TheVariants.{Lent};

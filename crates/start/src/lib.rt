@@ -1,4 +1,6 @@
 // The machine's tables and the stacklets' words at Start.
+#![tactic(auto)]
+
 ghost use Rattle.std.specs.Prelude.{◌≡◌, length, replicate};
 ghost use Rattle.tables.specs.Change.{Becomes};
 ghost use Rattle.start.specs.Start.{all_free, root_runs, Starts};

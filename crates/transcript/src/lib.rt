@@ -1,4 +1,5 @@
 // What the print program prints of its input: a job is read from bytes and run, and its log and last line are written as text.
+#![tactic(auto)]
 
 mod answer;
 
@@ -29,6 +30,7 @@ fn entry_count(schedule: &[u8]) -> usize
 }
 
 // How many log bytes a run has written: one for each entry, and none where it is refused.
+#[tactic(auto, unfolding(crate::specs::Parts::lines_of))]
 fn lines(answer: RunAnswer, schedule: &[u8]) -> usize
     ensures { result ≡ lines_of answer (schedule_of schedule.now) }
 {

@@ -3,7 +3,7 @@ use borrow.Author.Tests.{le-leb, lt-ltb, le-ltb, leb-true}
 use mathlib.Core.Bool.{or-true, Bool, true, false, cond}
 use mathlib.Core.Logic.{inl, inr}
 use mathlib.Core.Path.{◌≡◌, refl, sym, ◌∙◌}
-use Prim.Native.Nat.{ℕ, ◌≤◌, ◌<◌}
+use Prim.Native.Nat.{ℕ, ◌<◌}
 use native.Mathlib.Omega.{arith}
 use lib.Dec.{eqb, leb}
 use Rattle.schedule.specs.declared.Entry.{Entry}

@@ -1,4 +1,6 @@
 // The rounds of the built-in scheduler: each core in turn tries an entry, and what is accepted or faults is written.
+#![tactic(auto)]
+
 ghost use Rattle.std.specs.Prelude.{◌≡◌, ◌+◌, ◌≤◌, length};
 ghost use Rattle.schedule.specs.Format.{bytes_of_entry, bytes_of_entries};
 ghost use Rattle.rules.specs.State.{job_of};
