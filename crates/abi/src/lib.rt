@@ -1,5 +1,5 @@
-// Image check and runs by schedule for C and Rust programs: numbers and lent slices in, words of an array out. A slice is passed as a pointer and a length, an
-// array as a pointer.
+// Image check and runs by schedule as C and Rust programs call them: numbers and lent slices in, words of an array out. Crate `abi_c` exports them.
+#![tactic(auto)]
 
 pub mod words;
 
@@ -13,8 +13,7 @@ use crate::words::{answer_words, count_words};
 use image::number::image_number;
 
 // Document 01's number of an image; 0 where it is accepted.
-#[unsafe(no_mangle)]
-pub extern "C" fn hofnulda_check(image: &[u8]) -> u8
+pub fn hofnulda_check(image: &[u8]) -> u8
     ensures { result ≡ number_in (image_verdict image.now) }
 {
     let checked = image::check(image);
@@ -26,8 +25,7 @@ pub extern "C" fn hofnulda_check(image: &[u8]) -> u8
 // or 3 and the units. The thread records are counted by their states: free, running, ready, suspended, waiting, lent. The status of each is
 // told by its number, its place among these. Last come the 1,024 words of the stacklets, as the run left them. Of a refused run all but the
 // answer is Start's.
-#[unsafe(no_mangle)]
-pub extern "C" fn hofnulda_run(
+pub fn hofnulda_run(
     image: &[u8],
     cores: u8,
     arguments: &[u32],

@@ -1,5 +1,7 @@
 // The built-in scheduler for C and Rust programs, in a library of its own, so that the loop of a run by schedule is compiled for itself. A
 // slice is passed as a pointer and a length, an array as a pointer.
+#![tactic(auto)]
+
 ghost use Rattle.demands.specs.Input.{input_of};
 ghost use Rattle.abi.specs.Words.{written};
 ghost use Rattle.abi_scheduler.specs.Told.{ScheduledTold};
