@@ -7,10 +7,14 @@
 // - A line that is empty or begins with `#` is a comment.
 //
 // What cannot be read prints `bad line`, so that it shows where the output is compared.
+#![tactic(auto)]
+
+mod buffers;
 mod fields;
 mod lines;
 mod print;
 
+pub use buffers::{buffer, large_buffer};
 pub use fields::{bytes, digit, number, numbers};
 pub use lines::{after, from_part, key, line};
-pub use print::{print_bytes, print_format, print_text};
+pub use print::{Output, print_bytes, print_format, print_text};

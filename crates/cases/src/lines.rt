@@ -2,7 +2,7 @@
 ghost use Rattle.std.specs.Prelude.{◌-◌, ◌≤◌, ◌⊎◌, ◌≡◌, length, get_or};
 
 use crate::fields::digit;
-use crate::print::{bad_line, print_text};
+use crate::print::{Output, bad_line, print_text};
 
 // The first place of a byte from a position on; the text's length where there is none.
 pub fn find(text: &[u8], at: usize, byte: u8) -> usize
@@ -67,7 +67,7 @@ pub fn count(text: &[u8], byte: u8) -> usize {
 }
 
 // The first letter of a line's keyword, if it is among the keys; else 0. Behind each key stands the number of fields that its lines have, or `*`.
-pub fn key(line: &[u8], keys: &[u8]) -> u8
+pub fn key(out: &mut Output, line: &[u8], keys: &[u8]) -> u8
     ensures { (result ≡ 0) ⊎ (result ≡ get_or line.now 0 0) }
 {
     if line.len() == 0 {
@@ -78,18 +78,18 @@ pub fn key(line: &[u8], keys: &[u8]) -> u8
         return 0;
     }
     if first == b'"' {
-        print_text(&line[1..]);
+        print_text(out, &line[1..]);
         return 0;
     }
-    if has_fields(line, keys, find(keys, 0, first)) {
+    if has_fields(out, line, keys, find(keys, 0, first)) {
         return first;
     }
-    bad_line();
+    bad_line(out);
     0
 }
 
 // Whether a line has as many fields as the key at a place says.
-fn has_fields(line: &[u8], keys: &[u8], place: usize) -> bool {
+fn has_fields(out: &mut Output, line: &[u8], keys: &[u8], place: usize) -> bool {
     if place % 2 == 1 {
         return false;
     }
@@ -102,5 +102,5 @@ fn has_fields(line: &[u8], keys: &[u8], place: usize) -> bool {
     if keys[place + 1] == b'*' {
         return true;
     }
-    digit(keys[place + 1], 10) as usize == count(line, b' ')
+    digit(out, keys[place + 1], 10) as usize == count(line, b' ')
 }

@@ -1,9 +1,10 @@
 // Texts, and the bytes that are read.
-ghost use Rattle.io.specs.Counts.{IsPrefixLen};
+ghost use Rattle.std.specs.Counts.{IsPrefixLen};
 
 use crate::show;
 use crate::show::print;
-use hex::number;
+use cases::Output;
+use intel_hex::number;
 
 fn character(byte: u8) -> u8 {
     match byte {
@@ -29,33 +30,35 @@ fn characters(text: &[u8], buffer: &mut [u8]) -> usize
 }
 
 // Reads into the first bytes of a buffer.
-fn read_into(text: &[u8], bytes: &mut [u8], room: usize) {
+fn read_into(out: &mut Output, text: &[u8], bytes: &mut [u8], room: usize) {
     if room <= bytes.len() {
-        let answer = hex::read(text, &mut bytes[0..room]);
+        let answer = intel_hex::read(text, &mut bytes[0..room]);
         print(
+            out,
             show::READ,
             number::read_number(answer),
             number::bytes(answer),
         );
-        cases::print_bytes(&bytes[0..room]);
-        print(show::END, 0, 0);
+        cases::print_bytes(out, &bytes[0..room]);
+        print(out, show::END, 0, 0);
     }
 }
 
-fn print_read(line: &[u8], text: &[u8]) {
-    cases::print_text(line);
+fn print_read(out: &mut Output, line: &[u8], text: &[u8]) {
+    cases::print_text(out, line);
     let mut bytes = [99u8; 256];
-    read_into(text, &mut bytes, cases::number(line, 1, 256) as usize);
+    let room = cases::number(out, line, 1, 256) as usize;
+    read_into(out, text, &mut bytes, room);
 }
 
-pub fn text(line: &[u8]) {
-    let mut buffer = io::large_buffer();
+pub fn text(out: &mut Output, line: &[u8]) {
+    let mut buffer = cases::large_buffer();
     let n = characters(cases::from_part(line, 2, b' '), &mut buffer);
-    print_read(line, &buffer[..n]);
+    print_read(out, line, &buffer[..n]);
 }
 
-pub fn octets(line: &[u8]) {
-    let mut buffer = io::large_buffer();
-    let n = cases::bytes(line, 2, &mut buffer);
-    print_read(line, &buffer[..n]);
+pub fn octets(out: &mut Output, line: &[u8]) {
+    let mut buffer = cases::large_buffer();
+    let n = cases::bytes(out, line, 2, &mut buffer);
+    print_read(out, line, &buffer[..n]);
 }

@@ -1,4 +1,6 @@
 // What is printed, by its place among the formats of `print`.
+use cases::Output;
+
 pub const READ: usize = 0;
 
 pub const WRITTEN: usize = 1;
@@ -13,8 +15,9 @@ pub const OTHER: usize = 5;
 
 pub const END: usize = 6;
 
-pub fn print(format: usize, number: u8, count: usize) {
+pub fn print(out: &mut Output, format: usize, number: u8, count: usize) {
     cases::print_format(
+        out,
         b" gives # #:/ gives # #\n/|\n/ gives # #,/ the same/ others/\n",
         format,
         number as u64,

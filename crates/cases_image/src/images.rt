@@ -1,6 +1,7 @@
 // Images, their numbers and their programs.
 use crate::show;
 use crate::show::print;
+use cases::Output;
 use image::{Program, Refusal, Verdict};
 
 fn number_of(verdict: Verdict) -> u64 {
@@ -19,23 +20,24 @@ fn number_of(verdict: Verdict) -> u64 {
     }
 }
 
-pub fn verdict(line: &[u8]) {
-    let mut buffer = io::large_buffer();
-    let n = cases::bytes(line, 1, &mut buffer);
+pub fn verdict(out: &mut Output, line: &[u8]) {
+    let mut buffer = cases::large_buffer();
+    let n = cases::bytes(out, line, 1, &mut buffer);
     let checked = image::check(&buffer[..n]);
     let verdict = checked.verdict;
-    print(show::ANSWER, number_of(verdict), 0, 0, 0);
+    print(out, show::ANSWER, number_of(verdict), 0, 0, 0);
 }
 
-pub fn image(line: &[u8]) {
-    cases::print_text(line);
-    verdict(line);
+pub fn image(out: &mut Output, line: &[u8]) {
+    cases::print_text(out, line);
+    verdict(out, line);
 }
 
-fn print_row(program: Program, r: usize) {
+fn print_row(out: &mut Output, program: Program, r: usize) {
     if r < 32 {
         let row = program.rows[r];
         print(
+            out,
             show::ROW,
             row.slots as u64,
             row.arguments as u64,
@@ -45,17 +47,17 @@ fn print_row(program: Program, r: usize) {
     }
 }
 
-fn print_program(program: Program) {
-    print(show::COUNT, program.count as u64, 0, 0, 0);
-    print_row(program, 0);
-    print_row(program, 1);
-    print_row(program, 31);
-    print(show::END, 0, 0, 0, 0);
+fn print_program(out: &mut Output, program: Program) {
+    print(out, show::COUNT, program.count as u64, 0, 0, 0);
+    print_row(out, program, 0);
+    print_row(out, program, 1);
+    print_row(out, program, 31);
+    print(out, show::END, 0, 0, 0, 0);
 }
 
-pub fn program(line: &[u8]) {
-    let mut buffer = io::large_buffer();
-    let n = cases::bytes(line, 1, &mut buffer);
+pub fn program(out: &mut Output, line: &[u8]) {
+    let mut buffer = cases::large_buffer();
+    let n = cases::bytes(out, line, 1, &mut buffer);
     let checked = image::check(&buffer[..n]);
-    print_program(checked.program);
+    print_program(out, checked.program);
 }

@@ -8,32 +8,39 @@
 //   into SHORT bytes, one too few.
 // - `read AT BYTES` prints the command at a position and the number of its bytes, or the number that it meets.
 // - `weight N` prints itself and the weight of command byte N.
+#![tactic(auto)]
+
 mod commands;
 mod images;
 mod show;
 
-fn case(line: &[u8]) {
-    match cases::key(line, b"i*v*p*c*r*w1") {
-        b'i' => images::image(line),
-        b'v' => images::verdict(line),
-        b'p' => images::program(line),
-        b'c' => commands::command(line),
-        b'r' => commands::read(line),
-        b'w' => commands::weight(line),
+use cases::Output;
+use std::io;
+
+fn case(out: &mut Output, line: &[u8]) {
+    match cases::key(out, line, b"i*v*p*c*r*w1") {
+        b'i' => images::image(out, line),
+        b'v' => images::verdict(out, line),
+        b'p' => images::program(out, line),
+        b'c' => commands::command(out, line),
+        b'r' => commands::read(out, line),
+        b'w' => commands::weight(out, line),
         _ => {}
     }
 }
 
-fn all(input: &[u8]) {
+fn all(out: &mut Output, input: &[u8]) {
     let mut at: usize = 0;
     while at < input.len() {
-        case(cases::line(input, at));
+        case(out, cases::line(input, at));
         at = cases::after(input, at, b'\n');
     }
 }
 
-fn main() {
-    let mut input = io::large_buffer();
-    let n = io::read_full(0, &mut input);
-    all(&input[..n]);
+fn main(rt: HostRuntime) -> io::Result<()> {
+    let mut input = cases::large_buffer();
+    let n = stream::read_full(&mut rt.stdin(), &mut input)?;
+    let mut out = Output::new(rt.stdout());
+    all(&mut out, &input[..n]);
+    out.finish()
 }

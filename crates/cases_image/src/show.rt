@@ -1,4 +1,5 @@
 // What is printed, by its place among the formats of `print`.
+use cases::Output;
 use command::Command;
 
 pub const END: usize = 0;
@@ -27,8 +28,9 @@ pub const CUT: usize = 11;
 
 pub const SHORT: usize = 12;
 
-pub fn print(format: usize, a: u64, b: u64, c: u64, d: u64) {
+pub fn print(out: &mut Output, format: usize, a: u64, b: u64, c: u64, d: u64) {
     cases::print_format(
+        out,
         b"\n/ #/ #\n/: #\n/: #/; # # # #/read/ at #:/; #\n/write:/ #;/cut:/short:",
         format,
         a,
@@ -39,21 +41,21 @@ pub fn print(format: usize, a: u64, b: u64, c: u64, d: u64) {
 }
 
 // Each byte after a blank, as two hexadecimal digits.
-pub fn print_hex(bytes: &[u8]) {
+pub fn print_hex(out: &mut Output, bytes: &[u8]) {
     let mut i: usize = 0;
     while i < bytes.len() {
-        print_byte(bytes[i]);
+        print_byte(out, bytes[i]);
         i = i + 1;
     }
 }
 
-fn print_byte(n: u8) {
-    io::write_all(1, b" ");
-    io::print_hex(1, n as u64, 2);
+fn print_byte(out: &mut Output, n: u8) {
+    print!(out; " {n:02x}");
 }
 
-fn named(name: usize, a: u8, b: u8, c: u8, d: u8) {
+fn named(out: &mut Output, name: usize, a: u8, b: u8, c: u8, d: u8) {
     cases::print_format(
+        out,
         b" add # # #/ subtract # # #/ load # #/ store # #/ lfork # # # #/ fork # # # #/ join/ suspend/ yield/ return #/ share #",
         name,
         a as u64,
@@ -63,8 +65,9 @@ fn named(name: usize, a: u8, b: u8, c: u8, d: u8) {
     );
 }
 
-fn named_wide(name: usize, a: u16, b: u16) {
+fn named_wide(out: &mut Output, name: usize, a: u16, b: u16) {
     cases::print_format(
+        out,
         b" set # #/ jump if zero # #/ jump #",
         name,
         a as u64,
@@ -75,31 +78,31 @@ fn named_wide(name: usize, a: u16, b: u16) {
 }
 
 // A command as text: its name and its operands in decimal.
-pub fn print_command(c: Command) {
+pub fn print_command(out: &mut Output, c: Command) {
     match c {
-        Command::Set(d, v) => named_wide(0, d as u16, v),
-        Command::JumpIfZero(a, t) => named_wide(1, a as u16, t),
-        Command::Jump(t) => named_wide(2, t, 0),
-        Command::Add(d, a, b) => named(0, d, a, b, 0),
-        Command::Subtract(d, a, b) => named(1, d, a, b, 0),
-        Command::Load(d, a) => named(2, d, a, 0, 0),
-        Command::Store(a, b) => named(3, a, b, 0, 0),
+        Command::Set(d, v) => named_wide(out, 0, d as u16, v),
+        Command::JumpIfZero(a, t) => named_wide(out, 1, a as u16, t),
+        Command::Jump(t) => named_wide(out, 2, t, 0),
+        Command::Add(d, a, b) => named(out, 0, d, a, b, 0),
+        Command::Subtract(d, a, b) => named(out, 1, d, a, b, 0),
+        Command::Load(d, a) => named(out, 2, d, a, 0, 0),
+        Command::Store(a, b) => named(out, 3, a, b, 0, 0),
         Command::Lfork {
             routine,
             result,
             arguments,
             cut,
-        } => named(4, routine, result, arguments, cut),
+        } => named(out, 4, routine, result, arguments, cut),
         Command::Fork {
             routine,
             result,
             arguments,
             cut,
-        } => named(5, routine, result, arguments, cut),
-        Command::Join => named(6, 0, 0, 0, 0),
-        Command::Suspend => named(7, 0, 0, 0, 0),
-        Command::Yield => named(8, 0, 0, 0, 0),
-        Command::Return(a) => named(9, a, 0, 0, 0),
-        Command::Share(a) => named(10, a, 0, 0, 0),
+        } => named(out, 5, routine, result, arguments, cut),
+        Command::Join => named(out, 6, 0, 0, 0, 0),
+        Command::Suspend => named(out, 7, 0, 0, 0, 0),
+        Command::Yield => named(out, 8, 0, 0, 0, 0),
+        Command::Return(a) => named(out, 9, a, 0, 0, 0),
+        Command::Share(a) => named(out, 10, a, 0, 0, 0),
     }
 }

@@ -10,22 +10,28 @@
 // - `serial 1 ARGUMENTS` prints how the serial run ended.
 // - `run CORES ARGUMENTS` prints how a run by schedule ended, and whether its memory is the serial run's.
 // - `built_in CORES ARGUMENTS` prints the same of the built-in scheduler's run, and then of a run by the entries that it wrote.
+#![tactic(auto)]
+
 mod patterns;
 mod runs;
 mod show;
 
-fn all(input: &[u8]) {
+use cases::Output;
+use std::io;
+
+fn all(out: &mut Output, input: &[u8]) {
     let mut image: usize = 0;
     let mut entries: usize = 0;
     let mut at: usize = 0;
     while at < input.len() {
         let line = cases::line(input, at);
-        let key = cases::key(line, b"i*e*s*r*b*");
+        let key = cases::key(out, line, b"i*e*s*r*b*");
         match key {
             b'i' => image = at,
             b'e' => entries = at,
             0 => {}
             _ => runs::run(
+                out,
                 key,
                 line,
                 cases::line(input, image),
@@ -36,8 +42,10 @@ fn all(input: &[u8]) {
     }
 }
 
-fn main() {
-    let mut input = io::large_buffer();
-    let n = io::read_full(0, &mut input);
-    all(&input[..n]);
+fn main(rt: HostRuntime) -> io::Result<()> {
+    let mut input = cases::large_buffer();
+    let n = stream::read_full(&mut rt.stdin(), &mut input)?;
+    let mut out = Output::new(rt.stdout());
+    all(&mut out, &input[..n]);
+    out.finish()
 }

@@ -7,7 +7,9 @@
 //
 // The numbers look random; they are below 65,536.
 ghost use Rattle.std.specs.Prelude.{◌<◌};
-ghost use Rattle.io.specs.Counts.{IsPrefixLen};
+ghost use Rattle.std.specs.Counts.{IsPrefixLen};
+
+use cases::Output;
 
 fn next_number(x: u32) -> u32 {
     (x % 65536 * 1103 + 12345) % 65536
@@ -28,15 +30,15 @@ fn thread(k: usize, more: u8) -> u8
 }
 
 // A word's byte, in block k, with number x.
-fn byte_of(kind: u8, letter: u8, k: usize, x: u32) -> u8 {
+fn byte_of(out: &mut Output, kind: u8, letter: u8, k: usize, x: u32) -> u8 {
     match kind {
-        b't' => thread(k, cases::digit(letter, 10)),
+        b't' => thread(k, cases::digit(out, letter, 10)),
         b'u' => 31 - thread(k, 0),
         b'p' => (x / 256 % 4) as u8,
         b'q' => (x / 256 % 5) as u8,
         b'r' => (x / 8 % 33) as u8,
         b's' => (x / 2048 % 4) as u8,
-        _ => cases::digit(kind, 16) * 16 + cases::digit(letter, 16),
+        _ => cases::digit(out, kind, 16) * 16 + cases::digit(out, letter, 16),
     }
 }
 
@@ -63,7 +65,7 @@ fn next_word(pattern: &[u8], at: usize) -> usize {
 }
 
 // Fills the front of a buffer with `size` bytes of a pattern, and gives their number.
-pub fn fill(pattern: &[u8], size: usize, buffer: &mut [u8]) -> usize
+pub fn fill(out: &mut Output, pattern: &[u8], size: usize, buffer: &mut [u8]) -> usize
     ensures { IsPrefixLen result buffer.new }
 {
     let mut n: usize = 0;
@@ -76,7 +78,7 @@ pub fn fill(pattern: &[u8], size: usize, buffer: &mut [u8]) -> usize
         }
         let kind = letter_at(pattern, at, 0);
         x = number_for(kind, x);
-        buffer[n] = byte_of(kind, letter_at(pattern, at, 1), k, x);
+        buffer[n] = byte_of(out, kind, letter_at(pattern, at, 1), k, x);
         at = next_word(pattern, at);
         if at == 0 {
             k = k + 1;

@@ -1,4 +1,5 @@
 // How runs ended, and whether their memory is the serial run's.
+use cases::Output;
 use run::RunAnswer;
 use serial::SerialAnswer;
 
@@ -20,8 +21,9 @@ const ANOTHER: usize = 7;
 
 pub const ITS_ENTRIES: usize = 8;
 
-pub fn print(format: usize, a: u32, b: u32, c: u32) {
+pub fn print(out: &mut Output, format: usize, a: u32, b: u32, c: u32) {
     cases::print_format(
+        out,
         b"\nserial: finished # #\n/\nserial: stopped # #\n/: refused #/: finished # #/: faulted # # #/: open #/, memory as in the serial run\n/, another memory\n/its entries",
         format,
         a as u64,
@@ -31,23 +33,23 @@ pub fn print(format: usize, a: u32, b: u32, c: u32) {
     );
 }
 
-pub fn print_serial(answer: SerialAnswer) {
+pub fn print_serial(out: &mut Output, answer: SerialAnswer) {
     match answer {
-        SerialAnswer::Returned(result, units) => print(SERIAL_FINISHED, result, units, 0),
-        SerialAnswer::Stopped(number, units) => print(SERIAL_STOPPED, number as u32, units, 0),
+        SerialAnswer::Returned(result, units) => print(out, SERIAL_FINISHED, result, units, 0),
+        SerialAnswer::Stopped(number, units) => print(out, SERIAL_STOPPED, number as u32, units, 0),
     }
 }
 
-pub fn print_answer(answer: RunAnswer) {
+pub fn print_answer(out: &mut Output, answer: RunAnswer) {
     match answer {
-        RunAnswer::Refused(n) => print(REFUSED, n as u32, 0, 0),
-        RunAnswer::Finished { result, units } => print(FINISHED, result, units, 0),
+        RunAnswer::Refused(n) => print(out, REFUSED, n as u32, 0, 0),
+        RunAnswer::Finished { result, units } => print(out, FINISHED, result, units, 0),
         RunAnswer::Faulted {
             number,
             thread,
             offset,
-        } => print(FAULTED, number as u32, thread as u32, offset as u32),
-        RunAnswer::Open { units } => print(OPEN, units, 0, 0),
+        } => print(out, FAULTED, number as u32, thread as u32, offset as u32),
+        RunAnswer::Open { units } => print(out, OPEN, units, 0, 0),
     }
 }
 
@@ -62,10 +64,10 @@ fn same(a: [u32; 992], b: [u32; 992]) -> bool {
     true
 }
 
-pub fn print_compared(memory: [u32; 992], serial: [u32; 992]) {
+pub fn print_compared(out: &mut Output, memory: [u32; 992], serial: [u32; 992]) {
     if same(memory, serial) {
-        print(SAME, 0, 0, 0);
+        print(out, SAME, 0, 0, 0);
     } else {
-        print(ANOTHER, 0, 0, 0);
+        print(out, ANOTHER, 0, 0, 0);
     }
 }

@@ -2,6 +2,7 @@
 // COUNT` push a frame on stacklet S, `frame drop BASE SIZE` pops it, and `frame set BASE K VALUE` sets a slot. `frame top S`, `frame fits S
 // SIZE` and `frame words BASE` print the words behind the first, and the answer; of words, five from a base on. `frame highest BASE SIZE`
 // prints whether a frame is the topmost.
+use cases::Output;
 use stacklets::Stacklets;
 
 const NUMBER: usize = 2;
@@ -9,8 +10,9 @@ const NUMBER: usize = 2;
 const FOUR: usize = 3;
 
 // Formats 0 and 1 are for a test that is false or true.
-fn print(format: usize, a: u32, b: u32, c: u32, d: u32) {
+fn print(out: &mut Output, format: usize, a: u32, b: u32, c: u32, d: u32) {
     cases::print_format(
+        out,
         b" no\n/ yes\n/ #\n/: # # # #",
         format,
         a as u64,
@@ -20,79 +22,94 @@ fn print(format: usize, a: u32, b: u32, c: u32, d: u32) {
     );
 }
 
-fn print_five(words: &[u32; 1024], base: u16) {
+fn print_five(out: &mut Output, words: &[u32; 1024], base: u16) {
     print(
+        out,
         FOUR,
         stacklets::slot(words, base, 0),
         stacklets::slot(words, base, 1),
         stacklets::slot(words, base, 2),
         stacklets::slot(words, base, 3),
     );
-    print(NUMBER, stacklets::slot(words, base, 4), 0, 0, 0);
+    print(out, NUMBER, stacklets::slot(words, base, 4), 0, 0, 0);
 }
 
-fn byte(line: &[u8], k: usize) -> u8 {
-    cases::number(line, k, 255) as u8
+fn byte(out: &mut Output, line: &[u8], k: usize) -> u8 {
+    cases::number(out, line, k, 255) as u8
 }
 
-fn base(line: &[u8], k: usize) -> u16 {
-    cases::number(line, k, 65535) as u16
+fn base(out: &mut Output, line: &[u8], k: usize) -> u16 {
+    cases::number(out, line, k, 65535) as u16
 }
 
-fn push_arguments(line: &[u8], s: Stacklets, words: &mut [u32; 1024]) -> Stacklets {
+fn push_arguments(
+    out: &mut Output,
+    line: &[u8],
+    s: Stacklets,
+    words: &mut [u32; 1024],
+) -> Stacklets {
     let mut arguments = [0u32; 4];
-    let n = cases::numbers(line, 3, &mut arguments);
-    s.push_arguments(words, byte(line, 1), byte(line, 2), &arguments[..n])
-}
-
-fn push(line: &[u8], s: Stacklets, words: &mut [u32; 1024]) -> Stacklets {
-    s.push(
+    let n = cases::numbers(out, line, 3, &mut arguments);
+    s.push_arguments(
         words,
-        byte(line, 1),
-        byte(line, 2),
-        base(line, 3),
-        byte(line, 4),
+        byte(out, line, 1),
+        byte(out, line, 2),
+        &arguments[..n],
     )
 }
 
-fn set_slot(line: &[u8], words: &mut [u32; 1024]) {
-    let value = cases::number(line, 3, 4294967295) as u32;
-    stacklets::set_slot(words, base(line, 1), byte(line, 2), value);
+fn push(out: &mut Output, line: &[u8], s: Stacklets, words: &mut [u32; 1024]) -> Stacklets {
+    s.push(
+        words,
+        byte(out, line, 1),
+        byte(out, line, 2),
+        base(out, line, 3),
+        byte(out, line, 4),
+    )
 }
 
-fn print_case(key: u8, line: &[u8], s: Stacklets, words: &[u32; 1024]) {
-    cases::print_text(line);
+fn set_slot(out: &mut Output, line: &[u8], words: &mut [u32; 1024]) {
+    let value = cases::number(out, line, 3, 4294967295) as u32;
+    stacklets::set_slot(words, base(out, line, 1), byte(out, line, 2), value);
+}
+
+fn print_case(out: &mut Output, key: u8, line: &[u8], s: Stacklets, words: &[u32; 1024]) {
+    cases::print_text(out, line);
     match key {
-        b't' => print(NUMBER, s.top(byte(line, 1)) as u32, 0, 0, 0),
-        b'f' => print(s.fits(byte(line, 1), byte(line, 2)) as usize, 0, 0, 0, 0),
-        b'w' => print_five(words, base(line, 1)),
+        b't' => {
+            let top = s.top(byte(out, line, 1));
+            print(out, NUMBER, top as u32, 0, 0, 0);
+        }
+        b'f' => {
+            let fits = s.fits(byte(out, line, 1), byte(out, line, 2));
+            print(out, fits as usize, 0, 0, 0, 0);
+        }
+        b'w' => {
+            let from = base(out, line, 1);
+            print_five(out, words, from);
+        }
         _ => {}
     }
 }
 
-pub fn case(line: &[u8], s: Stacklets, words: &mut [u32; 1024]) -> Stacklets {
-    let key = cases::key(line, b"n0a*p4d2s3t1f2h2w1");
+pub fn case(out: &mut Output, line: &[u8], s: Stacklets, words: &mut [u32; 1024]) -> Stacklets {
+    let key = cases::key(out, line, b"n0a*p4d2s3t1f2h2w1");
     match key {
         b'n' => Stacklets::new(),
-        b'a' => push_arguments(line, s, words),
-        b'p' => push(line, s, words),
-        b'd' => s.pop(words, base(line, 1), byte(line, 2)),
+        b'a' => push_arguments(out, line, s, words),
+        b'p' => push(out, line, s, words),
+        b'd' => s.pop(words, base(out, line, 1), byte(out, line, 2)),
         b's' => {
-            set_slot(line, words);
+            set_slot(out, line, words);
             s
         }
         b'h' => {
-            print(
-                s.is_topmost(base(line, 1), byte(line, 2)) as usize,
-                0,
-                0,
-                0,
-                0,
-            );
+            let topmost = s.is_topmost(base(out, line, 1), byte(out, line, 2));
+            print(out, topmost as usize, 0, 0, 0, 0);
             s
         }
         _ => {
-            print_case(key, line, s, words);
+            print_case(out, key, line, s, words);
             s
         }
     }

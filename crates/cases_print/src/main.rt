@@ -4,26 +4,33 @@
 //
 // - `print BYTES` prints the transcript of an input.
 // - `length BYTES` prints the length of the transcript, and what a buffer of 24 bytes has of it.
+#![tactic(auto)]
+
 mod transcripts;
 
-fn case(line: &[u8]) {
-    match cases::key(line, b"p*l*") {
-        b'p' => transcripts::print(line),
-        b'l' => transcripts::length(line),
+use cases::Output;
+use std::io;
+
+fn case(out: &mut Output, line: &[u8]) {
+    match cases::key(out, line, b"p*l*") {
+        b'p' => transcripts::print(out, line),
+        b'l' => transcripts::length(out, line),
         _ => {}
     }
 }
 
-fn all(input: &[u8]) {
+fn all(out: &mut Output, input: &[u8]) {
     let mut at: usize = 0;
     while at < input.len() {
-        case(cases::line(input, at));
+        case(out, cases::line(input, at));
         at = cases::after(input, at, b'\n');
     }
 }
 
-fn main() {
-    let mut input = io::large_buffer();
-    let n = io::read_full(0, &mut input);
-    all(&input[..n]);
+fn main(rt: HostRuntime) -> io::Result<()> {
+    let mut input = cases::large_buffer();
+    let n = stream::read_full(&mut rt.stdin(), &mut input)?;
+    let mut out = Output::new(rt.stdout());
+    all(&mut out, &input[..n]);
+    out.finish()
 }

@@ -11,21 +11,27 @@
 // - `count CORES ALLOWANCE ARGUMENTS` prints of such a run also how many thread records are free, running, ready, suspended, waiting and lent.
 // - `words CORES ALLOWANCE ARGUMENTS` prints, at such a run's start and after each of its entries, which words of the stacklets are not zero, each
 //   as its number and its value; of a refused run, the answer alone.
+#![tactic(auto)]
+
 mod runs;
 mod words;
 
-fn all(input: &[u8]) {
+use cases::Output;
+use std::io;
+
+fn all(out: &mut Output, input: &[u8]) {
     let mut image: usize = 0;
     let mut schedule: usize = 0;
     let mut at: usize = 0;
     while at < input.len() {
         let line = cases::line(input, at);
-        let key = cases::key(line, b"i*s*r*c*w*");
+        let key = cases::key(out, line, b"i*s*r*c*w*");
         match key {
             b'i' => image = at,
             b's' => schedule = at,
             0 => {}
             _ => runs::run(
+                out,
                 key,
                 line,
                 cases::line(input, image),
@@ -36,8 +42,10 @@ fn all(input: &[u8]) {
     }
 }
 
-fn main() {
-    let mut input = io::large_buffer();
-    let n = io::read_full(0, &mut input);
-    all(&input[..n]);
+fn main(rt: HostRuntime) -> io::Result<()> {
+    let mut input = cases::large_buffer();
+    let n = stream::read_full(&mut rt.stdin(), &mut input)?;
+    let mut out = Output::new(rt.stdout());
+    all(&mut out, &input[..n]);
+    out.finish()
 }
