@@ -1,4 +1,4 @@
-//! Links the binaries that call the proved crates with the archives in `target/staticlib`, which `rt staticlib` writes.
+//! Links the binaries that call the proved crates with the archives in `target/staticlib`, where `bench/run.sh` puts them.
 use std::path::Path;
 
 const RUNS: [&str; 3] = ["abi", "abi_serial", "abi_scheduler"];

@@ -14,11 +14,18 @@ cd "$(dirname "$0")/.."
 what=${1:-test}
 [ $# -eq 0 ] || shift
 
+# Builds a static library, and puts it under its name where the benchmarks link it.
+archive() { # CRATE NAME
+    (cd "crates/$1" && rt lib)
+    mkdir -p target/staticlib
+    cp "crates/$1/out/lib$1.a" "target/staticlib/lib$2.a"
+}
+
 libraries() {
-    rt staticlib abi
-    rt staticlib abi_scheduler
-    rt staticlib abi_serial
-    rt staticlib abi_hex
+    archive abi_c abi
+    archive abi_scheduler abi_scheduler
+    archive abi_serial abi_serial
+    archive abi_hex abi_hex
 }
 
 build() {
@@ -34,20 +41,20 @@ test)
     exec bench/target/release/hexes "$@"
     ;;
 hex)
-    rt staticlib abi_hex
+    archive abi_hex abi_hex
     build --bin hexes
     cargo test --release --lib --offline --quiet --manifest-path bench/Cargo.toml hex
     exec bench/target/release/hexes "$@"
     ;;
 tools)
-    rt staticlib abi_hex
+    archive abi_hex abi_hex
     build --bin tools
     exec bench/target/release/tools "$@"
     ;;
 print)
-    rt check print
+    (cd crates/print && rt run <stdin >/dev/null)
     build --bin prints
-    exec bench/target/release/prints target/bin/print "$@"
+    exec bench/target/release/prints crates/print/out/print "$@"
     ;;
 measure)
     libraries

@@ -3,9 +3,8 @@
 #   bench/wrong.sh [PATTERN..]    the edits bench/wrong/CRATE/NAME.edit; only those whose CRATE/NAME fits one of some shell patterns
 # An edit has the form of crates/*/must-fail/*.edit, and may say `refused by: OTHER`: its own crate still holds with it, and the crate OTHER
 # above must refuse it, by a proof or, where it is a program of cases, by what it prints. Each is applied to a copy of the repository in
-# target/wrong, where the crates count as proved as far as they do here: so run `rt check` first. A crate is checked over its incremental
-# folder, which is made here first; what passes there is checked from nothing. WRONG_JOBS edits are tried at a time, 2 where it is not set.
-# What each check said is kept in target/wrong/log.
+# target/wrong, whose checks begin with what checks here have kept: so run `rt all check` first. WRONG_JOBS edits are tried at a time, 2 where it
+# is not set. What each check said is kept in target/wrong/log.
 set -u
 cd "$(dirname "$0")/.."
 root=$(pwd -P)
@@ -15,33 +14,17 @@ jobs=${WRONG_JOBS:-2}
 
 field() { sed -n "s/^$1: //p" "$2" | head -n 1; } # NAME EDIT
 
-# Prints the crates that are proved again where CRATE is changed: it, and those that use it.
-above() { # CRATE
-    awk -v names="$1" '
-        { sub(/#.*/, ""); i = index($0, ":"); if (!i) next; n = substr($0, 1, i - 1); uses[n] = substr($0, i + 1) }
-        END {
-            hit[names] = 1
-            do {
-                more = 0
-                for (n in uses) if (!(n in hit)) { k = split(uses[n], d, " "); for (j = 1; j <= k; j++) if (d[j] in hit) { hit[n] = 1; more = 1 } }
-            } while (more)
-            for (n in hit) print n
-        }' "$root/crates.txt"
-}
-
-# A copy of the repository: its crates by links but for the one that is changed, and of what is proved what the change leaves so.
-copy() { # ROOM CRATE CHECKED
+# A copy of the repository, without what rt makes in it.
+copy() { # ROOM
     rm -rf "$1"
-    mkdir -p "$1/crates" "$1/target/rlib" "$1/target/stamp"
+    mkdir -p "$1/crates"
     cp "$root/crates.txt" "$1/"
-    ln -s "$root"/crates/* "$1/crates/"
-    ln -s "$root"/target/rlib/* "$1/target/rlib/"
-    cp "$root"/target/stamp/* "$1/target/stamp/"
-    rm "$1/crates/$2"
-    cp -r "$root/crates/$2" "$1/crates/"
-    for name in $(above "$2"); do rm -f "$1/target/rlib/$name.rlib" "$1/target/stamp/$name"; done
-    mkdir "$1/target/inc"
-    [ ! -d "$root/target/inc/$3" ] || cp -r "$root/target/inc/$3" "$1/target/inc/"
+    for crate in "$root"/crates/*; do
+        mkdir "$1/crates/${crate##*/}"
+        for part in "$crate"/*; do
+            [ "${part##*/}" = out ] || cp -r "$part" "$1/crates/${crate##*/}/"
+        done
+    done
 }
 
 # Applies an edit to a copy; says what is bad of it.
@@ -74,18 +57,23 @@ apply() { # DIR EDIT
 
 # Whether a check was refused at a fact, by its log.
 #   refused   a fact is not proved (or a program of cases prints something else)
-#   misfit    a proof's text no longer fits the code, so that more than a fact may be wanting
+#   misfit    proof files name what the edit took away, and nothing else is wanting
 #   bad       no wrong version: it does not compile, a name is not in scope, or a crate below refuses it
-verdict() { # LOG
-    if ! grep -q '^logic=not-proved' "$1" || grep -q '^rt: .* NOT PROVED' "$1"; then
+verdict() { # LOG CRATE
+    if ! grep -q '^logic=not-proved' "$1" || grep -Eq "^rt: .* (is|was) not proved" "$1"; then
         echo bad
     elif grep -q 'error\[' "$1" || grep '/specs/[^ ]*: error: ' "$1" | grep -qv 'was not admitted'; then
         echo bad
-    elif grep -q 'has no `Need-' "$1"; then
-        echo misfit
-    else
+    elif grep -E '^(note: )?[^ ]+:[0-9]+:[0-9]+:' "$1" | grep -Evq '^(note: )?(\./)?proofs/.*(has no field|is not in scope|has no `|was not admitted)'; then
         echo refused
+    else
+        echo misfit
     fi
+}
+
+# Whether a program prints what it must.
+prints() { # DIR
+    (cd "$1" && rt run <stdin 2>"$1/said" | cmp -s - stdout)
 }
 
 one() { # CRATE NAME
@@ -96,32 +84,28 @@ one() { # CRATE NAME
     by=$(field 'refused by' "$edit")
     by=${by:-$1}
     began=$(date +%s)
-    copy "$room" "$1" "$by"
+    copy "$room"
     fault=$(apply "$room/crates/$1" "$edit")
     if [ -n "$fault" ]; then
         echo "$fault" >"$log.log"
         word=bad
-    elif (cd "$room" && RT_CUT=0 rt dev "$by") >"$log.log" 2>&1; then
-        # `rt dev` is no verdict, so that what it lets pass is checked from nothing, and a program is run on its cases
-        if (cd "$room" && RT_JOBS=1 RT_CUT=0 rt check "$by") >>"$log.log" 2>&1; then
-            word=accepted
-        elif grep -q "^rt: $by proved, and its run FAILED" "$log.log"; then
+    elif (cd "$room/crates/$by" && rt check) >"$log.log" 2>&1; then
+        if [ -f "$room/crates/$by/stdout" ] && ! prints "$room/crates/$by"; then
             word=refused
         else
-            word=bad
+            word=accepted
         fi
     else
-        word=$(verdict "$log.log")
+        word=$(verdict "$log.log" "$by")
     fi
     rm -rf "$room"
     echo "$word" >"$log.verdict"
     printf '%-9s %s/%s%s (%s s)\n' "$word" "$1" "$2" "$([ "$by" = "$1" ] || echo " by $by")" $(($(date +%s) - began))
 }
 
-[ -d target/rlib ] || { echo "bench/wrong.sh: nothing is proved here: run rt check first" >&2; exit 2; }
 rm -rf "$place"
 mkdir -p "$place"
-start=$(date +%s) last=''
+start=$(date +%s)
 for edit in bench/wrong/*/*.edit; do
     name=${edit#bench/wrong/}
     name=${name%.edit}
@@ -129,10 +113,6 @@ for edit in bench/wrong/*/*.edit; do
     # shellcheck disable=SC2254
     for pattern; do case $name in $pattern) fits=1 ;; esac; done
     [ -n "$fits" ] || continue
-    if [ "${name%/*}" != "$last" ]; then
-        last=${name%/*}
-        rt dev "$last" >/dev/null 2>&1 || { echo "bench/wrong.sh: $last is not proved" >&2; exit 2; }
-    fi
     while [ "$(jobs -rp | wc -l)" -ge "$jobs" ]; do wait -n; done
     one "${name%/*}" "${name#*/}" &
 done

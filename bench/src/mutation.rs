@@ -30,37 +30,39 @@ const SIGNS: [(&str, &str); 19] = [
     (" - ", " + "),
     (" / ", " % "),
     (" % ", " / "),
-    (" .lo", " .hi"),
-    (" .lo", " .mark"),
-    (" .hi", " .mark"),
-    (" .hi", " .lo"),
-    (" .hi", " .ceiling"),
-    (" .mark", " .lo"),
-    (" .mark", " .hi"),
-    (" .ceiling", " .hi"),
-    (" .ceiling", " .mark"),
-    (" .from", " .to"),
-    (" .from", " .ceiling"),
-    (" .to", " .from"),
-    (" .to", " .hi"),
+    (".lo", ".hi"),
+    (".lo", ".mark"),
+    (".hi", ".mark"),
+    (".hi", ".lo"),
+    (".hi", ".ceiling"),
+    (".mark", ".lo"),
+    (".mark", ".hi"),
+    (".ceiling", ".hi"),
+    (".ceiling", ".mark"),
+    (".from", ".to"),
+    (".from", ".ceiling"),
+    (".to", ".from"),
+    (".to", ".hi"),
 ];
+
+const PRELUDE: &str = "Rattle.std.specs.Prelude";
 
 /// Where each name that a change may bring in comes from.
 const SOURCES: [(&str, &str, &str); 14] = [
-    ("ltb", "lib.Dec", "ltb"),
-    ("leb", "lib.Dec", "leb"),
-    ("true", "mathlib.Core.Bool", "true"),
-    ("false", "mathlib.Core.Bool", "false"),
-    ("dnoc", "mathlib.Core.Bool", "Bool"),
-    (" && ", "mathlib.Core.Bool", "_&&_"),
-    (" || ", "mathlib.Core.Bool", "_||_"),
-    (" + ", "Prim.Native.Nat", "_+_"),
-    (" - ", "Prim.Native.Nat", "_-_"),
-    (" / ", "Prim.Native.Nat", "_/_"),
-    (" % ", "Prim.Native.Nat", "_%_"),
-    ("Ready", "Rattle·thread.specs.declared.Status.the-variants", "Ready"),
-    ("Suspended", "Rattle·thread.specs.declared.Status.the-variants", "Suspended"),
-    ("Waiting", "Rattle·thread.specs.declared.Status.the-variants", "Waiting"),
+    ("ltb", PRELUDE, "ltb"),
+    ("leb", PRELUDE, "leb"),
+    ("true", PRELUDE, "true"),
+    ("false", PRELUDE, "false"),
+    ("dnoc", PRELUDE, "Bool"),
+    (" && ", PRELUDE, "◌&&◌"),
+    (" || ", PRELUDE, "◌||◌"),
+    (" + ", PRELUDE, "◌+◌"),
+    (" - ", PRELUDE, "◌-◌"),
+    (" / ", PRELUDE, "◌/◌"),
+    (" % ", PRELUDE, "◌%◌"),
+    ("Ready", "Rattle.thread.specs.declared.Status.TheVariants", "Ready"),
+    ("Suspended", "Rattle.thread.specs.declared.Status.TheVariants", "Suspended"),
+    ("Waiting", "Rattle.thread.specs.declared.Status.TheVariants", "Waiting"),
 ];
 
 /// A choice by a test, the other way round.
@@ -84,7 +86,7 @@ fn body(line: &str) -> &str {
 }
 
 fn is_part(c: char) -> bool {
-    c.is_alphanumeric() || c == '_' || c == '·'
+    c.is_alphanumeric() || c == '_' || c == '-'
 }
 
 /// Whether a word stands by itself in a line.

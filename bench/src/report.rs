@@ -141,7 +141,7 @@ impl Report {
             "\nThe machine's state is {tables} bytes of tables (32 thread records of {thread} bytes, three queues of 34, 16 stacklet tops), beside\n\
              the 4,096 bytes of the stacklets' words; the memory words, the log and the buffer are the caller's.\n\n\
              ## Nothing is allocated\n\n\
-             The language has no heap. The static libraries that the tests and benchmarks link leave these names to the linker and no others, so\n\
+             No function of theirs takes an allocator. The static libraries that the tests and benchmarks link leave these names to the linker and no others, so\n\
              they can call nothing else (`nm -u target/staticlib/*.a`): {}.\n",
             self.undefined.iter().map(|name| format!("`{name}`")).collect::<Vec<_>>().join(", "),
         );

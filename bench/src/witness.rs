@@ -1,7 +1,6 @@
 //! Crates that have definitions and their worked rows and no code, so that the rows alone refuse a changed definition.
 use std::fs;
 use std::io;
-use std::os::unix::fs::symlink;
 use std::path::Path;
 
 /// Modules of some crates.
@@ -95,6 +94,21 @@ pub fn renamed(name: &str, module: &str) -> String {
     name[..1].to_uppercase() + &name[1..] + module
 }
 
+/// Copies a folder, without what `rt` makes in it.
+fn copy(from: &Path, to: &Path) -> io::Result<()> {
+    fs::create_dir_all(to)?;
+    for entry in fs::read_dir(from)? {
+        let entry = entry?;
+        let place = to.join(entry.file_name());
+        if !entry.file_type()?.is_dir() {
+            fs::copy(entry.path(), place)?;
+        } else if entry.file_name() != "out" {
+            copy(&entry.path(), &place)?;
+        }
+    }
+    Ok(())
+}
+
 impl Witness {
     fn has(&self, name: &str, module: &str) -> bool {
         [self.definitions, self.rows].concat().iter().any(|(n, modules)| *n == name && modules.contains(&module))
@@ -102,44 +116,34 @@ impl Witness {
 
     /// A module's text with the paths of modules that the witness has, and of all others as another crate writes them.
     fn moved(&self, text: &str) -> String {
-        let mut parts = text.split("Rattle·");
+        let mut parts = text.split("Rattle.");
         let mut out = parts.next().unwrap_or("").to_string();
         for part in parts {
-            let name = &part[..part.find(['·', '.']).expect("a crate's name")];
-            let rest = part[name.len()..].trim_start_matches("·specs").trim_start_matches(".specs.");
+            let name = &part[..part.find('.').expect("a crate's name")];
+            let rest = part[name.len()..].trim_start_matches(".specs.");
             let module = &rest[..rest.find('.').expect("a module's name")];
             if self.has(name, module) {
-                out += &format!("Rattle·witness·specs.specs.{}", renamed(name, module));
+                out += &format!("Rattle.witness.specs.{}", renamed(name, module));
+                out += &rest[module.len()..];
             } else {
-                out += &format!("Rattle·{name}.specs.{module}");
+                out += &format!("Rattle.{part}");
             }
-            out += &rest[module.len()..];
         }
         out
     }
 
-    /// Writes the witness and a repository for it, with what is proved in `root`, to `room`.
+    /// Writes the witness and a repository for it, whose other crates are copies of those of `root`, to `room`.
     pub fn write(&self, root: &Path, room: &Path) -> io::Result<()> {
         let _ = fs::remove_dir_all(room);
         let place = room.join("crates/witness");
         for folder in ["src", "specs", "proofs"] {
             fs::create_dir_all(place.join(folder))?;
         }
-        for entry in fs::read_dir(root.join("crates"))? {
-            let entry = entry?;
-            symlink(entry.path(), room.join("crates").join(entry.file_name()))?;
-        }
-        for folder in ["rlib", "stamp"] {
-            fs::create_dir_all(room.join("target").join(folder))?;
-            for entry in fs::read_dir(root.join("target").join(folder))? {
-                let entry = entry?;
-                symlink(entry.path(), room.join("target").join(folder).join(entry.file_name()))?;
-            }
-        }
+        copy(&root.join("crates"), &room.join("crates"))?;
         let crates = fs::read_to_string(root.join("crates.txt"))?;
         let line = crates.lines().find_map(|line| line.strip_prefix(&format!("{}:", self.over))).expect("a line of crates.txt");
         fs::write(room.join("crates.txt"), format!("{crates}\nwitness:{line} {}\n", self.over))?;
-        fs::write(place.join("src/lib.rt"), "// Definitions and their worked rows, and no code.\n")?;
+        fs::write(place.join("src/lib.rt"), "// Definitions and their worked rows, and no code.\n#![tactic(auto)]\n")?;
         let mut all = String::new();
         for (name, modules) in [self.definitions, self.rows].concat() {
             for module in modules {

@@ -2,7 +2,7 @@
 //!
 //!     mutants ROOT [WITNESS..]       ROOT is the repository; WITNESS: rules, scheduler, serial, image, print, hex
 //!
-//! A change that passes is a place to look and no verdict: it may change nothing that a run can show, or break another promise. `rt check` comes
+//! A change that passes is a place to look and no verdict: it may change nothing that a run can show, or break another promise. `rt all check` comes
 //! first, since the crates below count as proved as far as they are.
 use bench::mutation::{changes, Change};
 use bench::witness::{renamed, Witness, WITNESSES};
@@ -26,12 +26,12 @@ struct Tally {
 
 /// Whether a witness is proved; or not, and whether since a definition of its own does not stand.
 fn is_proved(room: &Path) -> Result<(), bool> {
-    let said = Command::new("timeout").args(["120", "rt", "dev", "witness"]).current_dir(room).output().expect("rt dev");
+    let said = Command::new("timeout").args(["120", "rt", "check"]).current_dir(room.join("crates/witness")).output().expect("rt check");
     if said.status.success() {
         return Ok(());
     }
     let text = String::from_utf8_lossy(&said.stdout) + String::from_utf8_lossy(&said.stderr);
-    Err(text.lines().any(|line| line.contains("witness/specs/") && line.contains("error")))
+    Err(text.lines().any(|line| line.contains("./specs/") && line.contains("error")))
 }
 
 fn try_change(room: &Path, module: &str, text: &str, change: &Change, tally: &Mutex<Tally>) {
@@ -54,7 +54,7 @@ fn try_all(witness: &Witness, root: &Path) -> Tally {
     let rooms: Vec<PathBuf> = (0..JOBS).map(|job| root.join(format!("target/mutants/{}.{job}", witness.name))).collect();
     for room in &rooms {
         witness.write(root, room).expect("a witness");
-        assert!(is_proved(room).is_ok(), "{} is not proved as it is: run rt check first", witness.name);
+        assert!(is_proved(room).is_ok(), "{} is not proved as it is: run rt all check first", witness.name);
     }
     let mut all = Vec::new();
     for (name, modules) in witness.definitions {

@@ -1,6 +1,6 @@
 //! The print program, run on random inputs, against the second implementation's output.
 //!
-//!     prints PROGRAM [CASES] [SEED]       PROGRAM is target/bin/print
+//!     prints PROGRAM [CASES] [SEED]       PROGRAM is crates/print/out/print
 //!
 //! It ends with status 1 at a difference, which it prints.
 use bench::generate::{damage, job, schedule};
