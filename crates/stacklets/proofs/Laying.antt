@@ -16,9 +16,6 @@ pub up_more : (ws₀ : List ℕ) (base : ℕ) (vs : List ℕ) (i : ℕ) (ws us :
 unfolding framed
 up_more ws₀ base vs i ws us v e f g = rw (g, f, e, add-one)
 
-pub up_ends : (ws₀ : List ℕ) (base n : ℕ) (vs : List ℕ) (i : ℕ) (ws : List ℕ) → i ≡ n → ws ≡ framed ws₀ base i vs → ws ≡ framed ws₀ base n vs
-up_ends ws₀ base n vs i ws e f = f ∙ ap (λ m. framed ws₀ base m vs) e
-
 -- an argument at or above the base is not yet written over
 pub up-reads : (ws₀ : List ℕ) (base : ℕ) (vs : List ℕ) (from given i : ℕ) (ws : List ℕ) → ws ≡ framed ws₀ base i vs → base ≤ from
     → get_or (arguments_at ws from given) i 0 ≡ get_or (arguments_at ws₀ from given) i 0
@@ -31,9 +28,6 @@ Above ws₀ base n vs i ws = ws ≡ framed ws₀ (base + i) (n - i) (drop i vs)
 pub down-starts : (ws₀ : List ℕ) (base n : ℕ) (vs : List ℕ) → Above ws₀ base n vs n ws₀
 unfolding framed
 down-starts ws₀ base n vs = let e : n - n ≡ 0 = omega arith in rw e
-
-pub down_ends : (ws₀ : List ℕ) (base n : ℕ) (vs : List ℕ) (i : ℕ) (ws : List ℕ) → i ≡ 0 → Above ws₀ base n vs i ws → ws ≡ framed ws₀ base n vs
-down_ends ws₀ base n vs i ws e f = f ∙ ap (λ j. framed ws₀ (base + j) (n - j) (drop j vs)) e ∙ ap (λ b. framed ws₀ b (n - 0) vs) (omega arith) ∙ ap (λ m. framed ws₀ base m vs) (omega arith)
 
 lower : (ws₀ : List ℕ) (base n : ℕ) (vs : List ℕ) (j : ℕ) (ws us : List ℕ) (v : ℕ) → suc j ≤ n → Above ws₀ base n vs (suc j) ws → v ≡ get_or vs j 0 → us ≡ set ws (base + j) v
     → Above ws₀ base n vs j us

@@ -3,8 +3,8 @@
 use mathlib.Core.List.{List, []}
 use mathlib.Core.Logic.{◌⊎◌, inl, inr}
 use mathlib.Core.Path.{◌≡◌, sym, ◌∙◌, ap}
-use Prim.Native.Nat.{ℕ, zero, suc, ◌+◌, ◌-◌, ◌≤◌, ◌<◌}
-use native.Mathlib.Decide.{ℕ_discrete, dec_lt}
+use Prim.Native.Nat.{ℕ, zero, suc, ◌+◌, ◌-◌, ◌≤◌, ◌<◌, min}
+use native.Mathlib.Decide.{ℕ_discrete, dec_lt, dec_le}
 use native.Mathlib.Omega.{arith}
 use lib.ListN.{get_or, set, length, length-set, get_or-eq_default}
 use lib.Seq.{set_out, get_or-set_same, get_or-set_other}
@@ -32,13 +32,19 @@ past ws base m (suc k) l =
     let e : suc k + m ≡ suc (k + m) = omega arith in
     rw e (set_out (wiped ws base (k + m)) (base + (k + m)) 0 (let z = length-framed ws base (k + m) [] in omega arith)) ∙ past ws base m k l
 
--- the loop ends at the frame's end, or at the last word
-pub wiped-ends : (ws₀ : List ℕ) (base n end i : ℕ) (ws : List ℕ) → base ≤ i → i ≤ base + n → end ≤ i → (end ≡ base + n) ⊎ (end ≡ length ws₀)
+-- the loop ends at the frame's end, or at the last word, or did not begin
+pub wiped-ends : (ws₀ : List ℕ) (base n end i : ℕ) (ws : List ℕ) → end ≡ min (base + n) (length ws₀) → base ≤ i → (base ≤ end → i ≤ end) → end ≤ i
     → ws ≡ wiped ws₀ base (i - base) → ws ≡ wiped ws₀ base n
-wiped-ends ws₀ base n end i ws l m h (inl a) e = e ∙ ap (wiped ws₀ base) (omega arith)
-wiped-ends ws₀ base n end i ws l m h (inr a) e =
-    let k : n ≡ (base + n - i) + (i - base) = omega arith in
-    e ∙ sym (past ws₀ base (i - base) (base + n - i) (omega arith)) ∙ ap (wiped ws₀ base) (sym k)
+wiped-ends ws₀ base n end i ws m l f h e = e ∙ go (dec_lt i (base + n)) (dec_le base end)
+  where
+    go : Dec (i < base + n) → Dec (base ≤ end) → wiped ws₀ base (i - base) ≡ wiped ws₀ base n
+    go (yes a) _ =
+        let k : n ≡ (base + n - i) + (i - base) = omega arith in
+        sym (past ws₀ base (i - base) (base + n - i) (omega arith)) ∙ ap (wiped ws₀ base) (sym k)
+    go (no a) (yes b) = let c = f b in ap (wiped ws₀ base) (omega arith)
+    go (no a) (no b) =
+        let k : i - base ≡ (i - base - n) + n = omega arith in
+        ap (wiped ws₀ base) k ∙ past ws₀ base n (i - base - n) (omega arith)
 
 -- a word that was cleared is 0, and past the last word there is no other
 cleared : (ws : List ℕ) (i : ℕ) → get_or (set ws i 0) i 0 ≡ 0

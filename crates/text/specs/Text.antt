@@ -22,6 +22,11 @@ decimal_of n = digits_of n n
 abbrev pub spaced : ℕ → List ℕ
 spaced n = ascii " " ++ decimal_of n
 
+-- a word, numbers, each after a blank, and the line's end
+abbrev pub line : List ℕ → List ℕ → List ℕ
+line text [] = text ++ ascii "\n"
+line text (x ∷ xs) = line (text ++ spaced x) xs
+
 -- "Per entry it prints its number from 0 and its log byte"
 abbrev pub entry_line : ℕ → ℕ → List ℕ
 entry_line number log = decimal_of number ++ spaced log ++ ascii "\n"

@@ -11,4 +11,4 @@ pub put-requires : goal.put-requires
 put-requires c = omega (arith, c.put_decimal-a.ensures.position, few-digits 4 c.args.number (omega arith))
 
 pub returns : goal.returns
-returns c = written_entry _ _ (omega arith) (omega arith) c.wide.ensures c.put_decimal-a.ensures c.put_spaced-b.ensures.0 c.put.ensures
+returns c = written_entry _ _ (omega arith) (omega arith) c.from.ensures c.put_decimal-a.ensures c.put_spaced-b.ensures.0 c.put.ensures

@@ -1,6 +1,0 @@
--- `text::put_one` meets its contract. Assumes nothing.
-use Rattle.text.proofs.Writing.{followed}
-use Rattle.text.proofs.put_one.Goals as goal
-
-pub returns : goal.returns
-returns c = followed (followed c.put_text-a.ensures c.put_spaced-b.ensures.0) c.put.ensures
