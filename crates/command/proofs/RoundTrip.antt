@@ -11,23 +11,23 @@ use lib.ListN.{length, take, drop, get_or}
 use lib.Seq.{drop-cons}
 use Rattle.command.specs.declared.Command.{Command}
 use Rattle.command.specs.declared.Command.TheVariants.{Set, Add, Subtract, Load, Store, JumpIfZero, Jump, Lfork, Fork, Join, Suspend, Yield, Return, Share}
-use Rattle.command.specs.declared.CommandRead.{CommandRead}
-use Rattle.command.specs.declared.CommandRead.TheVariants.{Found, Unknown, CutOff}
-use Rattle.command.specs.Encoded.{OperandsFit}
+use Rattle.std.specs.Prelude.{Result, Ok, Err}
+use Rattle.command.specs.declared.CommandError.{CommandError}
+use Rattle.command.specs.declared.CommandError.TheVariants.{Unknown, CutOff}
 use Rattle.command.proofs.Tables.{width-most}
 use Rattle.command.proofs.Numbers.{Read, read, read-4, read-5, read-0}
-use Rattle.command.specs.Command.{command_at, decoded, decoded_at, bytes_of_command, pair, low, high, width_of, ReadAs}
+use Rattle.command.specs.Command.{command_at, decoded, decoded_at, bytes_of_command, pair, low, high, width_of, OperandsFit, ReadAs}
 
 two_bytes : (v : ℕ) → v < 65536 → pair (low v) (high v) ≡ v
 two_bytes v h = omega arith
 
 -- where a whole command stands, it is found
-pub accepts : (s : List ℕ) (at n : ℕ) → width_of (get_or s at 0) ≡ suc n → at + suc n ≤ length s → command_at s at ≡ Found (decoded_at s at) (suc n)
+pub accepts : (s : List ℕ) (at n : ℕ) → width_of (get_or s at 0) ≡ suc n → at + suc n ≤ length s → command_at s at ≡ Ok (decoded_at s at, suc n)
 unfolding command_at
 accepts s at n w h = simp (w, lt-leb (length s) at (omega arith), ne_eqb (suc n) 0 (λ e. omega arith), le-ltb (length s - at) (suc n) (omega arith))
 
 -- "A written command reads back as itself", whatever follows it
-pub reads-back : (command : Command) (rest : List ℕ) → OperandsFit command → command_at (bytes_of_command command ++ rest) 0 ≡ Found command (length (bytes_of_command command))
+pub reads-back : (command : Command) (rest : List ℕ) → OperandsFit command → command_at (bytes_of_command command ++ rest) 0 ≡ Ok (command, length (bytes_of_command command))
 unfolding bytes_of_command decoded
 reads-back (Set d v) rest h = rw (two_bytes v h) at (accepts (bytes_of_command (Set d v) ++ rest) 0 3 refl (omega arith))
 reads-back (Add d a b) rest h = accepts (bytes_of_command (Add d a b) ++ rest) 0 3 refl (omega arith)
@@ -51,21 +51,22 @@ pub record Stands (s : List ℕ) (at : ℕ) (command : Command) (n : ℕ) : Type
   pub some : 1 ≤ n
   pub whole : at + n ≤ length s
 
-pub stands : (s : List ℕ) (at : ℕ) (command : Command) (n : ℕ) → command_at s at ≡ Found command n → Stands s at command n
+pub stands : (s : List ℕ) (at : ℕ) (command : Command) (n : ℕ) → command_at s at ≡ Ok (command, n) → Stands s at command n
 unfolding command_at
 stands s at command n found =
     go (leb (length s) at) (eqb (width_of (get_or s at 0)) 0) (ltb (length s - at) (width_of (get_or s at 0))) refl refl refl found
   where
     go : (end none short : Bool) → leb (length s) at ≡ end → eqb (width_of (get_or s at 0)) 0 ≡ none
         → ltb (length s - at) (width_of (get_or s at 0)) ≡ short
-        → cond end CutOff (cond none Unknown (cond short CutOff (Found (decoded_at s at) (width_of (get_or s at 0))))) ≡ Found command n
+        → cond {A = Result (Command × ℕ) CommandError} end (Err CutOff) (cond none (Err Unknown) (cond short (Err CutOff) (Ok (decoded_at s at, width_of (get_or s at 0))))) ≡ Ok (command, n)
         → Stands s at command n
     go true none short e f g h = let z : ◌≡◌ {A = ℕ} 0 1 = cc in absurd (omega arith)
     go false true short e f g h = let z : ◌≡◌ {A = ℕ} 0 1 = cc in absurd (omega arith)
     go false false true e f g h = let z : ◌≡◌ {A = ℕ} 0 1 = cc in absurd (omega arith)
     go false false false e f g h =
-        let w : n ≡ width_of (get_or s at 0) = cc in
-        let i : command ≡ decoded_at s at = cc in
+        let p : ◌≡◌ {A = Command × ℕ} (decoded_at s at, width_of (get_or s at 0)) (command, n) = cc in
+        let w : n ≡ width_of (get_or s at 0) = sym (ap (λ q. q.1) p) in
+        let i : command ≡ decoded_at s at = sym (ap (λ q. q.0) p) in
         let a : at < length s = leb-false _ _ e in
         let b : (width_of (get_or s at 0) ≡ 0) → ⊥ = eqb-false _ _ f in
         let d : width_of (get_or s at 0) ≤ length s - at = ltb-false _ _ g in
@@ -77,11 +78,11 @@ stands s at command n found =
         positive (suc k) b = omega arith
 
 -- the bytes from a position on, one by one
-abbrev from : List ℕ → ℕ → ℕ → List ℕ
+abbrev pub from : List ℕ → ℕ → ℕ → List ℕ
 from s at zero = []
 from s at (suc n) = get_or s at 0 ∷ from s (suc at) n
 
-taken : (s : List ℕ) (at n : ℕ) → at + n ≤ length s → take n (drop at s) ≡ from s at n
+pub taken : (s : List ℕ) (at n : ℕ) → at + n ≤ length s → take n (drop at s) ≡ from s at n
 taken s at zero h = refl
 taken s at (suc n) h = rw (drop-cons s at 0 (omega arith), taken s (suc at) n (omega arith))
 
@@ -134,14 +135,14 @@ abbrev pub Bytes : List ℕ → Type 0
 Bytes s = (i : ℕ) → get_or s i 0 < 256
 
 -- "an accepted command's bytes are written again unchanged"
-pub writes_again : (s : List ℕ) → Bytes s → (at : ℕ) (command : Command) (n : ℕ) → command_at s at ≡ Found command n
+pub writes_again : (s : List ℕ) → Bytes s → (at : ℕ) (command : Command) (n : ℕ) → command_at s at ≡ Ok (command, n)
     → bytes_of_command command ≡ take n (drop at s)
 writes_again s small at command n found =
     let f = stands s at command n found in
     rw (f.is, taken s at n f.whole, ← fewer s at n 5 (rw f.width (width-most (get_or s at 0))), from-five s at, f.width)
     (encoded-again _ _ _ _ (small (at + 1)) (small (at + 2)) (small (at + 3)) (get_or s at 0) (rw f.width at f.some))
 
-pub read_as : (s : List ℕ) → Bytes s → (at : ℕ) (answer : CommandRead) → answer ≡ command_at s at → ReadAs s at answer
+pub read_as : (s : List ℕ) → Bytes s → (at : ℕ) (answer : Result (Command × ℕ) CommandError) → answer ≡ command_at s at → ReadAs s at answer
 read_as s small at answer is =
     let met : Read s at answer = rw is (read s at) in
     record {
@@ -153,7 +154,7 @@ read_as s small at answer is =
     }
 
 -- past the end there is no command
-pub at-end : (s : List ℕ) (at : ℕ) → length s ≤ at → command_at s at ≡ CutOff
+pub at-end : (s : List ℕ) (at : ℕ) → length s ≤ at → command_at s at ≡ Err CutOff
 unfolding command_at
 at-end s at h = rw (le-leb (length s) at h)
 
@@ -179,11 +180,11 @@ decoded-needs x y z w x' y' z' w' (suc (suc (suc (suc (suc (suc (suc (suc (suc (
 decoded-needs x y z w x' y' z' w' (suc (suc (suc (suc (suc (suc (suc (suc (suc (suc (suc (suc (suc (suc (suc k))))))))))))))) n a b c d = absurd (omega arith)
 
 -- the same bytes at another place are the same command
-pub found_alike : (s t : List ℕ) (at at' n : ℕ) (command : Command) → command_at s at ≡ Found command n → at' + n ≤ length t
-    → ((i : ℕ) → i < n → get_or t (at' + i) 0 ≡ get_or s (at + i) 0) → command_at t at' ≡ Found command n
+pub found_alike : (s t : List ℕ) (at at' n : ℕ) (command : Command) → command_at s at ≡ Ok (command, n) → at' + n ≤ length t
+    → ((i : ℕ) → i < n → get_or t (at' + i) 0 ≡ get_or s (at + i) 0) → command_at t at' ≡ Ok (command, n)
 found_alike s t at at' zero command found room same = absurd (let f = stands s at command zero found in omega (arith, f.some))
 found_alike s t at at' (suc n) command found room same =
-    accepts t at' n (rw first (sym f.width)) room ∙ ap (λ c. Found c (suc n)) (alike ∙ sym f.is)
+    accepts t at' n (rw first (sym f.width)) room ∙ ap (λ c. Ok (c, suc n)) (alike ∙ sym f.is)
   where
     f : Stands s at command (suc n)
     f = stands s at command (suc n) found

@@ -1,9 +1,9 @@
 -- What the bytes of one command mean: document 01's table of commands, read and written.
-use Rattle.std.specs.Prelude.{cond, List, [], ◌∷◌, ◌↔◌, ◌⊎◌, ◌≡◌, ℕ, ◌+◌, ◌-◌, ◌*◌, ◌/◌, ◌%◌, ◌≤◌, ◌<◌, ltb, leb, eqb, get_or, length, take, drop}
+use Rattle.std.specs.Prelude.{cond, List, [], ◌∷◌, ◌↔◌, ◌⊎◌, ◌≡◌, ℕ, ◌+◌, ◌-◌, ◌*◌, ◌/◌, ◌%◌, ◌≤◌, ◌<◌, ltb, leb, eqb, get_or, length, take, drop, Result, Ok, Err}
 use Rattle.command.specs.declared.Command.{Command}
 use Rattle.command.specs.declared.Command.TheVariants.{Set, Add, Subtract, Load, Store, JumpIfZero, Jump, Lfork, Fork, Join, Suspend, Yield, Return, Share}
-use Rattle.command.specs.declared.CommandRead.{CommandRead}
-use Rattle.command.specs.declared.CommandRead.TheVariants.{Found, Unknown, CutOff}
+use Rattle.command.specs.declared.CommandError.{CommandError}
+use Rattle.command.specs.declared.CommandError.TheVariants.{Unknown, CutOff}
 
 -- the number of bytes of each command, by its first byte, from 00 (no command) to 0E
 abbrev pub widths : List ℕ
@@ -44,18 +44,18 @@ abbrev pub five_at : List ℕ → ℕ → List ℕ
 five_at s at = get_or s at 0 ∷ get_or s (at + 1) 0 ∷ get_or s (at + 2) 0 ∷ get_or s (at + 3) 0 ∷ get_or s (at + 4) 0 ∷ []
 
 -- "One command read by itself meets only 4 and 5 (5 also where there is no byte)": 4 first, as "4, 5, 6 command by command"
-unfoldable pub command_at : List ℕ → ℕ → CommandRead
+unfoldable pub command_at : List ℕ → ℕ → Result (Command × ℕ) CommandError
 command_at s at =
-    cond (leb (length s) at) CutOff
-    (cond (eqb (width_of (get_or s at 0)) 0) Unknown
-    (cond (ltb (length s - at) (width_of (get_or s at 0))) CutOff
-    (Found (decoded_at s at) (width_of (get_or s at 0)))))
+    cond (leb (length s) at) (Err CutOff)
+    (cond (eqb (width_of (get_or s at 0)) 0) (Err Unknown)
+    (cond (ltb (length s - at) (width_of (get_or s at 0))) (Err CutOff)
+    (Ok (decoded_at s at, width_of (get_or s at 0)))))
 
 -- document 01's number for each answer of `read`: 0 where a command is found
-abbrev pub number_of_command_read : CommandRead → ℕ
-number_of_command_read (Found c n) = 0
-number_of_command_read Unknown = 4
-number_of_command_read CutOff = 5
+abbrev pub number_of_command_read : Result (Command × ℕ) CommandError → ℕ
+number_of_command_read (Ok found) = 0
+number_of_command_read (Err Unknown) = 4
+number_of_command_read (Err CutOff) = 5
 
 -- the two bytes of a value, the low one first
 abbrev pub low : ℕ → ℕ
@@ -81,14 +81,31 @@ bytes_of_command Yield = 12 ∷ []
 bytes_of_command (Return a) = 13 ∷ a ∷ []
 bytes_of_command (Share a) = 14 ∷ a ∷ []
 
+-- the operands that stand in two bytes fit them, as every value of the enum has it
+abbrev pub OperandsFit : Command → Type 0
+OperandsFit (Set d v) = v < 65536
+OperandsFit (Add d a b) = Unit {0}
+OperandsFit (Subtract d a b) = Unit {0}
+OperandsFit (Load d a) = Unit {0}
+OperandsFit (Store a b) = Unit {0}
+OperandsFit (JumpIfZero a t) = t < 65536
+OperandsFit (Jump t) = t < 65536
+OperandsFit (Lfork r d a w) = Unit {0}
+OperandsFit (Fork r d a w) = Unit {0}
+OperandsFit Join = Unit {0}
+OperandsFit Suspend = Unit {0}
+OperandsFit Yield = Unit {0}
+OperandsFit (Return a) = Unit {0}
+OperandsFit (Share a) = Unit {0}
+
 -- what `read` gives: what stands there, each number exactly under its condition, which does not cite the row of tests, and "an accepted
 -- command's bytes are written again unchanged"
-pub record ReadAs (s : List ℕ) (at : ℕ) (answer : CommandRead) : Type 0 where
+pub record ReadAs (s : List ℕ) (at : ℕ) (answer : Result (Command × ℕ) CommandError) : Type 0 where
   pub is : answer ≡ command_at s at
   -- "4: unknown byte"
   pub number4 : (number_of_command_read answer ≡ 4) ↔ ((at < length s) × (width_of (get_or s at 0) ≡ 0))
   -- "5: operands cut off", "also where there is no byte"
   pub number5 : (number_of_command_read answer ≡ 5) ↔ ((length s ≤ at) ⊎ ((1 ≤ width_of (get_or s at 0)) × (length s < at + width_of (get_or s at 0))))
   -- "meets only 4 and 5": else the command is found, with the number of its bytes
-  pub number0 : (number_of_command_read answer ≡ 0) ↔ (answer ≡ Found (decoded_at s at) (width_of (get_or s at 0)))
-  pub again : (command : Command) (n : ℕ) → answer ≡ Found command n → bytes_of_command command ≡ take n (drop at s)
+  pub number0 : (number_of_command_read answer ≡ 0) ↔ (answer ≡ Ok (decoded_at s at, width_of (get_or s at 0)))
+  pub again : (command : Command) (n : ℕ) → answer ≡ Ok (command, n) → bytes_of_command command ≡ take n (drop at s)

@@ -1,4 +1,3 @@
 pub mod Command
 pub mod Write
 pub mod Weight
-pub mod Encoded

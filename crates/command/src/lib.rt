@@ -1,14 +1,13 @@
 // The fourteen commands of an image: read from bytes, written to bytes, and their weights.
 #![tactic(auto)]
 
-ghost use Rattle.std.specs.Prelude.{◌≡◌, [], ◌∷◌, get_or};
-ghost use Rattle.command.specs.Command.{ReadAs, decoded, decoded_at, five_at, width_of, pair, low, high};
-ghost use Rattle.command.specs.Write.{Wrote};
-ghost use Rattle.command.specs.Encoded.{Encodes};
+ghost use Rattle.std.specs.Prelude.{◌≡◌, ◌≤◌, get_or, length};
+ghost use Rattle.command.specs.Command.{ReadAs, decoded, decoded_at, five_at, width_of};
+ghost use Rattle.command.specs.Write.{Wrote, put_answer, put_to};
 ghost use Rattle.command.specs.Weight.{weight_of, standard_weights};
 
 // A command with its operands, in the order of document 01's table.
-#[derive(Clone, Copy)]
+#[derive(Clone, Copy, Debug, PartialEq, Eq)]
 pub enum Command {
     // 01 d v: slot d becomes v
     Set(u8, u16),
@@ -50,32 +49,18 @@ pub enum Command {
     Share(u8),
 }
 
-// What reading one command finds.
-#[derive(Clone, Copy)]
-pub enum CommandRead {
-    // the command and the number of its bytes
-    Found(Command, u8),
+// Why no command is read.
+#[derive(Clone, Copy, Debug, PartialEq, Eq)]
+pub enum CommandError {
     // 4: unknown byte
     Unknown,
     // 5: operands cut off, or no byte
     CutOff,
 }
 
-// What writing one command into a buffer did.
-#[derive(Clone, Copy)]
-pub enum CommandWritten {
-    // the number of bytes written
-    Bytes(u8),
-    // 25: the buffer is too short, and nothing was written
-    TooShort,
-}
-
-// A command's bytes: the first `width` of five.
-#[derive(Clone, Copy)]
-struct Encoded {
-    bytes: [u8; 5],
-    width: u8,
-}
+// 25: the buffer is too short for the command, and nothing was written.
+#[derive(Clone, Copy, Debug, PartialEq, Eq)]
+pub struct TooShort;
 
 const WIDTHS: [u8; 15] = [0, 4, 4, 4, 3, 3, 4, 3, 5, 5, 1, 1, 1, 2, 2];
 
@@ -85,22 +70,14 @@ const WEIGHTS: [u8; 15] = [0, 1, 1, 1, 2, 2, 1, 1, 6, 12, 1, 3, 3, 1, 1];
 pub fn width(byte: u8) -> u8
     ensures { result ≡ width_of byte }
 {
-    let i = byte as usize;
-    if i < 15 {
-        return WIDTHS[i];
-    }
-    0
+    WIDTHS.get(usize::from(byte)).copied().unwrap_or(0)
 }
 
 // The weight of the command with this first byte; 0 where there is none.
 pub fn weight(byte: u8) -> u8
     ensures { result ≡ weight_of standard_weights byte }
 {
-    let i = byte as usize;
-    if i < 15 {
-        return WEIGHTS[i];
-    }
-    0
+    WEIGHTS.get(usize::from(byte)).copied().unwrap_or(0)
 }
 
 // The table of weights, by first byte, for a loop that reads one for each command.
@@ -114,17 +91,7 @@ pub fn weights() -> [u8; 15]
 pub fn byte_at(bytes: &[u8], at: usize) -> u8
     ensures { result ≡ get_or bytes.now at 0 }
 {
-    if at < bytes.len() {
-        return bytes[at];
-    }
-    0
-}
-
-// A value of two bytes, the low one first.
-fn pair_of(low: u8, high: u8) -> u16
-    ensures { result ≡ pair low high }
-{
-    (low as u16) + (high as u16) * 256
+    bytes.get(at).copied().unwrap_or(0)
 }
 
 // The command of a first byte and the four bytes after it.
@@ -132,13 +99,13 @@ fn decode(byte: u8, x: u8, y: u8, z: u8, w: u8) -> Command
     ensures { result ≡ decoded byte x y z w }
 {
     match byte {
-        1 => Command::Set(x, pair_of(y, z)),
+        1 => Command::Set(x, u16::from_le_bytes([y, z])),
         2 => Command::Add(x, y, z),
         3 => Command::Subtract(x, y, z),
         4 => Command::Load(x, y),
         5 => Command::Store(x, y),
-        6 => Command::JumpIfZero(x, pair_of(y, z)),
-        7 => Command::Jump(pair_of(x, y)),
+        6 => Command::JumpIfZero(x, u16::from_le_bytes([y, z])),
+        7 => Command::Jump(u16::from_le_bytes([x, y])),
         8 => Command::Lfork {
             routine: x,
             result: y,
@@ -159,30 +126,21 @@ fn decode(byte: u8, x: u8, y: u8, z: u8, w: u8) -> Command
     }
 }
 
-// The command whose first byte stands at a position, or why there is none. Bytes after it are ignored.
-pub fn read(bytes: &[u8], at: usize) -> CommandRead
+// The command whose first byte stands at a position and the number of its bytes, or why there is none. Bytes after it are ignored.
+pub fn read(bytes: &[u8], at: usize) -> Result<(Command, u8), CommandError>
     ensures { ReadAs bytes.now at result }
 {
-    let n = bytes.len();
-    if n <= at {
-        return CommandRead::CutOff;
+    let Some(&byte) = bytes.get(at) else {
+        return Err(CommandError::CutOff);
+    };
+    let width = width(byte);
+    if width == 0 {
+        return Err(CommandError::Unknown);
     }
-    let byte = bytes[at];
-    let w = width(byte);
-    if w == 0 {
-        return CommandRead::Unknown;
+    if bytes.len() - at < usize::from(width) {
+        return Err(CommandError::CutOff);
     }
-    if n - at < w as usize {
-        return CommandRead::CutOff;
-    }
-    let command = decode(
-        byte,
-        byte_at(bytes, at + 1),
-        byte_at(bytes, at + 2),
-        byte_at(bytes, at + 3),
-        byte_at(bytes, at + 4),
-    );
-    CommandRead::Found(command, w)
+    Ok((command_of(five_at(bytes, at)), width))
 }
 
 // The five bytes from a position on; 0 past the end. Mostly there are five, which one test tells.
@@ -190,19 +148,17 @@ pub fn five_at(bytes: &[u8], at: usize) -> [u8; 5]
     ensures { result ≡ five_at bytes.now at }
 {
     let n = bytes.len();
-    if 5 <= n {
-        if at <= n - 5 {
-            return [
-                bytes[at],
-                bytes[at + 1],
-                bytes[at + 2],
-                bytes[at + 3],
-                bytes[at + 4],
-            ];
-        }
+    if 5 <= n && at <= n - 5 {
+        return [
+            bytes[at],
+            bytes[at + 1],
+            bytes[at + 2],
+            bytes[at + 3],
+            bytes[at + 4],
+        ];
     }
     if n <= at {
-        return [0u8; 5];
+        return [0; 5];
     }
     [
         bytes[at],
@@ -220,76 +176,57 @@ pub fn command_of(five: [u8; 5]) -> Command
     decode(five[0], five[1], five[2], five[3], five[4])
 }
 
-// A value's low byte.
-fn low_of(value: u16) -> u8
-    ensures { result ≡ low value }
+// Writes bytes at the front of a buffer, or nothing where they don't fit.
+fn put(buffer: &mut [u8], bytes: &[u8]) -> Result<u8, TooShort>
+    requires { length bytes.now ≤ 5 }
+    ensures answer { result ≡ put_answer bytes.now buffer.old }
+    ensures written { buffer.new ≡ put_to bytes.now buffer.old }
 {
-    (value % 256) as u8
-}
-
-// A value's high byte.
-fn high_of(value: u16) -> u8
-    ensures { result ≡ high value }
-{
-    (value / 256 % 256) as u8
-}
-
-fn first_bytes(width: u8, a: u8, b: u8, c: u8, d: u8, e: u8) -> Encoded
-    ensures { (result.width ≡ width) × (result.bytes ≡ a ∷ b ∷ c ∷ d ∷ e ∷ []) }
-{
-    Encoded {
-        bytes: [a, b, c, d, e],
-        width,
+    let width = bytes.len();
+    if buffer.len() < width {
+        return Err(TooShort);
     }
+    buffer[..width].copy_from_slice(bytes);
+    Ok(width as u8)
 }
 
-// The bytes of a command.
-fn encode(command: Command) -> Encoded
-    ensures { Encodes command result.width result.bytes }
+// Writes a command at the front of a buffer; bytes past it stay. Too short a buffer stays whole. The number of bytes is given.
+pub fn write(command: Command, buffer: &mut [u8]) -> Result<u8, TooShort>
+    ensures { Wrote command buffer.old buffer.new result }
 {
     match command {
-        Command::Set(d, v) => first_bytes(4, 1, d, low_of(v), high_of(v), 0),
-        Command::Add(d, a, b) => first_bytes(4, 2, d, a, b, 0),
-        Command::Subtract(d, a, b) => first_bytes(4, 3, d, a, b, 0),
-        Command::Load(d, a) => first_bytes(3, 4, d, a, 0, 0),
-        Command::Store(a, b) => first_bytes(3, 5, a, b, 0, 0),
-        Command::JumpIfZero(a, t) => first_bytes(4, 6, a, low_of(t), high_of(t), 0),
-        Command::Jump(t) => first_bytes(3, 7, low_of(t), high_of(t), 0, 0),
+        Command::Set(d, v) => {
+            let [low, high] = v.to_le_bytes();
+            put(buffer, &[1, d, low, high])
+        }
+        Command::Add(d, a, b) => put(buffer, &[2, d, a, b]),
+        Command::Subtract(d, a, b) => put(buffer, &[3, d, a, b]),
+        Command::Load(d, a) => put(buffer, &[4, d, a]),
+        Command::Store(a, b) => put(buffer, &[5, a, b]),
+        Command::JumpIfZero(a, t) => {
+            let [low, high] = t.to_le_bytes();
+            put(buffer, &[6, a, low, high])
+        }
+        Command::Jump(t) => {
+            let [low, high] = t.to_le_bytes();
+            put(buffer, &[7, low, high])
+        }
         Command::Lfork {
             routine,
             result,
             arguments,
             cut,
-        } => first_bytes(5, 8, routine, result, arguments, cut),
+        } => put(buffer, &[8, routine, result, arguments, cut]),
         Command::Fork {
             routine,
             result,
             arguments,
             cut,
-        } => first_bytes(5, 9, routine, result, arguments, cut),
-        Command::Join => first_bytes(1, 10, 0, 0, 0, 0),
-        Command::Suspend => first_bytes(1, 11, 0, 0, 0, 0),
-        Command::Yield => first_bytes(1, 12, 0, 0, 0, 0),
-        Command::Return(a) => first_bytes(2, 13, a, 0, 0, 0),
-        Command::Share(a) => first_bytes(2, 14, a, 0, 0, 0),
+        } => put(buffer, &[9, routine, result, arguments, cut]),
+        Command::Join => put(buffer, &[10]),
+        Command::Suspend => put(buffer, &[11]),
+        Command::Yield => put(buffer, &[12]),
+        Command::Return(a) => put(buffer, &[13, a]),
+        Command::Share(a) => put(buffer, &[14, a]),
     }
-}
-
-// Writes a command at the front of a buffer; bytes past it stay. Too short a buffer stays whole.
-pub fn write(command: Command, buffer: &mut [u8]) -> CommandWritten
-    ensures { Wrote command buffer.old buffer.new result }
-{
-    let e = encode(command);
-    let bytes = e.bytes;
-    let width = e.width;
-    let n = width as usize;
-    if buffer.len() < n {
-        return CommandWritten::TooShort;
-    }
-    let mut i: usize = 0;
-    while i < n {
-        buffer[i] = bytes[i];
-        i = i + 1;
-    }
-    CommandWritten::Bytes(width)
 }

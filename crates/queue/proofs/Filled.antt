@@ -1,24 +1,29 @@
 -- Queues whose numbers ascend from 0 on, and full queues: what the functions that make and leave them promise. Assumes nothing.
 use borrow.Author.Tests.{le-ltb}
 use mathlib.Core.Path.{◌≡◌, refl}
-use native.Mathlib.Nat.{min-eq_left, min-eq_right}
 use native.Mathlib.Omega.{arith}
-use Prim.Native.Nat.{ℕ, ◌≤◌, ◌<◌, min}
+use Prim.Native.Nat.{ℕ, ◌+◌, ◌-◌, ◌%◌, ◌≤◌}
+use lib.ListN.{length, get_or}
+use Rattle.std.proofs.Common.{Some}
 use Rattle.queue.proofs.Ring.{ring-ascending, length-ring}
+use Rattle.queue.proofs.Laws.{dequeues}
 use Rattle.queue.specs.declared.Queue.{Queue}
-use Rattle.queue.specs.Contents.{capacity, contents, ring, queue_of, ascending_from, appended, Enqueues}
+use Rattle.queue.specs.Contents.{contents, queue_of, ascending_from, appended, Dequeues, Enqueues}
 
--- the places are those of the numbers from 0 to 31
-stands : (n : ℕ) → n ≤ 32 → ring 32 (ascending_from 0 32) 0 n ≡ ascending_from 0 n
-stands n h = ring-ascending 32 0 n (omega arith)
-
-pub ascending_few : (n : ℕ) → n < 32 → contents (queue_of (ascending_from 0 32) 0 n) ≡ ascending_from 0 (min n capacity)
+-- the places of ascending numbers, as many as there are
+pub ascending_first : (n : ℕ) → n ≤ 32 → contents (queue_of (ascending_from 0 32) 0 n) ≡ ascending_from 0 n
 unfolding contents
-ascending_few n l = let h : n ≤ 32 = omega arith in rw (min-eq_left h) (stands n h)
+ascending_first n h = ring-ascending 32 0 n (omega arith)
 
-pub ascending_all : (n : ℕ) → 32 ≤ n → contents (queue_of (ascending_from 0 32) 0 32) ≡ ascending_from 0 (min n capacity)
+-- a queue has as many numbers as its length says
+pub length_is : (q : Queue) → q.len ≡ length (contents q)
 unfolding contents
-ascending_all n h = rw (min-eq_right h) (stands 32 (omega arith))
+length_is q = rw length-ring
+
+-- a queue of at least one number hands out that at its head
+pub one_taken : (q : Queue) (head next : ℕ) → head ≡ q.head % 32 → next ≡ (head + 1) % 32 → (q.len ≡ 0 → ⊥)
+    → Dequeues q (Some (get_or q.places head 0), record { places = q.places; head = next; len = q.len - 1 })
+one_taken q head next h k l = rw (k, h) (dequeues q (q.len - 1) (omega arith))
 
 -- a full queue takes nothing
 pub full_stays : (q : Queue) (n : ℕ) → 32 ≤ q.len → Enqueues q n q

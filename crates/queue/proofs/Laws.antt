@@ -11,16 +11,16 @@ use mir.Val.{Fits}
 use lib.ListN.{length, get_or, set}
 use Rattle.queue.proofs.Ring.{ring-below, ring-rest, ring-append, length-ring}
 use Rattle.queue.specs.declared.Queue.{Queue}
-use Rattle.queue.specs.declared.Front.TheVariants.{Number, Nothing}
+use Rattle.std.proofs.Common.{None, Some}
 use Rattle.queue.specs.Contents.{contents, ring, queue_of, front_of, tail_of, appended, Dequeues, Enqueues}
 
 -- only an empty queue hands out nothing
-pub nothing-empty : (xs : List ℕ) → front_of xs ≡ Nothing → xs ≡ []
+pub nothing-empty : (xs : List ℕ) → front_of xs ≡ None → xs ≡ []
 nothing-empty [] e = refl
 nothing-empty (x ∷ xs) e = let z : ◌≡◌ {A = ℕ} 0 1 = cc in absurd (omega arith)
 
 -- the number handed out stood before the rest
-pub number-first : (xs : List ℕ) (n : ℕ) → front_of xs ≡ Number n → xs ≡ n ∷ tail_of xs
+pub number-first : (xs : List ℕ) (n : ℕ) → front_of xs ≡ Some n → xs ≡ n ∷ tail_of xs
 number-first [] n e = let z : ◌≡◌ {A = ℕ} 0 1 = cc in absurd (omega arith)
 number-first (x ∷ xs) n e = cc
 
@@ -46,7 +46,7 @@ contents-bytes q f i = ring-below 256 32 q.places q.head q.len (omega arith) (λ
 
 -- what a queue of at least one number gives when its head moves on
 pub dequeues : (q : Queue) (n : ℕ) → q.len ≡ suc n
-    → Dequeues q (record { first = Number (get_or q.places (q.head % 32) 0); queue = record { places = q.places; head = (q.head % 32 + 1) % 32; len = q.len - 1 } })
+    → Dequeues q (Some (get_or q.places (q.head % 32) 0), record { places = q.places; head = (q.head % 32 + 1) % 32; len = q.len - 1 })
 unfolding contents ring
 dequeues q n e = record {
   first = rw e;
@@ -55,7 +55,7 @@ dequeues q n e = record {
 }
 
 -- the first number of a queue that has one
-pub first-is : (places : List ℕ) (head len : ℕ) → 0 < len → Number (get_or places (head % 32) 0) ≡ front_of (contents (queue_of places head len))
+pub first-is : (places : List ℕ) (head len : ℕ) → 0 < len → Some (get_or places (head % 32) 0) ≡ front_of (contents (queue_of places head len))
 first-is places head len h = (dequeues (queue_of places head len) (len - 1) (omega arith)).first
 
 -- the rest of it, once the head has moved on

@@ -1,9 +1,7 @@
 -- What a queue stands for, as a list of numbers, and what taking at the head and adding at the tail do to that list.
-use Rattle.std.specs.Prelude.{◌≡◌, List, [], ◌∷◌, ◌++◌, cond, ℕ, zero, suc, ◌%◌, ◌≤◌, get_or, length, ltb}
+use Rattle.std.specs.Prelude.{◌≡◌, List, [], ◌∷◌, ◌++◌, cond, ℕ, zero, suc, ◌%◌, ◌≤◌, get_or, length, ltb, None, Some}
+use Rattle.std.specs.declared.option.Option.{Option}
 use Rattle.queue.specs.declared.Queue.{Queue}
-use Rattle.queue.specs.declared.Front.{Front}
-use Rattle.queue.specs.declared.Front.TheVariants.{Number, Nothing}
-use Rattle.queue.specs.declared.Dequeued.{Dequeued}
 
 -- n numbers of a ring of cap places, from place h on: "finds its places by a remainder"
 unfoldable pub ring : ℕ → List ℕ → ℕ → ℕ → List ℕ
@@ -28,9 +26,9 @@ ascending_from k zero = []
 ascending_from k (suc n) = k ∷ ascending_from (suc k) n
 
 -- "hands out its head number"; "an empty one hands out nothing"
-abbrev pub front_of : List ℕ → Front
-front_of [] = Nothing
-front_of (x ∷ xs) = Number x
+abbrev pub front_of : List ℕ → Option ℕ
+front_of [] = None
+front_of (x ∷ xs) = Some x
 
 -- "is returned shorter by one"
 abbrev pub tail_of : List ℕ → List ℕ
@@ -42,10 +40,10 @@ unfoldable pub appended : ℕ → List ℕ → ℕ → List ℕ
 appended cap xs n = cond (ltb (length xs) cap) (xs ++ (n ∷ [])) xs
 
 -- what `dequeue` gives of q: its first number and the rest; an empty one is to "come back unchanged"
-pub record Dequeues (q : Queue) (r : Dequeued) : Type 0 where
-  pub first : r.first ≡ front_of (contents q)
-  pub rest : contents r.queue ≡ tail_of (contents q)
-  pub unchanged : contents q ≡ [] → r.queue ≡ q
+pub record Dequeues (q : Queue) (r : Option ℕ × Queue) : Type 0 where
+  pub first : r.0 ≡ front_of (contents q)
+  pub rest : contents r.1 ≡ tail_of (contents q)
+  pub unchanged : contents q ≡ [] → r.1 ≡ q
 
 -- what `enqueue` gives of q and n: n at the tail; a full one is to "come back unchanged"
 pub record Enqueues (q : Queue) (n : ℕ) (r : Queue) : Type 0 where

@@ -4,30 +4,31 @@
 #![tactic(auto)]
 
 ghost use Rattle.std.specs.Prelude.{◌≡◌, [], ◌-◌, ◌%◌, ◌<◌, min, length};
-ghost use Rattle.queue.specs.declared.Front.TheVariants.{Number};
 ghost use Rattle.queue.specs.Contents.{capacity, contents, ascending_from, Dequeues, Enqueues};
 
 // The number of places.
 const CAPACITY: u8 = 32;
 
-// The places of a queue whose numbers ascend.
+// The places of a queue whose numbers ascend: written out, since a constant cannot run `array::from_fn`.
 const ASCENDING: [u8; 32] = [
     0, 1, 2, 3, 4, 5, 6, 7, 8, 9, 10, 11, 12, 13, 14, 15, 16, 17, 18, 19, 20, 21, 22, 23, 24, 25,
     26, 27, 28, 29, 30, 31,
 ];
 
 // A number's place on the ring. A head may be any byte, hence a loop; in a queue that began with `new` or `ascending` one turn is the most.
+// Kept: no remainder may stand here, and other shapes than this loop took 6 to 9 % more instructions (docs/DECISIONS.md).
 fn wrapped(i: u8) -> u8
     ensures { result ≡ i % capacity }
 {
     let mut place = i;
     while CAPACITY <= place {
-        place = place - CAPACITY;
+        place -= CAPACITY;
     }
     place
 }
 
 // Its fields are public, since every value of them is a queue: the machine's tables hold them as bytes.
+// Kept: document 01 asks for an array, a head and a length, with methods by value, and there is no heap for a queue of std.
 #[derive(Clone, Copy)]
 pub struct Queue {
     pub places: [u8; 32],
@@ -35,22 +36,9 @@ pub struct Queue {
     pub len: u8,
 }
 
-// The number at the head of a queue.
-#[derive(Clone, Copy)]
-pub enum Front {
-    Number(u8),
-    Nothing,
-}
-
-// What `dequeue` gives back.
-#[derive(Clone, Copy)]
-pub struct Dequeued {
-    pub first: Front,
-    pub queue: Queue,
-}
-
 impl Queue {
     // The empty queue.
+    #[tactic(auto, unfolding(crate::specs::Contents::contents, crate::specs::Contents::ring))]
     pub fn new() -> Queue
         ensures { contents result ≡ [] }
     {
@@ -62,25 +50,19 @@ impl Queue {
     }
 
     // The queue of the numbers from 0 up to n, n left out; of 0 to 31 where n is above 32.
-    #[tactic(auto, using(crate::proofs::Filled::ascending_few, crate::proofs::Filled::ascending_all))]
+    #[tactic(auto, using(crate::proofs::Filled::ascending_first))]
     pub fn ascending(n: u8) -> Queue
         ensures { contents result ≡ ascending_from 0 (min n capacity) }
     {
-        if n < CAPACITY {
-            return Queue {
-                places: ASCENDING,
-                head: 0,
-                len: n,
-            };
-        }
         Queue {
             places: ASCENDING,
             head: 0,
-            len: CAPACITY,
+            len: n.min(CAPACITY),
         }
     }
 
     // How many numbers stand in the queue.
+    #[tactic(auto, using(crate::proofs::Filled::length_is))]
     pub fn len(self) -> u8
         ensures { result ≡ length (contents self) }
     {
@@ -88,25 +70,18 @@ impl Queue {
     }
 
     // Hands out the number at the head, with the queue shorter by one. An empty queue hands out nothing and comes back unchanged.
-    pub fn dequeue(self) -> Dequeued
+    #[tactic(auto, unfolding(crate::specs::Contents::contents, crate::specs::Contents::ring), using(crate::proofs::Filled::one_taken))]
+    pub fn dequeue(mut self) -> (Option<u8>, Queue)
         ensures { Dequeues self result }
     {
-        let len = self.len;
-        if len == 0 {
-            return Dequeued {
-                first: Front::Nothing,
-                queue: self,
-            };
+        if self.len == 0 {
+            return (None, self);
         }
         let head = wrapped(self.head);
         let number = self.places[head as usize];
-        let mut queue = self;
-        queue.head = wrapped(head + 1);
-        queue.len = len - 1;
-        Dequeued {
-            first: Front::Number(number),
-            queue,
-        }
+        self.head = wrapped(head + 1);
+        self.len -= 1;
+        (Some(number), self)
     }
 
     // The queue with n at its tail. A full queue takes nothing and comes back unchanged.
@@ -114,14 +89,13 @@ impl Queue {
     pub fn enqueue(mut self, n: u8) -> Queue
         ensures { Enqueues self n result }
     {
-        let len = self.len;
-        if CAPACITY <= len {
+        if CAPACITY <= self.len {
             return self;
         }
         let head = wrapped(self.head);
-        let tail = wrapped(head + len);
+        let tail = wrapped(head + self.len);
         self.places[tail as usize] = n;
-        self.len = len + 1;
+        self.len += 1;
         self
     }
 }

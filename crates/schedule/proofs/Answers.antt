@@ -7,35 +7,34 @@ use native.Mathlib.Decide.{dec_le}
 use native.Mathlib.Omega.{arith}
 use lib.ListN.{length, drop, length-drop}
 use Rattle.schedule.proofs.Standing.{found, ended, reads_end, reads-entry}
-use Rattle.schedule.specs.Format.{bytes_of_entry, entry_at, number_of_entry_read, StandsAt, EntryAnswer}
+use Rattle.schedule.specs.Format.{EntryRead, bytes_of_entry, entry_at, number_of_entry_read, StandsAt, EntryAnswer}
 use Rattle.schedule.specs.declared.Entry.{Entry}
-use Rattle.schedule.specs.declared.EntryRead.{EntryRead}
-use Rattle.schedule.specs.declared.EntryRead.TheVariants.{Found, End, Malformed}
+use Rattle.std.proofs.Common.{Some, None, Ok, Err}
 
 module _ (s : List ℕ) (at : ℕ) where
   -- an entry that is found stands there, and one that stands there is found
-  stands : (e : Entry) (next : ℕ) → entry_at s at ≡ Found e next → StandsAt s at e
+  stands : (e : Entry) (next : ℕ) → entry_at s at ≡ Ok (Some (e, next)) → StandsAt s at e
   stands e next h = (drop next s, (found s at e next h).bytes)
 
-  finds : (e : Entry) → StandsAt s at e → entry_at s at ≡ Found e (at + length (bytes_of_entry e))
+  finds : (e : Entry) → StandsAt s at e → entry_at s at ≡ Ok (Some (e, at + length (bytes_of_entry e)))
   finds e (rest, h) = reads-entry s at e rest h
 
   -- the end is met where nothing is left
-  nothing : entry_at s at ≡ End → length s ≤ at
+  nothing : entry_at s at ≡ Ok None → length s ≤ at
   nothing h =
       let none : length s - at ≡ 0 = rw length-drop at (ap length (ended s at h)) in
       omega arith
 
   -- what is read, seen with the reason
   data Seen : EntryRead → Type 0 where
-    one : (e : Entry) (next : ℕ) → StandsAt s at e → at < length s → Seen (Found e next)
-    end : length s ≤ at → ((e : Entry) → ¬ (StandsAt s at e)) → Seen End
-    bad : at < length s → ((e : Entry) → ¬ (StandsAt s at e)) → Seen Malformed
+    one : (e : Entry) (next : ℕ) → StandsAt s at e → at < length s → Seen (Ok (Some (e, next)))
+    end : length s ≤ at → ((e : Entry) → ¬ (StandsAt s at e)) → Seen (Ok None)
+    bad : at < length s → ((e : Entry) → ¬ (StandsAt s at e)) → Seen (Err (record {}))
 
   seen : (r : EntryRead) → entry_at s at ≡ r → Seen r
-  seen (Found e next) h = let f = found s at e next h in one e next (stands e next h) (omega (arith, f.wide, f.within))
-  seen End h = end (nothing h) (λ e st. let k = finds e st in let z : ◌≡◌ {A = ℕ} 0 1 = cc in omega arith)
-  seen Malformed h = bad (some (dec_le (length s) at)) (λ e st. let k = finds e st in let z : ◌≡◌ {A = ℕ} 0 1 = cc in omega arith)
+  seen (Ok (Some (e, next))) h = let f = found s at e next h in one e next (stands e next h) (omega (arith, f.wide, f.within))
+  seen (Ok None) h = end (nothing h) (λ e st. let k = finds e st in let z : ◌≡◌ {A = ℕ} 0 1 = cc in omega arith)
+  seen (Err _) h = bad (some (dec_le (length s) at)) (λ e st. let k = finds e st in let z : ◌≡◌ {A = ℕ} 0 1 = cc in omega arith)
     where
       some : Dec (length s ≤ at) → at < length s
       some (yes l) = let k = reads_end s at l in let z : ◌≡◌ {A = ℕ} 0 1 = cc in absurd (omega arith)

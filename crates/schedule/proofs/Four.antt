@@ -1,19 +1,18 @@
 -- Four steps that stand at a position are told by their bytes, and are read there one after another. Assumes nothing.
-use mathlib.Core.Bool.{true, false}
+use mathlib.Core.Bool.{true}
 use mathlib.Core.List.{List}
 use mathlib.Core.Path.{◌≡◌}
 use Prim.Native.Nat.{ℕ, ◌+◌, ◌≤◌}
 use native.Mathlib.Nat.{add_assoc}
 use native.Mathlib.Omega.{arith}
-use borrow.Author.Tests.{leb-true, le-leb, eqb-true, eq-eqb}
-use lib.Dec.{eqb}
+use borrow.Author.Tests.{leb-true, eqb-true}
 use lib.ListN.{length, get_or}
-use Rattle.schedule.proofs.Bools.{both, untrue}
+use Rattle.schedule.proofs.Bools.{both}
 use Rattle.schedule.proofs.Standing.{reads-step}
 use Rattle.schedule.specs.Format.{entry_at}
 use Rattle.schedule.specs.Four.{four_steps}
 use Rattle.schedule.specs.declared.Entry.TheVariants.{Step}
-use Rattle.schedule.specs.declared.EntryRead.TheVariants.{Found}
+use Rattle.std.proofs.Common.{Some, Ok}
 
 -- the bytes of four steps
 pub record Bytes (s : List ℕ) (at : ℕ) : Type 0 where
@@ -25,10 +24,10 @@ pub record Bytes (s : List ℕ) (at : ℕ) : Type 0 where
 
 -- the steps as they are read
 pub record Steps (s : List ℕ) (at : ℕ) : Type 0 where
-  pub first : entry_at s at ≡ Found (Step (get_or s (at + 1) 0)) (at + 2)
-  pub second : entry_at s (at + 2) ≡ Found (Step (get_or s (at + 3) 0)) (at + 4)
-  pub third : entry_at s (at + 4) ≡ Found (Step (get_or s (at + 5) 0)) (at + 6)
-  pub fourth : entry_at s (at + 6) ≡ Found (Step (get_or s (at + 7) 0)) (at + 8)
+  pub first : entry_at s at ≡ Ok (Some (Step (get_or s (at + 1) 0), at + 2))
+  pub second : entry_at s (at + 2) ≡ Ok (Some (Step (get_or s (at + 3) 0), at + 4))
+  pub third : entry_at s (at + 4) ≡ Ok (Some (Step (get_or s (at + 5) 0), at + 6))
+  pub fourth : entry_at s (at + 6) ≡ Ok (Some (Step (get_or s (at + 7) 0), at + 8))
 
 module _ (s : List ℕ) (at : ℕ) where
   bytes : four_steps s at ≡ true → Bytes s at
@@ -40,17 +39,8 @@ module _ (s : List ℕ) (at : ℕ) where
       let d = both _ _ c.1 in
       record { fits = leb-true _ _ a.0; first = eqb-true _ _ b.0; second = eqb-true _ _ c.0; third = eqb-true _ _ d.0; fourth = eqb-true _ _ d.1 }
 
-  -- without one of the bytes there are not four
-  pub not-four : (Bytes s at → ⊥) → false ≡ four_steps s at
-  not-four h = untrue (four_steps s at) (λ t. h (bytes t))
-
-  -- with all but the last, it decides
-  pub last-tells : at + 8 ≤ length s → get_or s at 0 ≡ 1 → get_or s (at + 2) 0 ≡ 1 → get_or s (at + 4) 0 ≡ 1 → eqb (get_or s (at + 6) 0) 1 ≡ four_steps s at
-  unfolding four_steps
-  last-tells l a b c = rw (le-leb _ _ l, eq-eqb _ _ a, eq-eqb _ _ b, eq-eqb _ _ c)
-
   -- the step k bytes behind the position
-  behind : (k : ℕ) → at + k + 2 ≤ length s → get_or s (at + k) 0 ≡ 1 → entry_at s (at + k) ≡ Found (Step (get_or s (at + (k + 1)) 0)) (at + (k + 2))
+  behind : (k : ℕ) → at + k + 2 ≤ length s → get_or s (at + k) 0 ≡ 1 → entry_at s (at + k) ≡ Ok (Some (Step (get_or s (at + (k + 1)) 0), at + (k + 2)))
   behind k l h = rw (← add_assoc at k 1, ← add_assoc at k 2) (reads-step s (at + k) (omega arith) h)
 
   pub steps : four_steps s at ≡ true → Steps s at

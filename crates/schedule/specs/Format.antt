@@ -1,9 +1,8 @@
 -- The bytes of an entry, and the entry that stands at a position of a schedule: document 01, "Schedule".
-use Rattle.std.specs.Prelude.{List, [], ◌∷◌, ◌++◌, cond, ◌↔◌, ◌⊎◌, ◌≡◌, ℕ, ◌+◌, ◌≤◌, ◌<◌, length, drop, eqb}
+use Rattle.std.specs.Prelude.{List, [], ◌∷◌, ◌++◌, cond, ◌↔◌, ◌⊎◌, ◌≡◌, ℕ, ◌+◌, ◌≤◌, ◌<◌, length, drop, eqb, Option, Some, None, Result, Ok, Err}
 use Rattle.schedule.specs.declared.Entry.{Entry}
 use Rattle.schedule.specs.declared.Entry.TheVariants.{Step, Take, Steal, Enable}
-use Rattle.schedule.specs.declared.EntryRead.{EntryRead}
-use Rattle.schedule.specs.declared.EntryRead.TheVariants.{Found, End, Malformed}
+use Rattle.schedule.specs.declared.Malformed.{Malformed}
 
 -- "01 c step; 02 c take ..; 03 c t steal ..; 04 t enable"
 abbrev pub bytes_of_entry : Entry → List ℕ
@@ -25,12 +24,16 @@ one_operand k x found unknown =
     (cond (eqb k 4) (found (Enable x))
     unknown))
 
+-- what reading finds: an entry and the position after it, none at the end, or an unknown byte or a cut entry
+abbrev pub EntryRead : Type 0
+EntryRead = Result (Option (Entry × ℕ)) Malformed
+
 -- the entry at the front of bytes that start at a position, with the position after it
 unfoldable pub entry_in : ℕ → List ℕ → EntryRead
-entry_in at [] = End
-entry_in at (k ∷ []) = Malformed
-entry_in at (k ∷ x ∷ []) = one_operand k x (λ e. Found e (at + 2)) Malformed
-entry_in at (k ∷ x ∷ y ∷ rest) = cond (eqb k 3) (Found (Steal x y) (at + 3)) (one_operand k x (λ e. Found e (at + 2)) Malformed)
+entry_in at [] = Ok None
+entry_in at (k ∷ []) = Err (record {})
+entry_in at (k ∷ x ∷ []) = one_operand k x (λ e. Ok (Some (e, at + 2))) (Err (record {}))
+entry_in at (k ∷ x ∷ y ∷ rest) = cond (eqb k 3) (Ok (Some (Steal x y, at + 3))) (one_operand k x (λ e. Ok (Some (e, at + 2))) (Err (record {})))
 
 -- the entry at a position of a schedule
 unfoldable pub entry_at : List ℕ → ℕ → EntryRead
@@ -38,9 +41,9 @@ entry_at s at = entry_in at (drop at s)
 
 -- document 01's number for each answer of `read`: 13 is "unknown byte, cut entry"
 abbrev pub number_of_entry_read : EntryRead → ℕ
-number_of_entry_read (Found e next) = 0
-number_of_entry_read End = 0
-number_of_entry_read Malformed = 13
+number_of_entry_read (Ok (Some (e, next))) = 0
+number_of_entry_read (Ok None) = 0
+number_of_entry_read (Err _) = 13
 
 -- an entry's bytes stand at a position
 abbrev pub StandsAt : List ℕ → ℕ → Entry → Type 0
@@ -53,6 +56,6 @@ pub record EntryAnswer (s : List ℕ) (at : ℕ) (r : EntryRead) : Type 0 where
   pub number13 : (number_of_entry_read r ≡ 13) ↔ ((at < length s) × ((e : Entry) → ¬ (StandsAt s at e)))
   -- else nothing is left, or an entry's bytes stand there
   pub number0 : (number_of_entry_read r ≡ 0) ↔ ((length s ≤ at) ⊎ ((e : Entry) × StandsAt s at e))
-  pub ends : (r ≡ End) ↔ (length s ≤ at)
+  pub ends : (r ≡ Ok None) ↔ (length s ≤ at)
   -- that entry is given, with "the next entry's position"
-  pub finds : (e : Entry) → (r ≡ Found e (at + length (bytes_of_entry e))) ↔ StandsAt s at e
+  pub finds : (e : Entry) → (r ≡ Ok (Some (e, at + length (bytes_of_entry e)))) ↔ StandsAt s at e

@@ -2,7 +2,7 @@
 // written at a position, and the entries of a whole schedule are counted, which is where document 01's number 13 is found.
 #![tactic(auto)]
 
-ghost use Rattle.std.specs.Prelude.{◌≡◌, [], ◌∷◌};
+ghost use Rattle.std.specs.Prelude.{◌≡◌};
 ghost use Rattle.schedule.specs.Format.{bytes_of_entry, EntryAnswer};
 ghost use Rattle.schedule.specs.Four.{four_steps};
 ghost use Rattle.schedule.specs.Meaning.{Counts};
@@ -15,7 +15,7 @@ const LONGEST: usize = 32768;
 const STEP: u8 = 1;
 
 // One entry: 01 c, 02 c, 03 c t, 04 t.
-#[derive(Clone, Copy)]
+#[derive(Clone, Copy, Debug, PartialEq, Eq)]
 pub enum Entry {
     Step(u8),
     Take(u8),
@@ -23,156 +23,96 @@ pub enum Entry {
     Enable(u8),
 }
 
-// What reading at a position finds.
-#[derive(Clone, Copy)]
-pub enum EntryRead {
-    // An entry, and the position after it.
-    Found(Entry, usize),
-    // The schedule's end.
-    End,
-    // An unknown byte or a cut entry.
-    Malformed,
-}
+// An unknown byte, a cut entry or too long a schedule.
+#[derive(Clone, Copy, Debug, PartialEq, Eq)]
+pub struct Malformed;
 
-// How many entries a schedule has.
-#[derive(Clone, Copy)]
-pub enum Counted {
-    Entries(usize),
-    Malformed,
-}
+// The entry does not fit: nothing was written.
+#[derive(Clone, Copy, Debug, PartialEq, Eq)]
+pub struct NoRoom;
 
-// How many bytes were written.
-#[derive(Clone, Copy)]
-pub enum Written {
-    Bytes(usize),
-    // The entry does not fit: nothing was written.
-    NoRoom,
-}
-
-// The entry at a position of a schedule.
-pub fn read(schedule: &[u8], at: usize) -> EntryRead
+// The entry at a position of a schedule, and the position after it; none at the schedule's end.
+pub fn read(schedule: &[u8], at: usize) -> Result<Option<(Entry, usize)>, Malformed>
     ensures { EntryAnswer schedule.now at result }
 {
     let length = schedule.len();
     if length <= at {
-        return EntryRead::End;
+        return Ok(None);
     }
     let left = length - at;
     if left < 2 {
-        return EntryRead::Malformed;
+        return Err(Malformed);
     }
-    let kind = schedule[at];
     let first = schedule[at + 1];
-    if kind == STEP {
-        return EntryRead::Found(Entry::Step(first), at + 2);
+    // No slice pattern: it gives the proof no fact of the bytes that it compares.
+    match schedule[at] {
+        STEP => Ok(Some((Entry::Step(first), at + 2))),
+        2 => Ok(Some((Entry::Take(first), at + 2))),
+        3 if 3 <= left => Ok(Some((Entry::Steal(first, schedule[at + 2]), at + 3))),
+        4 => Ok(Some((Entry::Enable(first), at + 2))),
+        _ => Err(Malformed),
     }
-    if kind == 2 {
-        return EntryRead::Found(Entry::Take(first), at + 2);
-    }
-    if kind == 4 {
-        return EntryRead::Found(Entry::Enable(first), at + 2);
-    }
-    if kind != 3 {
-        return EntryRead::Malformed;
-    }
-    if left < 3 {
-        return EntryRead::Malformed;
-    }
-    let second = schedule[at + 2];
-    EntryRead::Found(Entry::Steal(first, second), at + 3)
 }
 
 // Do four steps stand at a position? They are looked at together, since most schedules are steps.
+#[tactic(auto, unfolding(crate::specs::Four::four_steps))]
 fn four_steps(schedule: &[u8], at: usize) -> bool
     ensures { result ≡ four_steps schedule.now at }
 {
     let length = schedule.len();
-    if length < 8 {
-        return false;
-    }
-    if length - 8 < at {
-        return false;
-    }
-    if schedule[at] != STEP {
-        return false;
-    }
-    if schedule[at + 2] != STEP {
-        return false;
-    }
-    if schedule[at + 4] != STEP {
-        return false;
-    }
-    schedule[at + 6] == STEP
+    8 <= length
+        && at <= length - 8
+        && schedule[at] == STEP
+        && schedule[at + 2] == STEP
+        && schedule[at + 4] == STEP
+        && schedule[at + 6] == STEP
 }
 
 // The number of entries of a whole schedule, four steps at once where they stand.
-pub fn count(schedule: &[u8]) -> Counted
+pub fn count(schedule: &[u8]) -> Result<usize, Malformed>
     ensures { Counts schedule.now result }
 {
     if LONGEST < schedule.len() {
-        return Counted::Malformed;
+        return Err(Malformed);
     }
     let mut at: usize = 0;
     let mut entries: usize = 0;
     loop {
         if four_steps(schedule, at) {
-            at = at + 8;
-            entries = entries + 4;
+            at += 8;
+            entries += 4;
             continue;
         }
-        let next = read(schedule, at);
-        match next {
-            EntryRead::Found(_, after) => {
+        match read(schedule, at)? {
+            Some((_, after)) => {
                 at = after;
-                entries = entries + 1;
+                entries += 1;
             }
-            EntryRead::End => return Counted::Entries(entries),
-            EntryRead::Malformed => return Counted::Malformed,
+            None => return Ok(entries),
         }
     }
 }
 
-// Two bytes at a position, if they fit.
-fn write_two(kind: u8, first: u8, buffer: &mut [u8], at: usize) -> Written
-    ensures { Writes (kind ∷ first ∷ []) buffer.old at result buffer.new }
+// Bytes at a position, if they fit.
+fn put(bytes: &[u8], buffer: &mut [u8], at: usize) -> Result<usize, NoRoom>
+    ensures { Writes bytes.now buffer.old at result buffer.new }
 {
     let length = buffer.len();
-    if length < 2 {
-        return Written::NoRoom;
+    if length < bytes.len() || length - bytes.len() < at {
+        return Err(NoRoom);
     }
-    if length - 2 < at {
-        return Written::NoRoom;
-    }
-    buffer[at] = kind;
-    buffer[at + 1] = first;
-    Written::Bytes(2)
-}
-
-// Three bytes at a position, if they fit.
-fn write_three(kind: u8, first: u8, second: u8, buffer: &mut [u8], at: usize) -> Written
-    ensures { Writes (kind ∷ first ∷ second ∷ []) buffer.old at result buffer.new }
-{
-    let length = buffer.len();
-    if length < 3 {
-        return Written::NoRoom;
-    }
-    if length - 3 < at {
-        return Written::NoRoom;
-    }
-    buffer[at] = kind;
-    buffer[at + 1] = first;
-    buffer[at + 2] = second;
-    Written::Bytes(3)
+    buffer[at..at + bytes.len()].copy_from_slice(bytes);
+    Ok(bytes.len())
 }
 
 // An entry's bytes at a position of a buffer; the other bytes stay. An entry that does not fit leaves all bytes as they were.
-pub fn write(entry: Entry, buffer: &mut [u8], at: usize) -> Written
+pub fn write(entry: Entry, buffer: &mut [u8], at: usize) -> Result<usize, NoRoom>
     ensures { Writes (bytes_of_entry entry) buffer.old at result buffer.new }
 {
     match entry {
-        Entry::Step(c) => write_two(STEP, c, buffer, at),
-        Entry::Take(c) => write_two(2, c, buffer, at),
-        Entry::Steal(c, t) => write_three(3, c, t, buffer, at),
-        Entry::Enable(t) => write_two(4, t, buffer, at),
+        Entry::Step(c) => put(&[STEP, c], buffer, at),
+        Entry::Take(c) => put(&[2, c], buffer, at),
+        Entry::Steal(c, t) => put(&[3, c, t], buffer, at),
+        Entry::Enable(t) => put(&[4, t], buffer, at),
     }
 }

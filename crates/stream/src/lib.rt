@@ -20,7 +20,7 @@ pub fn read_full<R: Read>(reader: &mut R, buffer: &mut [u8]) -> io::Result<usize
         if got == 0 {
             return Ok(n);
         }
-        n = n + got;
+        n += got;
     }
     Ok(n)
 }

@@ -10,36 +10,18 @@ const PARAMETERS: usize = 32;
 // The number of memory words.
 const MEMORY: usize = 992;
 
-// The empty part at the front of the parameter words.
-fn nothing<'a>(words: &'a [u32]) -> &'a [u32]
-    ensures { IsPart words.entry 0 0 result }
-{
-    &words[0..0]
-}
-
-// The words at the addresses from p up to q, q left out.
+// The words at the addresses from p up to q, q left out; else the empty part at the front of the parameter words.
 pub fn view<'a>(parameters: &'a [u32], memory: &'a [u32], p: usize, q: usize) -> &'a [u32]
     ensures { Shows parameters.entry memory.entry p q result }
 {
-    if parameters.len() != PARAMETERS {
-        return nothing(parameters); // a wrong buffer length
-    }
-    if memory.len() != MEMORY {
-        return nothing(parameters); // a wrong buffer length
-    }
-    if q < p {
-        return nothing(parameters); // reversed
+    if parameters.len() != PARAMETERS || memory.len() != MEMORY || q < p {
+        return &parameters[..0]; // wrong buffer lengths, or reversed
     }
     if q <= PARAMETERS {
         return &parameters[p..q];
     }
-    if p < PARAMETERS {
-        return nothing(parameters); // crossing 32
+    if p < PARAMETERS || PARAMETERS + MEMORY < q {
+        return &parameters[..0]; // crossing 32, or past 1,024
     }
-    if PARAMETERS + MEMORY < q {
-        return nothing(parameters); // past 1,024
-    }
-    let start = p - PARAMETERS;
-    let end = q - PARAMETERS;
-    &memory[start..end]
+    &memory[p - PARAMETERS..q - PARAMETERS]
 }

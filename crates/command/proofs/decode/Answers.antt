@@ -1,12 +1,13 @@
 -- `command::decode` meets its contract. Assumes nothing.
 use borrow.Author.Tests.{ne_eqb}
 use borrow.Author.Rules.{rules}
+use mathlib.Core.Path.{refl}
 use Rattle.command.specs.Command.{decoded}
 use Rattle.command.proofs.decode.Goals as goal
 
 pub returns-in-1 : goal.returns-in-1
 unfolding decoded
-returns-in-1 c = rw (c.in-1.is, c.pair_of.ensures)
+returns-in-1 c = rw (c.in-1.is, c.from_le_bytes.ensures) refl
 
 pub returns-in-2 : goal.returns-in-2
 unfolding decoded
@@ -26,11 +27,11 @@ returns-in-5 c = rw c.in-5.is
 
 pub returns-in-6 : goal.returns-in-6
 unfolding decoded
-returns-in-6 c = rw (c.in-6.is, c.pair_of-in-6.ensures)
+returns-in-6 c = rw (c.in-6.is, c.from_le_bytes-in-6.ensures) refl
 
 pub returns-in-7 : goal.returns-in-7
 unfolding decoded
-returns-in-7 c = rw (c.in-7.is, c.pair_of-in-7.ensures)
+returns-in-7 c = rw (c.in-7.is, c.from_le_bytes-in-7.ensures) refl
 
 pub returns-in-8 : goal.returns-in-8
 unfolding decoded
