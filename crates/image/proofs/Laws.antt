@@ -10,12 +10,11 @@ use native.Mathlib.Omega.{arith}
 use lib.Dec.{leb}
 use lib.ListN.{length, get_or, drop, length-take, length-drop}
 use lib.Seq.{get_or-take, get_or-drop}
+use Rattle.std.specs.Prelude.{Ok}
 use Rattle.command.specs.declared.Command.{Command}
-use Rattle.command.specs.declared.CommandRead.TheVariants.{Found}
 use Rattle.command.specs.Command.{command_at}
 use Rattle.command.proofs.Bools.{both}
 use Rattle.command.proofs.RoundTrip.{stands, found_alike}
-use Rattle.image.specs.declared.Verdict.TheVariants.{Accepted}
 use Rattle.image.specs.Layout.{routine_count, slots_of, arguments_of, length_of, start_of, code_of}
 use Rattle.image.specs.Code.{commands_of, is_start, ends, target_good, routine_verdict}
 use Rattle.image.specs.Image.{in_range, row_good, routines_verdict}
@@ -28,7 +27,7 @@ pub record Placed (s : List ℕ) (r p : ℕ) : Type 0 where
   pub command : Command
   pub width : ℕ
   -- it is read at its place in the image, and ends within it
-  pub found : command_at s (start_of s r + p) ≡ Found command width
+  pub found : command_at s (start_of s r + p) ≡ Ok (command, width)
   pub some : 1 ≤ width
   pub inside : p + width ≤ length_of s r
   -- its slots, argument run and routine are in range
@@ -38,18 +37,18 @@ pub record Placed (s : List ℕ) (r p : ℕ) : Type 0 where
   pub next : ends command ≡ false → is_start (commands_of (code_of s r)) (p + width) ≡ true
 
 -- of routines that are all accepted, each is
-each-routine : (s : List ℕ) (r n k : ℕ) → k ≤ r → r < k + n → routines_verdict s n k ≡ Accepted
-    → routine_verdict (in_range s (slots_of s r)) (code_of s r) ≡ Accepted
+each-routine : (s : List ℕ) (r n k : ℕ) → k ≤ r → r < k + n → routines_verdict s n k ≡ Ok tt
+    → routine_verdict (in_range s (slots_of s r)) (code_of s r) ≡ Ok tt
 unfolding routines_verdict
 each-routine s r zero k l m e = absurd (omega arith)
 each-routine s r (suc n) k l m e =
     go (ℕ_discrete k r) (λ d. each-routine s r n (suc k) (omega arith) (omega arith) parts.1)
   where
-    parts : (routine_verdict (in_range s (slots_of s k)) (code_of s k) ≡ Accepted) × (routines_verdict s n (suc k) ≡ Accepted)
+    parts : (routine_verdict (in_range s (slots_of s k)) (code_of s k) ≡ Ok tt) × (routines_verdict s n (suc k) ≡ Ok tt)
     parts = both-accept (routine_verdict (in_range s (slots_of s k)) (code_of s k)) (routines_verdict s n (suc k)) e
 
-    go : Dec (k ≡ r) → (¬ (k ≡ r) → routine_verdict (in_range s (slots_of s r)) (code_of s r) ≡ Accepted)
-        → routine_verdict (in_range s (slots_of s r)) (code_of s r) ≡ Accepted
+    go : Dec (k ≡ r) → (¬ (k ≡ r) → routine_verdict (in_range s (slots_of s r)) (code_of s r) ≡ Ok tt)
+        → routine_verdict (in_range s (slots_of s r)) (code_of s r) ≡ Ok tt
     go (yes d) f = rw (← d) parts.0
     go (no d) f = f d
 
@@ -79,7 +78,7 @@ module _ (s : List ℕ) (a : Accepts s) (r : ℕ) (h : r < routine_count s) wher
   length-code = let e = code-ends in simp (length-take, length-drop) (omega arith)
 
   -- each routine's verdict is accepted
-  pub routine-good : routine_verdict (in_range s (slots_of s r)) (code_of s r) ≡ Accepted
+  pub routine-good : routine_verdict (in_range s (slots_of s r)) (code_of s r) ≡ Ok tt
   routine-good = each-routine s r (routine_count s) 0 (omega arith) (omega arith) a.routines
 
   -- a routine's first position is a command's start

@@ -9,3 +9,4 @@ pub mod Accepted
 pub mod Starts
 pub mod Laws
 pub mod Cases
+pub mod Answer

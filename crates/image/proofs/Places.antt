@@ -8,10 +8,10 @@ use native.Mathlib.Numerals.{add-one}
 use native.Mathlib.Omega.{arith}
 use lib.ListN.{length, get_or, set, take, drop, replicate, length-set, length-replicate}
 use lib.Seq.{get_or-set_same, get_or-set_other}
+use Rattle.std.specs.Prelude.{Ok, Err}
 use Rattle.command.proofs.Bools.{both}
 use Rattle.image.specs.declared.Row.{Row}
-use Rattle.image.specs.declared.Verdict.{Verdict}
-use Rattle.image.specs.declared.Verdict.TheVariants.{Accepted, Rejected}
+use Rattle.image.specs.Code.{Verdict}
 use Rattle.image.specs.declared.Refusal.{Refusal}
 use Rattle.image.specs.Layout.{routine_count, slots_of, length_of, start_of, code_of, row_of, rows_of, blank_row, program_of, starts_in, starts_up_to}
 use Rattle.image.specs.Code.{routine_verdict}
@@ -101,7 +101,7 @@ module _ (s : List ℕ) where
   routine-at r start len slots v e f g is = is ∙ rw (code-part r start len e f, g)
 
   -- one routine more is accepted
-  pub routine-passes : (r n : ℕ) (v : Verdict) → r < n → v ≡ routine_verdict (in_range s (slots_of s r)) (code_of s r) → v ≡ Accepted
+  pub routine-passes : (r n : ℕ) (v : Verdict) → r < n → v ≡ routine_verdict (in_range s (slots_of s r)) (code_of s r) → v ≡ Ok tt
       → routines_verdict s (n - r) r ≡ routines_verdict s (n - (r + 1)) (r + 1)
   unfolding routines_verdict
   routine-passes r n v h is e =
@@ -109,14 +109,14 @@ module _ (s : List ℕ) where
       rw (d, sym is ∙ e, add-one)
 
   -- a routine is refused
-  pub routine-fails : (r n : ℕ) (v : Verdict) (x : Refusal) → r < n → v ≡ routine_verdict (in_range s (slots_of s r)) (code_of s r) → v ≡ Rejected x
-      → Rejected x ≡ routines_verdict s (n - r) r
+  pub routine-fails : (r n : ℕ) (v : Verdict) (x : Refusal) → r < n → v ≡ routine_verdict (in_range s (slots_of s r)) (code_of s r) → v ≡ Err x
+      → Err x ≡ routines_verdict s (n - r) r
   unfolding routines_verdict
   routine-fails r n v x h is e =
       let d : n - r ≡ suc (n - (r + 1)) = omega arith in
       rw (d, sym is ∙ e)
 
-  pub routines-end : (r n : ℕ) → n ≤ r → Accepted ≡ routines_verdict s (n - r) r
+  pub routines-end : (r n : ℕ) → n ≤ r → Ok tt ≡ routines_verdict s (n - r) r
   unfolding routines_verdict
   routines-end r n h = let d : n - r ≡ 0 = omega arith in rw d
 

@@ -9,14 +9,14 @@ use native.Mathlib.Decide.{ℕ_discrete, dec_lt}
 use native.Mathlib.Omega.{arith}
 use lib.Dec.{eqb}
 use lib.ListN.{length}
+use Rattle.std.specs.Prelude.{Result, Ok, Err}
 use Rattle.command.specs.declared.Command.{Command}
-use Rattle.command.specs.declared.CommandRead.{CommandRead}
-use Rattle.command.specs.declared.CommandRead.TheVariants.{Found, Unknown, CutOff}
+use Rattle.command.specs.declared.CommandError.{CommandError}
+use Rattle.command.specs.declared.CommandError.TheVariants.{Unknown, CutOff}
 use Rattle.command.specs.Command.{command_at}
 use Rattle.command.proofs.Bools.{both}
 use Rattle.command.proofs.RoundTrip.{stands, at-end}
-use Rattle.image.specs.declared.Verdict.{Verdict}
-use Rattle.image.specs.declared.Verdict.TheVariants.{Accepted, Rejected}
+use Rattle.image.specs.Code.{Verdict}
 use Rattle.image.specs.declared.Refusal.{Refusal}
 use Rattle.image.specs.declared.Refusal.TheVariants.{UnknownByte, OperandsCutOff, OutOfRange, BadEnd, BadTarget}
 use Rattle.image.specs.Code.{commands_from, commands_of, verdict_from, last_ends, ends, is_start, target_good, targets_good, read_verdict, routine_verdict, ◌then◌}
@@ -25,7 +25,7 @@ use Rattle.image.proofs.Walk.{start-found, targets-found, last_found, commands-e
 clash : {P : Type 0} (b : Bool) → b ≡ true → b ≡ false → P
 clash b h k = let z : ◌≡◌ {A = ℕ} 0 1 = cc in absurd (omega arith)
 
-never : {P : Type 0} (n : Refusal) → Rejected n ≡ Accepted → P
+never : {P : Type 0} (n : Refusal) → ◌≡◌ {A = Verdict} (Err n) (Ok tt) → P
 never n h = let z : ◌≡◌ {A = ℕ} 0 1 = cc in absurd (omega arith)
 
 or_right : (a b : Bool) → b ≡ true → (a || b) ≡ true
@@ -36,7 +36,7 @@ or_right false b h = h
 pub record Standing (ok : Command → Bool) (start later : ℕ → Bool) (code : List ℕ) (p : ℕ) : Type 0 where
   pub command : Command
   pub width : ℕ
-  pub found : command_at code p ≡ Found command width
+  pub found : command_at code p ≡ Ok (command, width)
   pub range : ok command ≡ true
   pub target : target_good start command ≡ true
   pub next : ends command ≡ false → later (p + width) ≡ true
@@ -45,27 +45,27 @@ pub record Standing (ok : Command → Bool) (start later : ℕ → Bool) (code :
 pub record Passed (ok : Command → Bool) (code : List ℕ) (left at : ℕ) : Type 0 where
   pub command : Command
   pub width : ℕ
-  pub found : command_at code at ≡ Found command width
+  pub found : command_at code at ≡ Ok (command, width)
   pub range : ok command ≡ true
-  pub rest : verdict_from ok code left (at + width) ≡ Accepted
+  pub rest : verdict_from ok code left (at + width) ≡ Ok tt
 
-passed : (ok : Command → Bool) (code : List ℕ) (left at : ℕ) → at < length code → verdict_from ok code (suc left) at ≡ Accepted → Passed ok code left at
+passed : (ok : Command → Bool) (code : List ℕ) (left at : ℕ) → at < length code → verdict_from ok code (suc left) at ≡ Ok tt → Passed ok code left at
 unfolding verdict_from
 passed ok code left at h v = by (command_at code at) refl (rw (lt-leb (length code) at h) at v)
   where
-    ranged : (c : Command) (n : ℕ) → command_at code at ≡ Found c n → (b : Bool) → ok c ≡ b
-        → cond b (verdict_from ok code left (at + n)) (Rejected OutOfRange) ≡ Accepted → Passed ok code left at
+    ranged : (c : Command) (n : ℕ) → command_at code at ≡ Ok (c, n) → (b : Bool) → ok c ≡ b
+        → cond b (verdict_from ok code left (at + n)) (Err OutOfRange) ≡ Ok tt → Passed ok code left at
     ranged c n f true e w = record { command = c; width = n; found = f; range = e; rest = w }
     ranged c n f false e w = never OutOfRange w
 
-    by : (r : CommandRead) → command_at code at ≡ r
-        → read_verdict r (λ c n. cond (ok c) (verdict_from ok code left (at + n)) (Rejected OutOfRange)) ≡ Accepted → Passed ok code left at
-    by (Found c n) f w = ranged c n f (ok c) refl w
-    by Unknown f w = never UnknownByte w
-    by CutOff f w = never OperandsCutOff w
+    by : (r : Result (Command × ℕ) CommandError) → command_at code at ≡ r
+        → read_verdict r (λ c n. cond (ok c) (verdict_from ok code left (at + n)) (Err OutOfRange)) ≡ Ok tt → Passed ok code left at
+    by (Ok (c, n)) f w = ranged c n f (ok c) refl w
+    by (Err Unknown) f w = never UnknownByte w
+    by (Err CutOff) f w = never OperandsCutOff w
 
 -- where there is code left, a command starts
-starts-here : (ok : Command → Bool) (code : List ℕ) (left at : ℕ) → at < length code → length code ≤ at + left → verdict_from ok code left at ≡ Accepted
+starts-here : (ok : Command → Bool) (code : List ℕ) (left at : ℕ) → at < length code → length code ≤ at + left → verdict_from ok code left at ≡ Ok tt
     → is_start (commands_from code left at) at ≡ true
 starts-here ok code zero at h e v = absurd (omega arith)
 starts-here ok code (suc left) at h e v =
@@ -73,8 +73,8 @@ starts-here ok code (suc left) at h e v =
     start-found code left at q.width q.command q.found at ∙ rw (eq-eqb at at refl)
 
 -- behind a command that does not end the code another one starts
-follows : (ok : Command → Bool) (code : List ℕ) (left at n : ℕ) (c : Command) (last : Bool) → command_at code at ≡ Found c n
-    → length code ≤ at + n + left → verdict_from ok code left (at + n) ≡ Accepted → last_ends last (commands_from code (suc left) at) ≡ true
+follows : (ok : Command → Bool) (code : List ℕ) (left at n : ℕ) (c : Command) (last : Bool) → command_at code at ≡ Ok (c, n)
+    → length code ≤ at + n + left → verdict_from ok code left (at + n) ≡ Ok tt → last_ends last (commands_from code (suc left) at) ≡ true
     → ends c ≡ false → is_start (commands_from code (suc left) at) (at + n) ≡ true
 unfolding last_ends
 follows ok code left at n c last found few v l e = go (dec_lt (at + n) (length code))
@@ -130,7 +130,7 @@ module _ (ok : Command → Bool) (start : ℕ → Bool) (code : List ℕ) (p : �
             next = λ e. start-found code left at q.width q.command q.found (p + r.width) ∙ or_right (eqb at (p + r.width)) _ (r.next e);
           }
 
-  standing-from : (left at : ℕ) (last : Bool) → length code ≤ at + left → verdict_from ok code left at ≡ Accepted
+  standing-from : (left at : ℕ) (last : Bool) → length code ≤ at + left → verdict_from ok code left at ≡ Ok tt
       → last_ends last (commands_from code left at) ≡ true → targets_good start (commands_from code left at) ≡ true
       → is_start (commands_from code left at) p ≡ true → Standing ok start (is_start (commands_from code left at)) code p
   standing-from zero at last few v l t s = none-past-end code zero at p (omega arith) s
@@ -139,7 +139,7 @@ module _ (ok : Command → Bool) (start : ℕ → Bool) (code : List ℕ) (p : �
       (λ n c few v s t l. standing-from left (at + n) (ends c) few v l t s)
     where
       go : Dec (at < length code)
-          → ((n : ℕ) (c : Command) → length code ≤ at + n + left → verdict_from ok code left (at + n) ≡ Accepted
+          → ((n : ℕ) (c : Command) → length code ≤ at + n + left → verdict_from ok code left (at + n) ≡ Ok tt
           → is_start (commands_from code left (at + n)) p ≡ true → targets_good start (commands_from code left (at + n)) ≡ true
           → last_ends (ends c) (commands_from code left (at + n)) ≡ true → Standing ok start (is_start (commands_from code left (at + n))) code p)
           → Standing ok start (is_start (commands_from code (suc left) at)) code p
@@ -150,21 +150,21 @@ module _ (ok : Command → Bool) (start : ℕ → Bool) (code : List ℕ) (p : �
           (λ s' t' l'. more q.width q.command (omega (arith, (stands code at q.command q.width q.found).some)) q.rest s' t' l')
 
 -- both of two verdicts accept
-pub both-accept : (u v : Verdict) → (u then v) ≡ Accepted → (u ≡ Accepted) × (v ≡ Accepted)
-both-accept Accepted v h = (refl, h)
-both-accept (Rejected n) v h = never n h
+pub both-accept : (u v : Verdict) → (u then v) ≡ Ok tt → (u ≡ Ok tt) × (v ≡ Ok tt)
+both-accept (Ok tt) v h = (refl, h)
+both-accept (Err n) v h = never n h
 
-tested : (b : Bool) (n : Refusal) → cond b Accepted (Rejected n) ≡ Accepted → b ≡ true
+tested : (b : Bool) (n : Refusal) → cond {A = Verdict} b (Ok tt) (Err n) ≡ Ok tt → b ≡ true
 tested true n h = refl
 tested false n h = never n h
 
 -- a code that a routine's tests accept
-module _ (ok : Command → Bool) (code : List ℕ) (e : routine_verdict ok code ≡ Accepted) where
+module _ (ok : Command → Bool) (code : List ℕ) (e : routine_verdict ok code ≡ Ok tt) where
   pub standing : (p : ℕ) → is_start (commands_of code) p ≡ true → Standing ok (is_start (commands_of code)) (is_start (commands_of code)) code p
   unfolding routine_verdict commands_of
   standing p s =
       let a = both-accept (verdict_from ok code (length code) 0) _ e in
-      let b = both-accept (cond (last_ends false (commands_of code)) Accepted (Rejected BadEnd)) _ a.1 in
+      let b = both-accept (cond (last_ends false (commands_of code)) (Ok tt) (Err BadEnd)) _ a.1 in
       standing-from ok (is_start (commands_of code)) code p (length code) 0 false (omega arith) a.0
       (tested (last_ends false (commands_of code)) BadEnd b.0) (tested (targets_good (is_start (commands_of code)) (commands_of code)) BadTarget b.1) s
 

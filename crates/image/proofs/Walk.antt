@@ -9,20 +9,19 @@ use native.Mathlib.Omega.{arith}
 use lib.Dec.{eqb}
 use lib.ListN.{length, get_or, set, length-set}
 use lib.Seq.{get_or-set_same, get_or-set_other}
+use Rattle.std.specs.Prelude.{Result, Ok, Err}
 use Rattle.command.specs.declared.Command.{Command}
-use Rattle.command.specs.declared.CommandRead.{CommandRead}
-use Rattle.command.specs.declared.CommandRead.TheVariants.{Found, Unknown, CutOff}
+use Rattle.command.specs.declared.CommandError.{CommandError}
+use Rattle.command.specs.declared.CommandError.TheVariants.{Unknown, CutOff}
 use Rattle.command.specs.Command.{command_at}
 use Rattle.command.proofs.Bools.{both}
 use Rattle.command.proofs.RoundTrip.{stands, at-end}
-use Rattle.image.specs.declared.Verdict.{Verdict}
-use Rattle.image.specs.declared.Verdict.TheVariants.{Accepted, Rejected}
 use Rattle.image.specs.declared.Refusal.{Refusal}
 use Rattle.image.specs.Code.{commands_from, commands_of, verdict_from, last_ends, ends, is_start, target_good, targets_good}
-use Rattle.image.specs.Marks.{marked, may_end, Blank, Awaited, Inside, MarksAsked, WalkedBy}
+use Rattle.image.specs.Marks.{marked, may_end, Blank, Awaited, Inside, MarksAsked, WalkPassed}
 use Rattle.image.proofs.Asking.{never}
 
-accepted-at-end : (ok : Command → Bool) (code : List ℕ) (left at : ℕ) → length code ≤ at → Accepted ≡ verdict_from ok code left at
+accepted-at-end : (ok : Command → Bool) (code : List ℕ) (left at : ℕ) → length code ≤ at → Ok tt ≡ verdict_from ok code left at
 unfolding verdict_from
 accepted-at-end ok code zero at h = refl
 accepted-at-end ok code (suc left) at h = rw (le-leb (length code) at h)
@@ -44,7 +43,7 @@ pub record Far (ok : Command → Bool) (code marks : List ℕ) (at : ℕ) (last 
   pub going : Going ok code marks at last inside left
 
 -- a command found at `at`, and the commands behind it
-module _ (code : List ℕ) (left at n : ℕ) (c : Command) (found : command_at code at ≡ Found c n) where
+module _ (code : List ℕ) (left at n : ℕ) (c : Command) (found : command_at code at ≡ Ok (c, n)) where
   verdict-found : (ok : Command → Bool) → at < length code → ok c ≡ true → verdict_from ok code (suc left) at ≡ verdict_from ok code left (at + n)
   unfolding verdict_from
   verdict-found ok h fine = rw (lt-leb (length code) at h, found, fine)
@@ -63,7 +62,7 @@ module _ (code : List ℕ) (left at n : ℕ) (c : Command) (found : command_at c
   targets-found start = rw found
 
 -- where no command is found, none follows
-pub commands-end : (code : List ℕ) (left at : ℕ) → command_at code at ≡ CutOff → commands_from code left at ≡ []
+pub commands-end : (code : List ℕ) (left at : ℕ) → command_at code at ≡ Err CutOff → commands_from code left at ≡ []
 unfolding commands_from
 commands-end code zero at e = refl
 commands-end code (suc left) at e = rw e
@@ -74,14 +73,14 @@ unfolding commands_from is_start
 start-within code zero at t s = never s
 start-within code (suc left) at t s = go (command_at code at) refl (λ n. start-within code left (at + n) t)
   where
-    go : (r : CommandRead) → command_at code at ≡ r → ((n : ℕ) → is_start (commands_from code left (at + n)) t ≡ true → t < length code) → t < length code
-    go (Found c n) f more = by (eqb at t) refl (sym (start-found code left at n c f t) ∙ s)
+    go : (r : Result (Command × ℕ) CommandError) → command_at code at ≡ r → ((n : ℕ) → is_start (commands_from code left (at + n)) t ≡ true → t < length code) → t < length code
+    go (Ok (c, n)) f more = by (eqb at t) refl (sym (start-found code left at n c f t) ∙ s)
       where
         by : (b : Bool) → eqb at t ≡ b → (b || is_start (commands_from code left (at + n)) t) ≡ true → t < length code
         by true e h = let w = stands code at c n f in omega (arith, eqb-true at t e)
         by false e h = more n h
-    go Unknown f more = never (rw f at s)
-    go CutOff f more = never (rw f at s)
+    go (Err Unknown) f more = never (rw f at s)
+    go (Err CutOff) f more = never (rw f at s)
 
 -- a mark more, at `at`
 mark : (marks : List ℕ) (at t : ℕ) (b : Bool) → at < length marks → (marked (set marks at 1) t || b) ≡ (marked marks t || (eqb at t || b))
@@ -132,7 +131,7 @@ module _ (asked inside later : Bool) where
 
 -- the command found here is in range; it is marked, and its target asked for
 module _ (ok : Command → Bool) (code marks after : List ℕ) (at n : ℕ) (c : Command) (last end inside asked later : Bool) (room : length code ≡ length marks)
-    (h : at < length code) (found : command_at code at ≡ Found c n) (fine : ok c ≡ true) (ask : MarksAsked (λ start. target_good start c) (set marks at 1) after asked)
+    (h : at < length code) (found : command_at code at ≡ Ok (c, n)) (fine : ok c ≡ true) (ask : MarksAsked (λ start. target_good start c) (set marks at 1) after asked)
     (may : end ≡ ends c) (is : later ≡ (asked && inside)) where
   module _ (left : ℕ) (f : Going ok code marks at last inside (suc left)) where
     starts-marked : (t : ℕ) → (marked (set marks at 1) t || is_start (commands_from code left (at + n)) t) ≡ is_start (commands_of code) t
@@ -176,32 +175,21 @@ module _ (ok : Command → Bool) (code marks after : List ℕ) (at n : ℕ) (c :
 
 module _ (ok : Command → Bool) (code marks : List ℕ) (at : ℕ) (last inside : Bool) (f : Far ok code marks at last inside) where
   -- a command that is refused
-  pub refuses : (n : Refusal) (end : ℕ) (within : Bool) (verdict : Verdict) → verdict ≡ Rejected n
-      → ((left : ℕ) → verdict_from ok code (suc left) at ≡ Rejected n) → at < length code → WalkedBy ok code marks verdict end within
-  refuses n end within verdict is by h = record {
-    by = is ∙ go f.left f.going.enough f.going.verdict;
-    end = λ e. not-accepted (sym is ∙ e);
-    starts = λ e. not-accepted (sym is ∙ e);
-    put = λ e. not-accepted (sym is ∙ e);
-    back = λ e. not-accepted (sym is ∙ e);
-  }
+  pub refuses : (n : Refusal) → ((left : ℕ) → verdict_from ok code (suc left) at ≡ Err n) → at < length code → verdict_from ok code (length code) 0 ≡ Err n
+  refuses n by h = go f.left f.going.enough f.going.verdict
     where
-      go : (left : ℕ) → length code ≤ at + left → verdict_from ok code left at ≡ verdict_from ok code (length code) 0
-          → Rejected n ≡ verdict_from ok code (length code) 0
+      go : (left : ℕ) → length code ≤ at + left → verdict_from ok code left at ≡ verdict_from ok code (length code) 0 → verdict_from ok code (length code) 0 ≡ Err n
       go zero e w = absurd (omega arith)
-      go (suc left) e w = sym (by left) ∙ w
+      go (suc left) e w = sym w ∙ by left
 
-      not-accepted : {P : Type 0} → Rejected n ≡ Accepted → P
-      not-accepted e = let z : ◌≡◌ {A = ℕ} 0 1 = cc in absurd (omega arith)
-
-  pub finishes : (byte : ℕ) → last ≡ may_end byte → length code ≤ at → WalkedBy ok code marks Accepted byte inside
+  pub finishes : (byte : ℕ) → last ≡ may_end byte → length code ≤ at → WalkPassed ok code marks byte inside
   unfolding last_ends is_start targets_good
   finishes byte is h = record {
-    by = accepted-at-end ok code f.left at h ∙ f.going.verdict;
-    end = λ _. sym is ∙ ap (last_ends last) (sym none) ∙ f.going.end;
-    starts = λ _ t. sym (or-false (marked marks t)) ∙ ap (λ ps. marked marks t || is_start ps t) (sym none) ∙ f.going.starts t;
-    put = λ _ g. ((f.going.put g).0, (f.going.put g).1);
-    back = λ _ e a. f.going.back e a (ap (targets_good (is_start (commands_of code))) none);
+    by = sym (accepted-at-end ok code f.left at h ∙ f.going.verdict);
+    end = sym is ∙ ap (last_ends last) (sym none) ∙ f.going.end;
+    starts = λ t. sym (or-false (marked marks t)) ∙ ap (λ ps. marked marks t || is_start ps t) (sym none) ∙ f.going.starts t;
+    put = λ g. ((f.going.put g).0, (f.going.put g).1);
+    back = λ e a. f.going.back e a (ap (targets_good (is_start (commands_of code))) none);
   }
     where
       none : commands_from code f.left at ≡ []

@@ -1,12 +1,11 @@
 -- The commands of one routine's code, and the tests of a code: document 01's numbers 4 to 8.
-use Rattle.std.specs.Prelude.{Bool, true, false, cond, ◌&&◌, ◌||◌, List, [], ◌∷◌, ℕ, zero, suc, ◌+◌, leb, eqb, length}
+use Rattle.std.specs.Prelude.{Bool, true, false, cond, ◌&&◌, ◌||◌, List, [], ◌∷◌, ℕ, zero, suc, ◌+◌, leb, eqb, length, Result, Ok, Err}
 use Rattle.command.specs.declared.Command.{Command}
 use Rattle.command.specs.declared.Command.TheVariants.{Set, Add, Subtract, Load, Store, JumpIfZero, Jump, Lfork, Fork, Join, Suspend, Yield, Return, Share}
-use Rattle.command.specs.declared.CommandRead.{CommandRead}
-use Rattle.command.specs.declared.CommandRead.TheVariants.{Found, Unknown, CutOff}
+use Rattle.command.specs.declared.CommandError.{CommandError}
+use Rattle.command.specs.declared.CommandError.TheVariants.{Unknown, CutOff}
 use Rattle.command.specs.Command.{command_at}
-use Rattle.image.specs.declared.Verdict.{Verdict}
-use Rattle.image.specs.declared.Verdict.TheVariants.{Accepted, Rejected}
+use Rattle.image.specs.declared.Refusal.{Refusal}
 use Rattle.image.specs.declared.Refusal.TheVariants.{UnknownByte, OperandsCutOff, OutOfRange, BadEnd, BadTarget}
 
 -- a command and the position of its first byte in its routine's code
@@ -15,10 +14,9 @@ pub record Placed : Type 0 where
   pub command : Command
 
 -- what a found command gives, or else a
-abbrev pub when_found : {A : Type 0} → CommandRead → (Command → ℕ → A) → A → A
-when_found (Found c n) f a = f c n
-when_found Unknown f a = a
-when_found CutOff f a = a
+abbrev pub when_found : {A : Type 0} → Result (Command × ℕ) CommandError → (Command → ℕ → A) → A → A
+when_found (Ok (c, n)) f a = f c n
+when_found (Err e) f a = a
 
 -- the commands from a position on, one after the other, as far as they can be read, but no more than `most`
 unfoldable pub commands_from : List ℕ → ℕ → ℕ → List Placed
@@ -29,18 +27,22 @@ commands_from code (suc most) at = when_found (command_at code at) (λ c n. reco
 unfoldable pub commands_of : List ℕ → List Placed
 commands_of code = commands_from code (length code) 0
 
+-- the verdict of tests: they are passed, or the number of the first that fails
+abbrev pub Verdict : Type 0
+Verdict = Result (Unit {0}) Refusal
+
 -- the verdict on a command that was read, by 4 and 5, or what is said of a found one
-abbrev pub read_verdict : CommandRead → (Command → ℕ → Verdict) → Verdict
-read_verdict (Found c n) f = f c n
-read_verdict Unknown f = Rejected UnknownByte
-read_verdict CutOff f = Rejected OperandsCutOff
+abbrev pub read_verdict : Result (Command × ℕ) CommandError → (Command → ℕ → Verdict) → Verdict
+read_verdict (Ok (c, n)) f = f c n
+read_verdict (Err Unknown) f = Err UnknownByte
+read_verdict (Err CutOff) f = Err OperandsCutOff
 
 -- "4, 5, 6 command by command", from a position on
 unfoldable pub verdict_from : (Command → Bool) → List ℕ → ℕ → ℕ → Verdict
-verdict_from in_range code zero at = Accepted
+verdict_from in_range code zero at = Ok tt
 verdict_from in_range code (suc most) at =
-    cond (leb (length code) at) Accepted
-    (read_verdict (command_at code at) (λ c n. cond (in_range c) (verdict_from in_range code most (at + n)) (Rejected OutOfRange)))
+    cond (leb (length code) at) (Ok tt)
+    (read_verdict (command_at code at) (λ c n. cond (in_range c) (verdict_from in_range code most (at + n)) (Err OutOfRange)))
 
 -- is this a command that may stand last, 07 or 0D?
 abbrev pub ends : Command → Bool
@@ -93,12 +95,12 @@ targets_good start (p ∷ ps) = target_good start p.command && targets_good star
 infixr 20 ◌then◌
 -- the first of two verdicts that refuses
 abbrev pub ◌then◌ : Verdict → Verdict → Verdict
-Accepted then v = v
-Rejected n then v = Rejected n
+Ok passed then v = v
+Err n then v = Err n
 
 -- "per routine 4, 5, 6 command by command, 7, 8"
 unfoldable pub routine_verdict : (Command → Bool) → List ℕ → Verdict
 routine_verdict in_range code =
     verdict_from in_range code (length code) 0
-    then cond (last_ends false (commands_of code)) Accepted (Rejected BadEnd)
-    then cond (targets_good (is_start (commands_of code)) (commands_of code)) Accepted (Rejected BadTarget)
+    then cond (last_ends false (commands_of code)) (Ok tt) (Err BadEnd)
+    then cond (targets_good (is_start (commands_of code)) (commands_of code)) (Ok tt) (Err BadTarget)

@@ -1,15 +1,12 @@
 -- What the reader says of an image: document 01, "Image" and "The image's author".
-use Rattle.std.specs.Prelude.{Bool, true, cond, ◌&&◌, ◌||◌, not, List, [], ◌∷◌, ℕ, zero, suc, ◌+◌, ltb, leb, eqb, length}
+use Rattle.std.specs.Prelude.{Bool, true, cond, ◌&&◌, ◌||◌, not, List, [], ◌∷◌, ℕ, zero, suc, ◌+◌, ltb, leb, eqb, length, Result, Ok, Err}
 use Rattle.command.specs.declared.Command.{Command}
 use Rattle.command.specs.declared.Command.TheVariants.{Set, Add, Subtract, Load, Store, JumpIfZero, Jump, Lfork, Fork, Join, Suspend, Yield, Return, Share}
-use Rattle.image.specs.declared.Verdict.{Verdict}
-use Rattle.image.specs.declared.Verdict.TheVariants.{Accepted, Rejected}
 use Rattle.image.specs.declared.Refusal.{Refusal}
 use Rattle.image.specs.declared.Refusal.TheVariants.{BadLength, BadCount, BadRow, UnknownByte, OperandsCutOff, OutOfRange, BadEnd, BadTarget}
 use Rattle.image.specs.declared.Program.{Program}
-use Rattle.image.specs.declared.Checked.{Checked}
-use Rattle.image.specs.Layout.{routine_count, slots_of, arguments_of, length_of, rows_end, start_of, code_of, program_of, no_program}
-use Rattle.image.specs.Code.{◌then◌, routine_verdict}
+use Rattle.image.specs.Layout.{routine_count, slots_of, arguments_of, length_of, rows_end, start_of, code_of, program_of}
+use Rattle.image.specs.Code.{Verdict, ◌then◌, routine_verdict}
 
 -- the numbers of the image's author
 abbrev pub number_of_refusal : Refusal → ℕ
@@ -23,9 +20,9 @@ number_of_refusal BadEnd = 7
 number_of_refusal BadTarget = 8
 
 -- the number of an answer, 0 for an accepted image
-abbrev pub number_in : Verdict → ℕ
-number_in Accepted = 0
-number_in (Rejected n) = number_of_refusal n
+abbrev pub number_in : {A : Type 0} → Result A Refusal → ℕ
+number_in (Ok a) = 0
+number_in (Err n) = number_of_refusal n
 
 -- "slots (1 to 16), arguments (at most the slots), code length (two bytes, at least 1)"
 abbrev pub row_good : List ℕ → ℕ → Bool
@@ -64,23 +61,24 @@ in_range s slots (Share a) = all_slots slots (a ∷ [])
 
 -- n routines, from routine r on, one after the other
 unfoldable pub routines_verdict : List ℕ → ℕ → ℕ → Verdict
-routines_verdict s zero r = Accepted
+routines_verdict s zero r = Ok tt
 routines_verdict s (suc n) r = routine_verdict (in_range s (slots_of s r)) (code_of s r) then routines_verdict s n (suc r)
 
 -- "Order: the whole-length tests, 2, rows and total, 3 per row; then per routine 4, 5, 6 command by command, 7, 8"
 unfoldable pub image_verdict : List ℕ → Verdict
 image_verdict s =
-    cond (eqb (length s) 0 || ltb 4096 (length s)) (Rejected BadLength)
-    (cond (eqb (routine_count s) 0 || ltb 32 (routine_count s)) (Rejected BadCount)
-    (cond (ltb (length s) (rows_end s)) (Rejected BadLength)
-    (cond (not (eqb (length s) (start_of s (routine_count s)))) (Rejected BadLength)
-    (cond (not (rows_good s (routine_count s))) (Rejected BadRow)
+    cond (eqb (length s) 0 || ltb 4096 (length s)) (Err BadLength)
+    (cond (eqb (routine_count s) 0 || ltb 32 (routine_count s)) (Err BadCount)
+    (cond (ltb (length s) (rows_end s)) (Err BadLength)
+    (cond (not (eqb (length s) (start_of s (routine_count s)))) (Err BadLength)
+    (cond (not (rows_good s (routine_count s))) (Err BadRow)
     (routines_verdict s (routine_count s) 0)))))
 
-abbrev pub program_for : Verdict → List ℕ → Program
-program_for Accepted s = program_of s
-program_for (Rejected n) s = no_program
+-- the program of an accepted image, or why it is refused
+abbrev pub program_for : Verdict → List ℕ → Result Program Refusal
+program_for (Ok passed) s = Ok (program_of s)
+program_for (Err n) s = Err n
 
 -- the whole answer
-unfoldable pub image_answer : List ℕ → Checked
-image_answer s = record { verdict = image_verdict s; program = program_for (image_verdict s) s }
+unfoldable pub image_answer : List ℕ → Result Program Refusal
+image_answer s = program_for (image_verdict s) s

@@ -49,10 +49,6 @@ rows_of s (suc r) = set (rows_of s r) r (row_of s r)
 abbrev pub program_of : List ℕ → Program
 program_of s = record { count = routine_count s; rows = rows_of s (routine_count s) }
 
--- the program of no image
-abbrev pub no_program : Program
-no_program = record { count = 0; rows = replicate 32 blank_row }
-
 -- the starts of the first n rows' codes, in a table of 32
 unfoldable pub starts_up_to : List Row → ℕ → List ℕ
 starts_up_to rows zero = replicate 32 0

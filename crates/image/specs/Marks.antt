@@ -1,9 +1,9 @@
 -- What the pass over a code keeps for number 8: a cell for each byte of the code, 1 where a command was met, 2 where a target is that
 -- none was met at.
-use Rattle.std.specs.Prelude.{Bool, true, false, ◌||◌, List, ◌≡◌, ℕ, ◌<◌, eqb, get_or, length}
+use Rattle.std.specs.Prelude.{Bool, true, false, ◌||◌, List, ◌≡◌, ℕ, ◌<◌, eqb, get_or, length, Result, Ok, Err}
 use Rattle.command.specs.declared.Command.{Command}
-use Rattle.image.specs.declared.Verdict.{Verdict}
-use Rattle.image.specs.declared.Verdict.TheVariants.{Accepted}
+use Rattle.image.specs.declared.Refusal.{Refusal}
+use Rattle.image.specs.declared.code.Walked.{Walked}
 use Rattle.image.specs.Code.{verdict_from, last_ends, commands_of, is_start, targets_good}
 
 -- was a command met at byte t?
@@ -43,12 +43,15 @@ pub record Met (marks : List ℕ) (answer : Bool) : Type 0 where
 abbrev pub may_end : ℕ → Bool
 may_end byte = eqb byte 7 || eqb byte 13
 
--- the pass: the verdict by 4, 5 and 6; where it accepts, the last command's test, the marks at just the commands' starts, and what 8 hangs on
-pub record WalkedBy (in_range : Command → Bool) (code marks : List ℕ) (verdict : Verdict) (last : ℕ) (inside : Bool) : Type 0 where
-  pub by : verdict ≡ verdict_from in_range code (length code) 0
-  pub end : verdict ≡ Accepted → may_end last ≡ last_ends false (commands_of code)
-  pub starts : verdict ≡ Accepted → (t : ℕ) → marked marks t ≡ is_start (commands_of code) t
-  pub put : verdict ≡ Accepted → targets_good (is_start (commands_of code)) (commands_of code) ≡ true
-      → (inside ≡ true) × Awaited (is_start (commands_of code)) marks
-  pub back : verdict ≡ Accepted → inside ≡ true → Awaited (is_start (commands_of code)) marks
-      → targets_good (is_start (commands_of code)) (commands_of code) ≡ true
+-- what the pass finds where it accepts: the last command's test, the marks at just the commands' starts, and what 8 hangs on
+pub record WalkPassed (in_range : Command → Bool) (code marks : List ℕ) (last : ℕ) (inside : Bool) : Type 0 where
+  pub by : verdict_from in_range code (length code) 0 ≡ Ok tt
+  pub end : may_end last ≡ last_ends false (commands_of code)
+  pub starts : (t : ℕ) → marked marks t ≡ is_start (commands_of code) t
+  pub put : targets_good (is_start (commands_of code)) (commands_of code) ≡ true → (inside ≡ true) × Awaited (is_start (commands_of code)) marks
+  pub back : inside ≡ true → Awaited (is_start (commands_of code)) marks → targets_good (is_start (commands_of code)) (commands_of code) ≡ true
+
+-- the pass, by 4, 5 and 6
+abbrev pub WalkedBy : (Command → Bool) → List ℕ → List ℕ → Result Walked Refusal → Type 0
+WalkedBy in_range code marks (Ok w) = WalkPassed in_range code marks w.last w.inside
+WalkedBy in_range code marks (Err n) = verdict_from in_range code (length code) 0 ≡ Err n

@@ -1,5 +1,5 @@
 // Number 8, by a table of marks with a cell for each byte of a code: 1 where a command was met, 2 where a target is that none was met at.
-ghost use Rattle.std.specs.Prelude.{◌≡◌, ◌+◌, ◌≤◌, get_or, length};
+ghost use Rattle.std.specs.Prelude.{◌≡◌, ◌+◌, ◌≤◌, ◌<◌, get_or, length};
 ghost use Rattle.command.specs.Command.{pair, width_of, decoded_at};
 ghost use Rattle.image.specs.Code.{target_good};
 ghost use Rattle.image.specs.Marks.{MarksAsked, Met};
@@ -11,17 +11,18 @@ fn ask(marks: &mut [u8], t: usize) -> bool
     if marks.len() <= t {
         return false;
     }
-    if marks[t] == 1 {
-        return true;
+    if marks[t] != 1 {
+        marks[t] = 2;
     }
-    marks[t] = 2;
     true
 }
 
-fn target_of(low: u8, high: u8) -> usize
-    ensures { result ≡ pair low high }
+// The value of the two bytes at a position.
+fn target_at(code: &[u8], at: usize) -> usize
+    requires { at + 1 < length code.now }
+    ensures { result ≡ pair (get_or code.now at 0) (get_or code.now (at + 1) 0) }
 {
-    (low as usize) + (high as usize) * 256
+    usize::from(u16::from_le_bytes([code[at], code[at + 1]]))
 }
 
 // The target of the whole command at a position, if it has one, is asked for.
@@ -29,16 +30,11 @@ pub fn ask_target(code: &[u8], at: usize, marks: &mut [u8]) -> bool
     requires { (1 ≤ width_of (get_or code.now at 0)) × (at + width_of (get_or code.now at 0) ≤ length code.now) }
     ensures { MarksAsked (λ start. target_good start (decoded_at code.now at)) marks.old marks.new result }
 {
-    let byte = code[at];
-    if byte == 6 {
-        let target = target_of(code[at + 2], code[at + 3]);
-        return ask(marks, target);
+    match code[at] {
+        6 => ask(marks, target_at(code, at + 2)),
+        7 => ask(marks, target_at(code, at + 1)),
+        _ => true,
     }
-    if byte == 7 {
-        let target = target_of(code[at + 1], code[at + 2]);
-        return ask(marks, target);
-    }
-    true
 }
 
 // Was a command met wherever a byte was asked for? It goes on to the end whatever it finds, so that many cells are looked at at once.
@@ -46,14 +42,11 @@ pub fn ask_target(code: &[u8], at: usize, marks: &mut [u8]) -> bool
 pub fn all_met(marks: &[u8]) -> bool
     ensures { Met marks.now result }
 {
-    let n = marks.len();
     let mut met = true;
-    let mut i: usize = 0;
-    while i < n {
-        if marks[i] == 2 {
+    for mark in marks {
+        if *mark == 2 {
             met = false;
         }
-        i = i + 1;
     }
     met
 }

@@ -8,23 +8,20 @@ use command::byte_at;
 pub fn slots_of(image: &[u8], r: u8) -> u8
     ensures { result ≡ slots_of image.now r }
 {
-    byte_at(image, 4 * (r as usize) + 1)
+    byte_at(image, 4 * usize::from(r) + 1)
 }
 
 // The arguments in routine r's row of the image.
 pub fn arguments_of(image: &[u8], r: u8) -> u8
     ensures { result ≡ arguments_of image.now r }
 {
-    byte_at(image, 4 * (r as usize) + 2)
+    byte_at(image, 4 * usize::from(r) + 2)
 }
 
 // Where a position of routine r stands in the image, by the codes' starts.
 pub fn place_in_image(starts: &[u16], r: u8, position: u16) -> usize
     ensures { (result ≡ get_or starts.now r 0 + position) × (result < 131072) }
 {
-    let i = r as usize;
-    if i < starts.len() {
-        return (starts[i] as usize) + (position as usize);
-    }
-    position as usize
+    let start = starts.get(usize::from(r)).copied().unwrap_or(0);
+    usize::from(start) + usize::from(position)
 }

@@ -1,73 +1,48 @@
-// Numbers 4, 5 and 6 of one command. Each first byte has an arm of its own, so that where the next command stands hangs on no table.
-ghost use Rattle.std.specs.Prelude.{◌≡◌, true, [], ◌∷◌, ◌≤◌, ◌<◌, length};
+// Numbers 4, 5 and 6 of one command: its width where it passes. Each first byte has an arm of its own, so that where the next command stands
+// hangs on no table. A width of one byte would be packed with the variant into one number, for which the next command's place would have to wait.
+ghost use Rattle.std.specs.Prelude.{◌≡◌, true, [], ◌∷◌, ◌≤◌, ◌<◌, length, take};
 ghost use Rattle.command.specs.Command.{command_at};
 ghost use Rattle.image.specs.Image.{in_range, all_slots, fork_in_range};
 ghost use Rattle.image.specs.Step.{operand, tested_as, whole_as, ranged_as};
 
 use crate::Refusal;
-use crate::range::{fork_in_range, three_slots, two_slots};
-
-// What the tests say of a command: its width where it passes. A width of one byte would be packed with the variant into one number, for which the
-// next command's place would have to wait.
-#[derive(Clone, Copy)]
-pub enum Tested {
-    Width(usize),
-    Fails(Refusal),
-}
+use crate::range::{all_slots, fork_in_range};
 
 // A whole command.
-fn ranged(good: bool, width: usize) -> Tested
+fn ranged(good: bool, width: usize) -> Result<usize, Refusal>
     ensures { result ≡ ranged_as good width }
 {
     if good {
-        return Tested::Width(width);
+        return Ok(width);
     }
-    Tested::Fails(Refusal::OutOfRange)
+    Err(Refusal::OutOfRange)
 }
 
-// A command whose first operand alone is a slot.
-fn slot_at(code: &[u8], slots: u8, at: usize, width: usize) -> Tested
-    requires { (at < length code.now) × (2 ≤ width) }
-    ensures { result ≡ whole_as code.now at width (all_slots slots (operand code.now at 1 ∷ [])) }
+// A command of so many bytes whose first operands, so many, are slots.
+fn slots_at(
+    code: &[u8],
+    slots: u8,
+    at: usize,
+    operands: usize,
+    width: usize,
+) -> Result<usize, Refusal>
+    requires { (at < length code.now) × (operands < width) × (operands ≤ 3) }
+    ensures { result ≡ whole_as code.now at width (all_slots slots (take operands (operand code.now at 1 ∷ operand code.now at 2 ∷ operand code.now at 3 ∷ []))) }
 {
     if code.len() - at < width {
-        return Tested::Fails(Refusal::OperandsCutOff);
+        return Err(Refusal::OperandsCutOff);
     }
-    ranged(code[at + 1] < slots, width)
-}
-
-// 04 and 05
-fn two_slots_at(code: &[u8], slots: u8, at: usize) -> Tested
-    requires { at < length code.now }
-    ensures { result ≡ whole_as code.now at 3 (all_slots slots (operand code.now at 1 ∷ operand code.now at 2 ∷ [])) }
-{
-    if code.len() - at < 3 {
-        return Tested::Fails(Refusal::OperandsCutOff);
-    }
-    ranged(two_slots(slots, code[at + 1], code[at + 2]), 3)
-}
-
-// 02 and 03
-fn three_slots_at(code: &[u8], slots: u8, at: usize) -> Tested
-    requires { at < length code.now }
-    ensures { result ≡ whole_as code.now at 4 (all_slots slots (operand code.now at 1 ∷ operand code.now at 2 ∷ operand code.now at 3 ∷ [])) }
-{
-    if code.len() - at < 4 {
-        return Tested::Fails(Refusal::OperandsCutOff);
-    }
-    ranged(
-        three_slots(slots, code[at + 1], code[at + 2], code[at + 3]),
-        4,
-    )
+    let first = at + 1;
+    ranged(all_slots(slots, &code[first..first + operands]), width)
 }
 
 // 08 and 09
-fn fork_at(image: &[u8], code: &[u8], slots: u8, at: usize) -> Tested
+fn fork_at(image: &[u8], code: &[u8], slots: u8, at: usize) -> Result<usize, Refusal>
     requires { at < length code.now }
     ensures { result ≡ whole_as code.now at 5 (fork_in_range image.now slots (operand code.now at 1) (operand code.now at 2) (operand code.now at 3) (operand code.now at 4)) }
 {
     if code.len() - at < 5 {
-        return Tested::Fails(Refusal::OperandsCutOff);
+        return Err(Refusal::OperandsCutOff);
     }
     let good = fork_in_range(
         image,
@@ -81,37 +56,36 @@ fn fork_at(image: &[u8], code: &[u8], slots: u8, at: usize) -> Tested
 }
 
 // 07
-fn jump_at(code: &[u8], at: usize) -> Tested
+fn jump_at(code: &[u8], at: usize) -> Result<usize, Refusal>
     requires { at < length code.now }
     ensures { result ≡ whole_as code.now at 3 true }
 {
     if code.len() - at < 3 {
-        return Tested::Fails(Refusal::OperandsCutOff);
+        return Err(Refusal::OperandsCutOff);
     }
-    Tested::Width(3)
+    Ok(3)
 }
 
 // The tests of the command at a position, in a routine of so many slots.
-pub fn test_at(image: &[u8], code: &[u8], slots: u8, at: usize) -> Tested
+pub fn test_at(image: &[u8], code: &[u8], slots: u8, at: usize) -> Result<usize, Refusal>
     requires { at < length code.now }
     ensures { result ≡ tested_as (in_range image.now slots) (command_at code.now at) }
 {
-    let byte = code[at];
-    match byte {
-        1 => slot_at(code, slots, at, 4),
-        2 => three_slots_at(code, slots, at),
-        3 => three_slots_at(code, slots, at),
-        4 => two_slots_at(code, slots, at),
-        5 => two_slots_at(code, slots, at),
-        6 => slot_at(code, slots, at, 4),
+    match code[at] {
+        1 => slots_at(code, slots, at, 1, 4),
+        2 => slots_at(code, slots, at, 3, 4),
+        3 => slots_at(code, slots, at, 3, 4),
+        4 => slots_at(code, slots, at, 2, 3),
+        5 => slots_at(code, slots, at, 2, 3),
+        6 => slots_at(code, slots, at, 1, 4),
         7 => jump_at(code, at),
         8 => fork_at(image, code, slots, at),
         9 => fork_at(image, code, slots, at),
-        10 => Tested::Width(1),
-        11 => Tested::Width(1),
-        12 => Tested::Width(1),
-        13 => slot_at(code, slots, at, 2),
-        14 => slot_at(code, slots, at, 2),
-        _ => Tested::Fails(Refusal::UnknownByte),
+        10 => Ok(1),
+        11 => Ok(1),
+        12 => Ok(1),
+        13 => slots_at(code, slots, at, 1, 2),
+        14 => slots_at(code, slots, at, 1, 2),
+        _ => Err(Refusal::UnknownByte),
     }
 }

