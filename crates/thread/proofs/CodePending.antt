@@ -13,14 +13,14 @@ use Rattle.thread.specs.Effect.{run, any_pending}
 use Rattle.thread.specs.Thread.{is_pending}
 
 -- a mask of 16 bits has no bit from 16 on
-pub none-high : (mask k : ℕ) → mask < 65536 → 16 ≤ k → false ≡ is_pending mask k
+pub none_high : (mask k : ℕ) → mask < 65536 → 16 ≤ k → false ≡ is_pending mask k
 unfolding is_pending
-none-high mask k h l = let b : 2 ^ 16 ≤ 2 ^ k = pow_mono l in let e : mask / 2 ^ k ≡ 0 = div-eq_of_lt (omega arith) in rw e
+none_high mask k h l = let b : 2 ^ 16 ≤ 2 ^ k = pow_mono l in let e : mask / 2 ^ k ≡ 0 = div-eq_of_lt (omega arith) in rw e
 
 -- an empty mask has no bit
-pub none-empty : (mask k : ℕ) → mask ≡ 0 → false ≡ is_pending mask k
+pub none_empty : (mask k : ℕ) → mask ≡ 0 → false ≡ is_pending mask k
 unfolding is_pending
-none-empty mask k h = let e : 0 / 2 ^ k ≡ 0 = zero-div (2 ^ k) in rw (h, e)
+none_empty mask k h = let e : 0 / 2 ^ k ≡ 0 = zero-div (2 ^ k) in rw (h, e)
 
 -- a number is 0 when its lowest bit and the rest are
 low-or-rest : (x : ℕ) → (eqb (x % 2) 1 || not (eqb (x / 2) 0)) ≡ not (eqb x 0)
@@ -60,8 +60,8 @@ some_in mask (suc n) a =
     lowest = ap (λ z. mask / 2 ^ a % 2 ^ z % 2) (sym (add-one n)) ∙ mod-mod-pow (mask / 2 ^ a) n 1
 
 -- no slot from 16 on
-pub run-high : (mask a n : ℕ) → mask < 65536 → 16 ≤ a → false ≡ any_pending (is_pending mask) (run a n)
-run-high mask a n h l =
+pub run_high : (mask a n : ℕ) → mask < 65536 → 16 ≤ a → false ≡ any_pending (is_pending mask) (run a n)
+run_high mask a n h l =
     let b : 2 ^ 16 ≤ 2 ^ a = pow_mono l in
     let e : mask / 2 ^ a ≡ 0 = div-eq_of_lt (omega arith) in
     let z : 0 % 2 ^ n ≡ 0 = zero-mod (2 ^ n) in
@@ -75,15 +75,15 @@ run_long mask a n h l =
     sym (some-from mask n a (omega arith))
 
 -- fewer: the bits below bit n, which 16 bits hold
-one_bit : (n : ℕ) → n < 16 → 1 * 2 ^ n % 65536 ≡ 2 ^ n
+pub one_bit : (n : ℕ) → n < 16 → 1 * 2 ^ n % 65536 ≡ 2 ^ n
 one_bit n h = mod-eq_of_lt (rw one-mul (pow-lt {i = n} {j = 16} h)) ∙ one-mul (2 ^ n)
 
-pub bit-some : (n : ℕ) → n < 16 → 0 < 1 * 2 ^ n % 65536
-bit-some n h = let b : 2 ^ 0 ≤ 2 ^ n = pow_mono {i = 0} {j = n} (omega arith) in rw (one_bit n h) (omega arith)
+pub bit_some : (n : ℕ) → n < 16 → 0 < 1 * 2 ^ n % 65536
+bit_some n h = let b : 2 ^ 0 ≤ 2 ^ n = pow_mono {i = 0} {j = n} (omega arith) in rw (one_bit n h) (omega arith)
 
-pub run-part : (mask a n : ℕ) → n < 16 → not (eqb (mask / 2 ^ a % (1 * 2 ^ n % 65536)) 0) ≡ any_pending (is_pending mask) (run a n)
-run-part mask a n h = rw (one_bit n h) (sym (some_in mask n a))
+pub run_part : (mask a n : ℕ) → n < 16 → not (eqb (mask / 2 ^ a % (1 * 2 ^ n % 65536)) 0) ≡ any_pending (is_pending mask) (run a n)
+run_part mask a n h = rw (one_bit n h) (sym (some_in mask n a))
 
 -- one of the sixteen slots is pending when the mask is not 0
-pub some-pending : (mask : ℕ) → mask < 65536 → not (eqb mask 0) ≡ any_pending (is_pending mask) (run 0 16)
-some-pending mask h = sym (some-from mask 16 0 (omega arith) ∙ ap (λ z. not (eqb z 0)) (div-one mask))
+pub some_pending : (mask : ℕ) → mask < 65536 → not (eqb mask 0) ≡ any_pending (is_pending mask) (run 0 16)
+some_pending mask h = sym (some-from mask 16 0 (omega arith) ∙ ap (λ z. not (eqb z 0)) (div-one mask))

@@ -10,6 +10,8 @@ use Rattle.command.specs.declared.Command.{Command}
 use Rattle.command.specs.declared.Command.TheVariants.{Set, Add, Subtract, Load, Store, JumpIfZero, Jump, Lfork, Fork, Join, Suspend, Yield, Return, Share}
 use Rattle.command.proofs.Bools.{neither}
 use Rattle.thread.specs.declared.Effect.{Effect}
+use Rattle.thread.specs.declared.Fault.{Fault}
+use Rattle.thread.specs.declared.Fault.TheVariants.{SlotPending, AddressNotAllowed, CutOutOfRange, ReturnPending, ShareOutOfRange}
 use Rattle.thread.specs.declared.Effect.TheVariants.{Faults, Sets, Loads, Stores, Goes, Continues, Lforks, Forks, Joins, Suspends, Yields, Returns, Shares}
 use Rattle.thread.specs.Effect.{Context, run, any_pending, unless_pending, provided, sum, difference, forking, effect_of}
 use Rattle.thread.proofs.Routines.{InRange}
@@ -61,7 +63,7 @@ module _ (arguments : ℕ → ℕ) (own : Context) where
   pub record Guarded (e : Effect) : Type 0 where
     pub facts : Facts e
 
-  guarded-unless : (n : ℕ) (ks : List ℕ) (e : Effect) → (AllClear own.pending ks → Guarded e) → Guarded (unless_pending n own.pending ks e)
+  guarded-unless : (n : Fault) (ks : List ℕ) (e : Effect) → (AllClear own.pending ks → Guarded e) → Guarded (unless_pending n own.pending ks e)
   unfolding unless_pending
   guarded-unless n ks e f = go (any_pending own.pending ks) (λ h. f (all-clear own.pending ks h))
     where
@@ -69,7 +71,7 @@ module _ (arguments : ℕ → ℕ) (own : Context) where
       go true f = record { facts = tt }
       go false f = f refl
 
-  guarded-provided : (t : Bool) (n : ℕ) (e : Effect) → (t ≡ true → Guarded e) → Guarded (provided t n e)
+  guarded-provided : (t : Bool) (n : Fault) (e : Effect) → (t ≡ true → Guarded e) → Guarded (provided t n e)
   unfolding provided
   guarded-provided true n e f = f refl
   guarded-provided false n e f = record { facts = tt }
@@ -132,7 +134,7 @@ module _ (arguments : ℕ → ℕ) (own : Context) where
   shown : (k : ℕ) → own.pending k ≡ false → own.slot k ≡ hidden.slot k
   shown k h = sym (ap (λ t. cond t 0 (own.slot k)) h)
 
-  unless-same : (n : ℕ) (ks : List ℕ) (e e' : Effect) → (AllClear own.pending ks → e ≡ e')
+  unless-same : (n : Fault) (ks : List ℕ) (e e' : Effect) → (AllClear own.pending ks → e ≡ e')
       → unless_pending n own.pending ks e ≡ unless_pending n own.pending ks e'
   unfolding unless_pending
   unless-same n ks e e' f = go (any_pending own.pending ks) (λ h. f (all-clear own.pending ks h))
@@ -143,7 +145,7 @@ module _ (arguments : ℕ → ℕ) (own : Context) where
 
   fork-same : (r d a w : ℕ) (e : ℕ → Effect) → forking arguments own r d a w (e (own.slot w)) ≡ forking arguments hidden r d a w (e (hidden.slot w))
   unfolding forking
-  fork-same r d a w e = unless-same _ _ _ _ (λ none. ap (λ v. provided (own.may_cut v) 11 (e v)) (shown w none.1.0))
+  fork-same r d a w e = unless-same _ _ _ _ (λ none. ap (λ v. provided (own.may_cut v) CutOutOfRange (e v)) (shown w none.1.0))
 
   pub effect-hidden : (c : Command) → InRange c → effect_of arguments own c ≡ effect_of arguments hidden c
   unfolding effect_of
@@ -151,9 +153,9 @@ module _ (arguments : ℕ → ℕ) (own : Context) where
   effect-hidden (Add d a b) i = unless-same _ _ _ _ (λ none. ap₂ (λ x y. Sets d (sum x y)) (shown a none.1.0) (shown b none.1.1.0))
   effect-hidden (Subtract d a b) i =
       unless-same _ _ _ _ (λ none. ap₂ (λ x y. Sets d (difference x y)) (shown a none.1.0) (shown b none.1.1.0))
-  effect-hidden (Load d a) i = unless-same _ _ _ _ (λ none. ap (λ x. provided (own.may_load x) 10 (Loads d x)) (shown a none.1.0))
+  effect-hidden (Load d a) i = unless-same _ _ _ _ (λ none. ap (λ x. provided (own.may_load x) AddressNotAllowed (Loads d x)) (shown a none.1.0))
   effect-hidden (Store a b) i =
-      unless-same _ _ _ _ (λ none. ap₂ (λ x y. provided (own.may_store x) 10 (Stores x y)) (shown a none.0) (shown b none.1.0))
+      unless-same _ _ _ _ (λ none. ap₂ (λ x y. provided (own.may_store x) AddressNotAllowed (Stores x y)) (shown a none.0) (shown b none.1.0))
   effect-hidden (JumpIfZero a t) i = unless-same _ _ _ _ (λ none. ap (λ x. cond (eqb x 0) (Goes t) Continues) (shown a none.0))
   effect-hidden (Jump t) i = refl
   effect-hidden (Lfork r d a w) i = fork-same r d a w (λ v. Lforks r d a v)
@@ -162,4 +164,4 @@ module _ (arguments : ℕ → ℕ) (own : Context) where
   effect-hidden Suspend i = refl
   effect-hidden Yield i = refl
   effect-hidden (Return a) i = unless-same _ _ _ _ (λ none. ap Returns (shown a (first-clear own.pending 16 none a i)))
-  effect-hidden (Share a) i = unless-same _ _ _ _ (λ none. ap (λ x. provided (own.may_share x) 31 (Shares x)) (shown a none.0))
+  effect-hidden (Share a) i = unless-same _ _ _ _ (λ none. ap (λ x. provided (own.may_share x) ShareOutOfRange (Shares x)) (shown a none.0))

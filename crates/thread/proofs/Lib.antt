@@ -1,5 +1,6 @@
 pub mod Routines
 pub mod EffectFacts
+pub mod FaultNumbers
 pub mod ThreadState
 pub mod LawfulThreads
 pub mod CarriedThreads

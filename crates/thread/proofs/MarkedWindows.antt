@@ -9,14 +9,13 @@ use native.Mathlib.Omega.{arith}
 use Rattle.forkjoin.proofs.Rights.{Within, over, Seen, inside, before, behind, seen, known, all_three, in-first, in-second, in-third}
 use Rattle.forkjoin.proofs.ScheduleIndependence.{Job}
 use Rattle.window.specs.declared.Window.{Window}
+use Rattle.std.specs.Prelude.{Some, None, is_some}
+use Rattle.std.specs.declared.option.Option.{Option as Optional}
 use Rattle.window.specs.declared.Cut.{Cut}
-use Rattle.window.specs.declared.Cut.TheVariants.{Parts, BadCut}
-use Rattle.window.specs.declared.Share.{Share}
-use Rattle.window.specs.declared.Share.TheVariants.{Shared, BadShare}
 use Rattle.window.specs.Rights.{may_load, may_store, cut_at, share_at, rejoined, root_window, Fits}
 use Rattle.window.proofs.Laws.{Loading, parameter, own, given, load-means, load-parameter, load-own, load_given, store-means, store-allowed as may-store, root-fits}
 use Rattle.window.proofs.Instance.{rights, parts_of, shared_of, windows}
-use Rattle.thread.specs.View.{is_cut, may_cut, is_shared, may_share}
+use Rattle.thread.specs.View.{may_cut, may_share}
 use Rattle.thread.proofs.Routines.{Code}
 use Rattle.thread.proofs.ThreadState.{WindowTests}
 use Rattle.thread.proofs.DocumentJob.{job}
@@ -65,21 +64,21 @@ store-refused w a f h = all_three _ _ _ 1 (go (seen 2 w.mark w.ceiling a)) (know
     go (before x) = omega arith
     go (behind x) = omega arith
 
-pub cut-found : (c : Cut) → is_cut c ≡ true → (child : Window) × (rest : Window) × (parts_of c ≡ some (child, rest))
-cut-found (Parts child rest) h = (child, rest, refl)
-cut-found BadCut h = absurd (true≢false (sym h))
+pub cut-found : (c : Optional Cut) → is_some c ≡ true → (child : Window) × (rest : Window) × (parts_of c ≡ some (child, rest))
+cut-found (Some c) h = (c.child, c.rest, refl)
+cut-found None h = absurd (true≢false (sym h))
 
-pub cut-missed : (c : Cut) → is_cut c ≡ false → parts_of c ≡ none
-cut-missed (Parts child rest) h = absurd (true≢false h)
-cut-missed BadCut h = refl
+pub cut-missed : (c : Optional Cut) → is_some c ≡ false → parts_of c ≡ none
+cut-missed (Some c) h = absurd (true≢false h)
+cut-missed None h = refl
 
-pub share-found : (c : Share) → is_shared c ≡ true → (rest : Window) × (shared_of c ≡ some rest)
-share-found (Shared rest) h = (rest, refl)
-share-found BadShare h = absurd (true≢false (sym h))
+pub share-found : (c : Optional Window) → is_some c ≡ true → (rest : Window) × (shared_of c ≡ some rest)
+share-found (Some rest) h = (rest, refl)
+share-found None h = absurd (true≢false (sym h))
 
-pub share-missed : (c : Share) → is_shared c ≡ false → shared_of c ≡ none
-share-missed (Shared rest) h = absurd (true≢false h)
-share-missed BadShare h = refl
+pub share-missed : (c : Optional Window) → is_some c ≡ false → shared_of c ≡ none
+share-missed (Some rest) h = absurd (true≢false h)
+share-missed None h = refl
 
 abbrev pub window-tests : WindowTests windows
 window-tests = record {

@@ -13,6 +13,8 @@ use Rattle.forkjoin.proofs.SerialRun.{Outcome, done, stopped, and-then}
 use Rattle.forkjoin.proofs.DeliveredRun.{delivered-act, delivered-from}
 use Rattle.forkjoin.proofs.Unroll.{unroll}
 use Rattle.thread.specs.declared.Effect.{Effect}
+use Rattle.thread.specs.declared.Fault.{Fault}
+use Rattle.thread.specs.Effect.{number_of_fault}
 use Rattle.thread.specs.declared.Effect.TheVariants.{Faults, Sets, Loads, Stores, Goes, Continues, Lforks, Forks, Joins, Suspends, Yields, Returns, Shares}
 use Rattle.thread.proofs.Routines.{Code}
 use Rattle.thread.proofs.ThreadState.{WindowTests, ThreadState, effect, onward, at_target, started, behind-fork, behind-join, behind-share, by-return, split, share-act, act_of, deliver}
@@ -47,7 +49,7 @@ module _ (𝓦 : Windows) (tests : WindowTests 𝓦) (code : Code) (allowance : 
       serial-act-of e h = unrolled ∙ ap (λ t. cond t (then-serial (does 𝓦 tests code n l)) (stopped 22 m u)) (le-leb (u + weight-at l) allowance paid)
           ∙ ap then-serial (does-effect 𝓦 tests code n l e h)
 
-      pub serial-faults : (x : ℕ) → effect 𝓦 tests code l ≡ Faults x → serial n l m u ≡ stopped x m u
+      pub serial-faults : (x : Fault) → effect 𝓦 tests code l ≡ Faults x → serial n l m u ≡ stopped (number_of_fault x) m u
       unfolding act_of delivered-act
       serial-faults x h = serial-act-of (Faults x) h
 

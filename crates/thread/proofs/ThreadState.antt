@@ -11,6 +11,7 @@ use Rattle.forkjoin.proofs.Language.{Act, halt, advance, load, store, fork, join
 use Rattle.forkjoin.proofs.Windows.{Windows}
 use Rattle.command.specs.declared.Command.{Command}
 use Rattle.thread.specs.declared.Effect.{Effect}
+use Rattle.thread.specs.Effect.{number_of_fault}
 use Rattle.thread.specs.declared.Effect.TheVariants.{Faults, Sets, Loads, Stores, Goes, Continues, Lforks, Forks, Joins, Suspends, Yields, Returns, Shares}
 use Rattle.thread.specs.Effect.{Context, effect_of}
 use Rattle.thread.proofs.Routines.{Code}
@@ -143,7 +144,7 @@ module _ (𝓦 : Windows) (code : Code) where
 
   -- an effect, n deep, as an act
   unfoldable pub act_of : Delivery W → ℕ → ThreadState W → Effect → Act (ThreadState W)
-  act_of δ n l (Faults x) = halt x
+  act_of δ n l (Faults x) = halt (number_of_fault x)
   act_of δ n l (Sets d v) = advance (onward code l (update l.slots d v))
   act_of δ n l (Loads d a) = load-act code l d a
   act_of δ n l (Stores a v) = store a v (onward code l l.slots)

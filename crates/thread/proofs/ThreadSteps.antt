@@ -11,6 +11,8 @@ use Rattle.forkjoin.proofs.TaskTree.{word_after}
 use Rattle.forkjoin.proofs.Windows.{Windows}
 use Rattle.forkjoin.proofs.ThreadPool.{Pool, free, used, Link, child, OwnAct, PoolStep, step-own, step-fork, step-join, step-return}
 use Rattle.thread.specs.declared.Effect.{Effect}
+use Rattle.thread.specs.declared.Fault.{Fault}
+use Rattle.thread.specs.Effect.{number_of_fault}
 use Rattle.thread.specs.declared.Effect.TheVariants.{Faults, Sets, Loads, Stores, Goes, Continues, Lforks, Forks, Joins, Suspends, Yields, Returns, Shares}
 use Rattle.thread.proofs.Routines.{Code}
 use Rattle.thread.proofs.EffectFacts.{Facts, ForkFacts}
@@ -47,7 +49,7 @@ module _ (𝓦 : Windows) (tests : WindowTests 𝓦) (code : Code) where
       → does 𝓦 tests code n l ≡ act_of 𝓦 code (by-return 𝓦 code) n l e
   does-effect n l e h = ap (λ x. act_of 𝓦 code (by-return 𝓦 code) n l x) h
 
-  pub does-fault : (l : ThreadState W) (x : ℕ) → effect 𝓦 tests code l ≡ Faults x → does 𝓦 tests code 0 l ≡ halt x
+  pub does-fault : (l : ThreadState W) (x : Fault) → effect 𝓦 tests code l ≡ Faults x → does 𝓦 tests code 0 l ≡ halt (number_of_fault x)
   unfolding act_of
   does-fault l x h = does-effect 0 l (Faults x) h
 

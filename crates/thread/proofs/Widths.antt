@@ -10,6 +10,7 @@ use Rattle.command.specs.declared.Command.{Command}
 use Rattle.command.specs.declared.Command.TheVariants.{Set, Add, Subtract, Load, Store, JumpIfZero, Jump, Lfork, Fork, Join, Suspend, Yield, Return, Share}
 use Rattle.command.specs.Command.{bytes_of_command, decoded, decoded_at, width_of}
 use Rattle.thread.specs.declared.Effect.{Effect}
+use Rattle.thread.specs.declared.Fault.{Fault}
 use Rattle.thread.specs.declared.Effect.TheVariants.{Faults, Sets, Loads, Stores, Goes, Continues, Lforks, Forks, Joins, Suspends, Yields, Returns, Shares}
 use Rattle.thread.specs.Effect.{Context, any_pending, unless_pending, provided, forking, effect_of}
 use Rattle.thread.specs.Bytes.{bytes_by}
@@ -34,7 +35,7 @@ Wide n (Shares x) = n ≡ 2
 pub record Widened (n : ℕ) (e : Effect) : Type 0 where
   pub is : Wide n e
 
-wide-unless : {n : ℕ} (x : ℕ) (p : ℕ → Bool) (ks : List ℕ) (e : Effect) → Widened n e → Widened n (unless_pending x p ks e)
+wide-unless : {n : ℕ} (x : Fault) (p : ℕ → Bool) (ks : List ℕ) (e : Effect) → Widened n e → Widened n (unless_pending x p ks e)
 unfolding unless_pending
 wide-unless {n} x p ks e f = go (any_pending p ks)
   where
@@ -42,7 +43,7 @@ wide-unless {n} x p ks e f = go (any_pending p ks)
     go true = record { is = tt }
     go false = f
 
-wide-provided : {n : ℕ} (t : Bool) (x : ℕ) (e : Effect) → Widened n e → Widened n (provided t x e)
+wide-provided : {n : ℕ} (t : Bool) (x : Fault) (e : Effect) → Widened n e → Widened n (provided t x e)
 unfolding provided
 wide-provided true x e f = f
 wide-provided false x e f = record { is = tt }

@@ -1,8 +1,7 @@
 -- A job: what stays the same in a run of the machine and in a serial run; and where a routine's commands stand in its image.
-use Rattle.std.specs.Prelude.{cond, List, ◌≡◌, ℕ, ◌+◌, ◌-◌, ◌≤◌, ◌<◌, ltb, get_or, length}
+use Rattle.std.specs.Prelude.{cond, List, ◌≡◌, ℕ, ◌+◌, ◌-◌, ◌≤◌, ◌<◌, ltb, get_or, length, Ok}
 use Rattle.command.specs.Command.{width_of}
 use Rattle.command.specs.Weight.{standard_weights, weight_of}
-use Rattle.image.specs.declared.Verdict.TheVariants.{Accepted}
 use Rattle.image.specs.Layout.{routine_count, start_of}
 use Rattle.image.specs.Image.{image_verdict}
 
@@ -39,7 +38,7 @@ word_at j memory a = word_in j.parameters memory a
 
 -- an accepted image, with its codes' starts, 32 parameter words and a weight for each command
 pub record GoodJob (j : Job) : Type 0 where
-  pub image : image_verdict j.image ≡ Accepted
+  pub image : image_verdict j.image ≡ Ok tt
   pub bytes : (i : ℕ) → get_or j.image i 0 < 256
   pub starts : (r : ℕ) → r < routine_count j.image → get_or j.starts r 0 ≡ start_of j.image r
   pub parameters : length j.parameters ≡ 32

@@ -2,12 +2,15 @@
 #![tactic(auto)]
 
 pub mod pending;
-pub mod record;
+mod record;
+
+ghost use Rattle.std.specs.Prelude.{◌≡◌};
+ghost use Rattle.thread.specs.Effect.{number_of_fault};
 
 use window::Window;
 
 // What a thread is doing: document 01's states of a thread record. Free comes first, so that the record of zeros is a free one.
-#[derive(Clone, Copy)]
+#[derive(Clone, Copy, Debug, PartialEq, Eq)]
 pub enum Status {
     Free,
     Running,
@@ -52,11 +55,32 @@ pub struct Thread {
     pub family: Family,
 }
 
+// Why a command faults: document 01's faults by their numbers, and 31.
+#[derive(Clone, Copy, Debug, PartialEq, Eq)]
+pub enum Fault {
+    // a pending slot read or written
+    SlotPending = 9,
+    AddressNotAllowed = 10,
+    CutOutOfRange = 11,
+    // a return with pending slots
+    ReturnPending = 12,
+    ShareOutOfRange = 31,
+}
+
+impl Fault {
+    // The number that is logged.
+    pub fn number(self) -> u8
+        ensures { result ≡ number_of_fault self }
+    {
+        self as u8
+    }
+}
+
 // The effect of a command, computed from the thread's own slots, pending slots and window alone.
 #[derive(Clone, Copy)]
 pub enum Effect {
-    // the command faults by 9, 10, 11, 12 or 31
-    Faults(u8),
+    // the command faults
+    Faults(Fault),
     // a slot becomes a value
     Sets(u8, u32),
     // a slot becomes the word at an address
@@ -67,7 +91,7 @@ pub enum Effect {
     Goes(u16),
     // the thread goes on to the next command
     Continues,
-    // routine, result slot, first argument's slot, cut
+    // routine, result slot, first argument's slot, cut; no named fields: each match of them then takes eight lines more, and `carry_other` 48
     Lforks(u8, u8, u8, u32),
     Forks(u8, u8, u8, u32),
     Joins,

@@ -1,7 +1,7 @@
 -- The windows of this crate are windows of the fork-join theory: cut by `cut_at`, shared by `share_at`, given back by `rejoined`. Assumes
 -- nothing.
 use mathlib.Core.Option.{Option, none, some}
-use mathlib.Core.Path.{◌≡◌, refl, subst, subst₂, sym}
+use mathlib.Core.Path.{◌≡◌, refl, subst, sym}
 use Prim.Native.Nat.{ℕ, ◌+◌, ◌≤◌, ◌<◌, max}
 use native.Mathlib.Decide.{dec_lt}
 use native.Mathlib.Omega.{arith}
@@ -9,9 +9,8 @@ use Rattle.forkjoin.proofs.Rights.{Rights, Within, over, known, over-within, all
 use Rattle.forkjoin.proofs.Windows.{Windows, Parts, Less}
 use Rattle.window.specs.declared.Window.{Window}
 use Rattle.window.specs.declared.Cut.{Cut}
-use Rattle.window.specs.declared.Cut.TheVariants.{Parts as Halves, BadCut}
-use Rattle.window.specs.declared.Share.{Share}
-use Rattle.window.specs.declared.Share.TheVariants.{Shared, BadShare}
+use Rattle.std.specs.Prelude.{Some, None}
+use Rattle.std.specs.declared.option.Option.{Option as Optional}
 use Rattle.window.specs.Rights.{span_from, span_to, cut_at, child_of, rest_of, share_at, sharing_of, rejoined, Fits}
 use Rattle.window.proofs.Laws.{Span, shared, handed-on, span_of, cut-means, share-means, child_fits, rest-fits, sharing-fits, rejoined-fits}
 
@@ -21,24 +20,24 @@ abbrev pub rights : Window → Rights
 rights w a = max (over 2 w.mark w.ceiling a) (max (over 1 w.mark w.hi a) (over 1 w.from w.to a))
 
 -- a cut and a share as the theory has them
-abbrev pub parts_of : Cut → Option (Window × Window)
-parts_of (Halves child rest) = some (child, rest)
-parts_of BadCut = none
+abbrev pub parts_of : Optional Cut → Option (Window × Window)
+parts_of (Some c) = some (c.child, c.rest)
+parts_of None = none
 
-abbrev pub shared_of : Share → Option Window
-shared_of (Shared rest) = some rest
-shared_of BadShare = none
+abbrev pub shared_of : Optional Window → Option Window
+shared_of (Some rest) = some rest
+shared_of None = none
 
 -- and back
-pub parts_cut : (c : Cut) (child rest : Window) → parts_of c ≡ some (child, rest) → c ≡ Halves child rest
-parts_cut (Halves x y) child rest h =
-    let z : ◌≡◌ {A = Window × Window} (x, y) (child, rest) = cc in
-    λ ι. Halves (z ι).0 (z ι).1
-parts_cut BadCut child rest h = let z : ◌≡◌ {A = ℕ} 0 1 = cc in absurd (omega arith)
+pub parts_cut : (c : Optional Cut) (child rest : Window) → parts_of c ≡ some (child, rest) → c ≡ Some (record { child = child; rest = rest })
+parts_cut (Some x) child rest h =
+    let z : ◌≡◌ {A = Window × Window} (x.child, x.rest) (child, rest) = cc in
+    λ ι. Some (record { child = (z ι).0; rest = (z ι).1 })
+parts_cut None child rest h = let z : ◌≡◌ {A = ℕ} 0 1 = cc in absurd (omega arith)
 
-pub shared_back : (c : Share) (rest : Window) → shared_of c ≡ some rest → c ≡ Shared rest
-shared_back (Shared x) rest h = let z : x ≡ rest = cc in λ ι. Shared (z ι)
-shared_back BadShare rest h = let z : ◌≡◌ {A = ℕ} 0 1 = cc in absurd (omega arith)
+pub shared_back : (c : Optional Window) (rest : Window) → shared_of c ≡ some rest → c ≡ Some rest
+shared_back (Some x) rest h = let z : x ≡ rest = cc in λ ι. Some (z ι)
+shared_back None rest h = let z : ◌≡◌ {A = ℕ} 0 1 = cc in absurd (omega arith)
 
 -- bounds of the rights to a word
 pub most : (w : Window) (a : ℕ) → rights w a ≤ 2
@@ -130,8 +129,8 @@ windows = record {
   share = λ w s. shared_of (share_at w s);
   rejoin = rejoined;
   Fit = Fits;
-  cut-law = λ w e child rest f h. let m = cut-means w e child rest (parts_cut (cut_at w e) child rest h) in
-      subst₂ (λ x y. Parts Fits rights (λ v. rights (rejoined v)) w x y) (sym m.is-child) (sym m.is-rest) (divided w e m.low m.high f);
+  cut-law = λ w e child rest f h. let m = cut-means w e _ (parts_cut (cut_at w e) child rest h) in
+      subst (λ (c : Cut). Parts Fits rights (λ v. rights (rejoined v)) w c.child c.rest) (sym m.is) (divided w e m.low m.high f);
   share-law = λ w s rest f h. let m = share-means w s rest (shared_back (share_at w s) rest h) in
       subst (λ x. Less Fits rights (λ v. rights (rejoined v)) w x) (sym m.is-rest) (lessened w s m.low m.high f);
   rejoin-fit = rejoined-fits;

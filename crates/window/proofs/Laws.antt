@@ -9,9 +9,9 @@ use native.Mathlib.Omega.{arith}
 use lib.Dec.{ltb, leb}
 use borrow.Author.Tests.{lt-ltb, le-ltb, le-leb, lt-leb}
 use Rattle.window.specs.declared.Window.{Window}
-use Rattle.window.specs.declared.Cut.TheVariants.{Parts, BadCut}
-use Rattle.window.specs.declared.Share.TheVariants.{Shared, BadShare}
-use Rattle.window.specs.Rights.{root_window, is_from, may_load, may_store, span_from, span_to, cut_at, child_of, rest_of, share_at, sharing_of, rejoined, Fits}
+use Rattle.std.specs.Prelude.{Some, None}
+use Rattle.window.specs.declared.Cut.{Cut}
+use Rattle.window.specs.Rights.{root_window, is_from, may_load, may_store, span_from, span_to, cut_at, child_of, rest_of, parts_at, is_between, share_at, sharing_of, rejoined, Fits}
 use Rattle.window.specs.Numbers.{NotFrom}
 
 -- whether an address is one of those from x up to y, seen with the reason
@@ -96,31 +96,30 @@ pub data Range (w : Window) (e : ℕ) : Bool → Type 0 where
   too-low : e < w.mark → Range w e false
   too-high : w.ceiling < e → Range w e false
 
-pub range : (w : Window) (e : ℕ) → Range w e (leb w.mark e && leb e w.ceiling)
+pub range : (w : Window) (e : ℕ) → Range w e (is_between w e)
 range w e = go (dec_le w.mark e) (dec_le e w.ceiling)
   where
-    go : Dec (w.mark ≤ e) → Dec (e ≤ w.ceiling) → Range w e (leb w.mark e && leb e w.ceiling)
+    go : Dec (w.mark ≤ e) → Dec (e ≤ w.ceiling) → Range w e (is_between w e)
     go (yes x) (yes y) = rw (le-leb _ _ x, le-leb _ _ y) (fitting x y)
     go (no x) _ = rw (lt-leb w.mark e (omega arith)) (too-low (omega arith))
     go (yes x) (no y) = rw (le-leb _ _ x, lt-leb e w.ceiling (omega arith)) (too-high (omega arith))
 
 -- what a cut that was made tells
-pub record Cutting (w : Window) (e : ℕ) (child rest : Window) : Type 0 where
+pub record Cutting (w : Window) (e : ℕ) (c : Cut) : Type 0 where
   pub low : w.mark ≤ e
   pub high : e ≤ w.ceiling
-  pub is-child : child ≡ child_of w e
-  pub is-rest : rest ≡ rest_of w e
+  pub is : c ≡ parts_at w e
 
-pub cut-means : (w : Window) (e : ℕ) (child rest : Window) → cut_at w e ≡ Parts child rest → Cutting w e child rest
+pub cut-means : (w : Window) (e : ℕ) (c : Cut) → cut_at w e ≡ Some c → Cutting w e c
 unfolding cut_at
-cut-means w e c r h = go (range w e) h
+cut-means w e c h = go (range w e) h
   where
-    go : {b : Bool} → Range w e b → cond b (Parts (child_of w e) (rest_of w e)) BadCut ≡ Parts c r → Cutting w e c r
-    go (fitting x y) p = record { low = x; high = y; is-child = cc; is-rest = cc }
+    go : {b : Bool} → Range w e b → cond b (Some (parts_at w e)) None ≡ Some c → Cutting w e c
+    go (fitting x y) p = record { low = x; high = y; is = cc }
     go (too-low x) p = let z : ◌≡◌ {A = ℕ} 0 1 = cc in absurd (omega arith)
     go (too-high x) p = let z : ◌≡◌ {A = ℕ} 0 1 = cc in absurd (omega arith)
 
-pub cut-made : (w : Window) (e : ℕ) → w.mark ≤ e → e ≤ w.ceiling → cut_at w e ≡ Parts (child_of w e) (rest_of w e)
+pub cut-made : (w : Window) (e : ℕ) → w.mark ≤ e → e ≤ w.ceiling → cut_at w e ≡ Some (parts_at w e)
 unfolding cut_at
 cut-made w e x y = rw (le-leb _ _ x, le-leb _ _ y)
 
@@ -130,16 +129,16 @@ pub record Sharing (w : Window) (s : ℕ) (rest : Window) : Type 0 where
   pub high : s ≤ w.ceiling
   pub is-rest : rest ≡ sharing_of w s
 
-pub share-means : (w : Window) (s : ℕ) (rest : Window) → share_at w s ≡ Shared rest → Sharing w s rest
+pub share-means : (w : Window) (s : ℕ) (rest : Window) → share_at w s ≡ Some rest → Sharing w s rest
 unfolding share_at
 share-means w s r h = go (range w s) h
   where
-    go : {b : Bool} → Range w s b → cond b (Shared (sharing_of w s)) BadShare ≡ Shared r → Sharing w s r
+    go : {b : Bool} → Range w s b → cond b (Some (sharing_of w s)) None ≡ Some r → Sharing w s r
     go (fitting x y) p = record { low = x; high = y; is-rest = cc }
     go (too-low x) p = let z : ◌≡◌ {A = ℕ} 0 1 = cc in absurd (omega arith)
     go (too-high x) p = let z : ◌≡◌ {A = ℕ} 0 1 = cc in absurd (omega arith)
 
-pub share-made : (w : Window) (s : ℕ) → w.mark ≤ s → s ≤ w.ceiling → share_at w s ≡ Shared (sharing_of w s)
+pub share-made : (w : Window) (s : ℕ) → w.mark ≤ s → s ≤ w.ceiling → share_at w s ≡ Some (sharing_of w s)
 unfolding share_at
 share-made w s x y = rw (le-leb _ _ x, le-leb _ _ y)
 

@@ -9,10 +9,8 @@ use lib.Dec.{leb, ltb}
 use borrow.Author.Tests.{le-leb, lt-leb, lt-ltb, le-ltb}
 use Rattle.window.specs.declared.Window.{Window}
 use Rattle.window.specs.declared.Cut.{Cut}
-use Rattle.window.specs.declared.Cut.TheVariants.{Parts, BadCut}
-use Rattle.window.specs.declared.Share.{Share}
-use Rattle.window.specs.declared.Share.TheVariants.{Shared, BadShare}
-use Rattle.window.specs.Rights.{may_load, may_store, cut_at, child_of, rest_of, share_at, sharing_of}
+use Rattle.std.specs.Prelude.{Option, Some, None}
+use Rattle.window.specs.Rights.{may_load, may_store, cut_at, parts_at, share_at, sharing_of}
 use Rattle.window.specs.Numbers.{NotFrom, number_of_access, number_of_cut, number_of_share, LoadAnswer, StoreAnswer, CutAnswer, ShareAnswer}
 use Rattle.window.proofs.Laws.{Seen, inside, outside, seen, Range, fitting, too-low, too-high, range}
 
@@ -56,31 +54,31 @@ module _ (w : Window) (e : ℕ) where
   never x y (inl h) = omega arith
   never x y (inr h) = omega arith
 
-  cut-11 : {b : Bool} → Range w e b → (number_of_cut (cond b (Parts (child_of w e) (rest_of w e)) BadCut) ≡ 11) ↔ ((e < w.mark) ⊎ (w.ceiling < e))
+  cut-11 : {b : Bool} → Range w e b → (number_of_cut (cond b (Some (parts_at w e)) None) ≡ 11) ↔ ((e < w.mark) ⊎ (w.ceiling < e))
   cut-11 (fitting x y) = (λ p. absurd (omega arith), λ c. absurd (never x y c))
   cut-11 (too-low x) = (λ p. inl x, λ c. refl)
   cut-11 (too-high x) = (λ p. inr x, λ c. refl)
 
-  cut-0 : {b : Bool} → Range w e b → (number_of_cut (cond b (Parts (child_of w e) (rest_of w e)) BadCut) ≡ 0)
-      ↔ (cond b (Parts (child_of w e) (rest_of w e)) BadCut ≡ Parts (child_of w e) (rest_of w e))
+  cut-0 : {b : Bool} → Range w e b → (number_of_cut (cond b (Some (parts_at w e)) None) ≡ 0)
+      ↔ (cond b (Some (parts_at w e)) None ≡ Some (parts_at w e))
   cut-0 (fitting x y) = (λ p. refl, λ c. refl)
   cut-0 (too-low x) = (λ p. absurd (omega arith), ap number_of_cut)
   cut-0 (too-high x) = (λ p. absurd (omega arith), ap number_of_cut)
 
-  pub cut_as : (r : Cut) → r ≡ cut_at w e → CutAnswer w e r
+  pub cut_as : (r : Option Cut) → r ≡ cut_at w e → CutAnswer w e r
   unfolding cut_at
   cut_as r is = record { is = is; number11 = rw is (cut-11 (range w e)); number0 = rw is (cut-0 (range w e)) }
 
-  share-31 : {b : Bool} → Range w e b → (number_of_share (cond b (Shared (sharing_of w e)) BadShare) ≡ 31) ↔ ((e < w.mark) ⊎ (w.ceiling < e))
+  share-31 : {b : Bool} → Range w e b → (number_of_share (cond b (Some (sharing_of w e)) None) ≡ 31) ↔ ((e < w.mark) ⊎ (w.ceiling < e))
   share-31 (fitting x y) = (λ p. absurd (omega arith), λ c. absurd (never x y c))
   share-31 (too-low x) = (λ p. inl x, λ c. refl)
   share-31 (too-high x) = (λ p. inr x, λ c. refl)
 
-  share-0 : {b : Bool} → Range w e b → (number_of_share (cond b (Shared (sharing_of w e)) BadShare) ≡ 0) ↔ (cond b (Shared (sharing_of w e)) BadShare ≡ Shared (sharing_of w e))
+  share-0 : {b : Bool} → Range w e b → (number_of_share (cond b (Some (sharing_of w e)) None) ≡ 0) ↔ (cond b (Some (sharing_of w e)) None ≡ Some (sharing_of w e))
   share-0 (fitting x y) = (λ p. refl, λ c. refl)
   share-0 (too-low x) = (λ p. absurd (omega arith), ap number_of_share)
   share-0 (too-high x) = (λ p. absurd (omega arith), ap number_of_share)
 
-  pub share-as : (r : Share) → r ≡ share_at w e → ShareAnswer w e r
+  pub share_as : (r : Option Window) → r ≡ share_at w e → ShareAnswer w e r
   unfolding share_at
-  share-as r is = record { is = is; number31 = rw is (share-31 (range w e)); number0 = rw is (share-0 (range w e)) }
+  share_as r is = record { is = is; number31 = rw is (share-31 (range w e)); number0 = rw is (share-0 (range w e)) }

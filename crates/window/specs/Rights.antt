@@ -1,11 +1,8 @@
 -- What a window allows, how a fork cuts it, how it is shared for reading and how a join gives it back: document 01, "Memory and windows",
 -- and document 02, T-04.
-use Rattle.std.specs.Prelude.{Bool, cond, ◌&&◌, ◌||◌, ℕ, ◌≤◌, ltb, leb}
+use Rattle.std.specs.Prelude.{Bool, cond, ◌&&◌, ◌||◌, ℕ, ◌≤◌, ltb, leb, Option, Some, None}
 use Rattle.window.specs.declared.Window.{Window}
 use Rattle.window.specs.declared.Cut.{Cut}
-use Rattle.window.specs.declared.Cut.TheVariants.{Parts, BadCut}
-use Rattle.window.specs.declared.Share.{Share}
-use Rattle.window.specs.declared.Share.TheVariants.{Shared, BadShare}
 
 -- "The root's window is 32 to 1,024", its mark at first lo; the ceiling is "at first hi", and no word is shared with the root
 abbrev pub root_window : Window
@@ -48,17 +45,24 @@ child_of w e = record { lo = w.mark; mark = w.mark; ceiling = e; hi = e; from = 
 abbrev pub rest_of : Window → ℕ → Window
 rest_of w e = record { lo = w.lo; mark = e; ceiling = w.ceiling; hi = w.hi; from = w.from; to = w.to }
 
+abbrev pub parts_at : Window → ℕ → Cut
+parts_at w e = record { child = child_of w e; rest = rest_of w e }
+
+-- is a word between the mark and the ceiling?
+abbrev pub is_between : Window → ℕ → Bool
+is_between w x = leb w.mark x && leb x w.ceiling
+
 -- "A fork whose cut is e needs mark ≤ e ≤ hi"; T-04: "cut at most at" the ceiling
-unfoldable pub cut_at : Window → ℕ → Cut
-cut_at w e = cond (leb w.mark e && leb e w.ceiling) (Parts (child_of w e) (rest_of w e)) BadCut
+unfoldable pub cut_at : Window → ℕ → Option Cut
+cut_at w e = cond (is_between w e) (Some (parts_at w e)) None
 
 -- T-04: "The ceiling becomes s"
 abbrev pub sharing_of : Window → ℕ → Window
 sharing_of w s = record { lo = w.lo; mark = w.mark; ceiling = s; hi = w.hi; from = w.from; to = w.to }
 
 -- T-04: "slot a holds s, with mark ≤ s ≤ the thread's ceiling"
-unfoldable pub share_at : Window → ℕ → Share
-share_at w s = cond (leb w.mark s && leb s w.ceiling) (Shared (sharing_of w s)) BadShare
+unfoldable pub share_at : Window → ℕ → Option Window
+share_at w s = cond (is_between w s) (Some (sharing_of w s)) None
 
 -- "A join puts the mark back to lo"; T-04: "The join restores the ceiling"
 abbrev pub rejoined : Window → Window

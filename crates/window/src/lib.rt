@@ -3,7 +3,7 @@
 #![tactic(auto)]
 
 ghost use Rattle.std.specs.Prelude.{◌≡◌};
-ghost use Rattle.window.specs.Rights.{root_window, no_window, is_from, span_from, span_to, rejoined};
+ghost use Rattle.window.specs.Rights.{root_window, no_window, is_from, is_between, span_from, span_to, rejoined};
 ghost use Rattle.window.specs.Numbers.{LoadAnswer, StoreAnswer, CutAnswer, ShareAnswer};
 
 // Addresses from lo up to but not including hi. Those below the mark are cut off, those from the ceiling on are shared: loaded and not stored.
@@ -18,28 +18,18 @@ pub struct Window {
     pub to: u16,
 }
 
-// What a cut gives: the child's window and what is left of the parent's, or nothing.
+// What a cut gives: the child's window and what is left of the parent's.
 #[derive(Clone, Copy)]
-pub enum Cut {
-    Parts { child: Window, rest: Window },
-    BadCut,
-}
-
-// What sharing gives: the window with its new ceiling, or nothing.
-#[derive(Clone, Copy)]
-pub enum Share {
-    Shared(Window),
-    BadShare,
+pub struct Cut {
+    pub child: Window,
+    pub rest: Window,
 }
 
 // Is an address one of those from low up to but not including end?
 fn is_from(low: u16, end: u16, address: u32) -> bool
     ensures { result ≡ is_from low end address }
 {
-    if address < (low as u32) {
-        return false;
-    }
-    address < (end as u32)
+    (u32::from(low)..u32::from(end)).contains(&address)
 }
 
 impl Window {
@@ -72,98 +62,73 @@ impl Window {
     }
 
     // Parameter words may always be loaded.
+    #[tactic(auto, unfolding(crate::specs::Rights::may_load), using(crate::proofs::Numbers::loaded))]
     pub fn may_load(self, address: u32) -> bool
         ensures { LoadAnswer self address result }
     {
-        if address < 32 {
-            return true;
-        }
-        if is_from(self.mark, self.hi, address) {
-            return true;
-        }
-        is_from(self.from, self.to, address)
+        address < 32 || is_from(self.mark, self.hi, address) || is_from(self.from, self.to, address)
     }
 
     // A parameter word is never stored, whatever the mark.
+    #[tactic(auto, unfolding(crate::specs::Rights::may_store), using(crate::proofs::Numbers::stored))]
     pub fn may_store(self, address: u32) -> bool
         ensures { StoreAnswer self address result }
     {
-        if address < 32 {
-            return false;
-        }
-        is_from(self.mark, self.ceiling, address)
+        32 <= address && is_from(self.mark, self.ceiling, address)
     }
 
-    // The first word that a child forked now may read besides its own.
-    fn span_from(self) -> u16
-        ensures { result ≡ span_from self }
+    // The words that a child forked now may read besides its own: the first, and their end.
+    fn span(self) -> (u16, u16)
+        ensures { result ≡ (span_from self, span_to self) }
     {
         if self.ceiling < self.hi {
-            return self.ceiling;
+            (self.ceiling, self.hi)
+        } else {
+            (self.from, self.to)
         }
-        self.from
     }
 
-    // The end of these words.
-    fn span_to(self) -> u16
-        ensures { result ≡ span_to self }
+    // Is a word between the mark and the ceiling, both included?
+    fn is_between(self, word: u32) -> bool
+        ensures { result ≡ is_between self word }
     {
-        if self.ceiling < self.hi {
-            return self.hi;
-        }
-        self.to
+        u32::from(self.mark) <= word && word <= u32::from(self.ceiling)
     }
 
-    // A cut at e, between the mark and the ceiling, both included.
-    pub fn cut(self, e: u32) -> Cut
+    // A cut at e, between the mark and the ceiling.
+    #[tactic(auto, unfolding(crate::specs::Rights::cut_at), using(crate::proofs::Numbers::cut_as))]
+    pub fn cut(self, e: u32) -> Option<Cut>
         ensures { CutAnswer self e result }
     {
-        if e < (self.mark as u32) {
-            return Cut::BadCut;
-        }
-        if (self.ceiling as u32) < e {
-            return Cut::BadCut;
+        if !self.is_between(e) {
+            return None;
         }
         let mark = self.mark;
         let end = e as u16;
-        Cut::Parts {
+        let (from, to) = self.span();
+        Some(Cut {
             child: Window {
                 lo: mark,
                 mark,
                 ceiling: end,
                 hi: end,
-                from: self.span_from(),
-                to: self.span_to(),
+                from,
+                to,
             },
-            rest: Window {
-                lo: self.lo,
-                mark: end,
-                ceiling: self.ceiling,
-                hi: self.hi,
-                from: self.from,
-                to: self.to,
-            },
-        }
+            rest: Window { mark: end, ..self },
+        })
     }
 
-    // The words from s up to hi are shared, where s is between the mark and the ceiling, both included.
-    pub fn share(self, s: u32) -> Share
+    // The words from s up to hi are shared, where s is between the mark and the ceiling: the window with its new ceiling.
+    #[tactic(auto, unfolding(crate::specs::Rights::share_at), using(crate::proofs::Numbers::share_as))]
+    pub fn share(self, s: u32) -> Option<Window>
         ensures { ShareAnswer self s result }
     {
-        if s < (self.mark as u32) {
-            return Share::BadShare;
+        if !self.is_between(s) {
+            return None;
         }
-        if (self.ceiling as u32) < s {
-            return Share::BadShare;
-        }
-        Share::Shared(Window {
-            lo: self.lo,
-            mark: self.mark,
-            ceiling: s as u16,
-            hi: self.hi,
-            from: self.from,
-            to: self.to,
-        })
+        let ceiling = s as u16;
+        Some(Window { ceiling, ..self })
     }
 
     // The window as it was before its cuts and shares.
@@ -171,12 +136,9 @@ impl Window {
         ensures { result ≡ rejoined self }
     {
         Window {
-            lo: self.lo,
             mark: self.lo,
             ceiling: self.hi,
-            hi: self.hi,
-            from: self.from,
-            to: self.to,
+            ..self
         }
     }
 }
