@@ -9,7 +9,7 @@ use borrow.Author.Tests.{lt-ltb, ne_eqb}
 use lib.Dec.{eqb}
 use lib.ListN.{length, take, get_or, length-append}
 use lib.Seq.{length-take-le}
-use Rattle.image.specs.declared.Verdict.TheVariants.{Rejected}
+use Rattle.std.specs.Prelude.{Err}
 use Rattle.image.specs.declared.Refusal.TheVariants.{BadLength}
 use Rattle.image.specs.Image.{image_verdict}
 use Rattle.hex_format.specs.Lines.{before, text_lines}
@@ -20,7 +20,7 @@ use Rattle.intel_hex.proofs.RecordLaws.{formed, data-parts, end-parts, Good, end
 use Rattle.intel_hex.proofs.Canonical.{below-64k}
 use Rattle.hex_output.specs.Output.{refused_line, write_output}
 
-too_long : (image : List ℕ) → 4096 < length image → image_verdict image ≡ Rejected BadLength
+too_long : (image : List ℕ) → 4096 < length image → image_verdict image ≡ Err BadLength
 unfolding image_verdict
 too_long image h = rw (ne_eqb (length image) 0 (λ e. omega arith), lt-ltb 4096 (length image) h)
 

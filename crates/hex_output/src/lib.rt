@@ -5,35 +5,30 @@
 ghost use Rattle.text.specs.Buffer.{Put};
 ghost use Rattle.hex_output.specs.Output.{refused_line, WritesOutput, ReadsOutput};
 
-use intel_hex::number::{bytes, characters, read_number, written_number};
-use text::{put_one, wide};
+use text::put_line;
 
 fn put_refused(output: &mut [u8], number: u8) -> usize
     ensures { Put (refused_line number) output.old 0 result output.new }
 {
-    put_one(output, 0, b"refused", wide(number))
+    put_line(output, 0, b"refused", &[u32::from(number)])
 }
 
 // Gives the number of characters.
 pub fn write_output(image: &[u8], output: &mut [u8]) -> usize
     ensures { WritesOutput image.now output.old output.new result }
 {
-    let answer = intel_hex::write(image, output);
-    let number = written_number(answer);
-    if number == 0 {
-        return characters(answer);
+    match intel_hex::write(image, output) {
+        Ok(n) => n,
+        Err(error) => put_refused(output, error.number()),
     }
-    put_refused(output, number)
 }
 
 // Gives the number of bytes.
 pub fn read_output(text: &[u8], output: &mut [u8]) -> usize
     ensures { ReadsOutput text.now output.old output.new result }
 {
-    let answer = intel_hex::read(text, output);
-    let number = read_number(answer);
-    if number == 0 {
-        return bytes(answer);
+    match intel_hex::read(text, output) {
+        Ok(n) => n,
+        Err(error) => put_refused(output, error.number()),
     }
-    put_refused(output, number)
 }

@@ -1,15 +1,15 @@
 -- The answers of `write` and `read`: each by its cause. Assumes nothing.
 use Rattle.std.proofs.Common.{◌≡◌, ℕ, ◌<◌, ◌≤◌, Bool, true, false, cond, List, ◌++◌, length, take, drop, sym, refl, ap, ◌∙◌, true≢false, arith, take_at, le-leb}
+use Rattle.std.specs.Prelude.{Result, Ok, Err}
 use borrow.Author.Tests.{lt-leb}
 use Rattle.image.specs.declared.Refusal.{Refusal}
 use Rattle.image.specs.declared.Refusal.TheVariants.{BadLength, BadCount, BadRow, UnknownByte, OperandsCutOff, OutOfRange, BadEnd, BadTarget}
-use Rattle.image.specs.declared.Verdict.{Verdict}
-use Rattle.image.specs.declared.Verdict.TheVariants.{Accepted, Rejected}
-use Rattle.image.specs.declared.Checked.{Checked}
-use Rattle.image.specs.Image.{number_of_refusal, image_verdict, image_answer}
-use Rattle.intel_hex.specs.declared.HexWritten.TheVariants.{Characters, BadImage, NoRoom as NoTextRoom}
-use Rattle.intel_hex.specs.declared.HexRead.{HexRead}
-use Rattle.intel_hex.specs.declared.HexRead.TheVariants.{Bytes, Malformed, BadChecksum, BadSpan, NoRoom as NoByteRoom}
+use Rattle.image.specs.Code.{Verdict}
+use Rattle.image.specs.Image.{number_of_refusal, image_verdict}
+use Rattle.intel_hex.specs.declared.WriteError.{WriteError}
+use Rattle.intel_hex.specs.declared.WriteError.TheVariants.{BadImage, NoRoom as NoTextRoom}
+use Rattle.intel_hex.specs.declared.ReadError.{ReadError}
+use Rattle.intel_hex.specs.declared.ReadError.TheVariants.{Malformed, BadChecksum, BadSpan, NoRoom as NoByteRoom}
 use Rattle.hex_format.specs.Text.{hex_of}
 use Rattle.hex_format.specs.Lines.{text_lines}
 use Rattle.hex_format.specs.Reading.{malformed, bad_checksum, bad_span, said_by, text_number}
@@ -19,7 +19,7 @@ use Rattle.intel_hex.proofs.Storing.{sets-front}
 use Rattle.intel_hex.proofs.RoundTrip.{Small}
 use Rattle.intel_hex.proofs.Canonical.{reads-back, canonical, text-length}
 
-numbers : (r : Refusal) → (1 ≤ number_of_refusal r) × (number_of_refusal r ≤ 8)
+pub numbers : (r : Refusal) → (1 ≤ number_of_refusal r) × (number_of_refusal r ≤ 8)
 numbers BadLength = (omega arith, omega arith)
 numbers BadCount = (omega arith, omega arith)
 numbers BadRow = (omega arith, omega arith)
@@ -29,34 +29,30 @@ numbers OutOfRange = (omega arith, omega arith)
 numbers BadEnd = (omega arith, omega arith)
 numbers BadTarget = (omega arith, omega arith)
 
-pub verdict-told : (image : List ℕ) (r : Checked) (v : Verdict) → r ≡ image_answer image → r.verdict ≡ v → image_verdict image ≡ v
-unfolding image_answer
-verdict-told image r v e h = sym (ap (λ (c : Checked). c.verdict) e) ∙ h
-
 module _ (image before : List ℕ) where
   -- a bad image
-  pub bad-image : (refusal : Refusal) → image_verdict image ≡ Rejected refusal → HexWrites image before before (BadImage refusal)
+  pub bad-image : (refusal : Refusal) → image_verdict image ≡ Err refusal → HexWrites image before before (Err (BadImage refusal))
   unfolding hex_written
   bad-image refusal v =
       let some = numbers refusal in
       record {
         answered = rw v;
-        numbers1to8 = λ other. (λ p. v ∙ ap Rejected cc, λ p. let q : Rejected refusal ≡ Rejected other = sym v ∙ p in ap BadImage cc);
+        numbers1to8 = λ other. (λ p. v ∙ ap Err cc, λ p. let q : ◌≡◌ {A = Verdict} (Err refusal) (Err other) = sym v ∙ p in cc);
         number25 = (λ p. absurd (omega arith), λ p. absurd (not-both refusal (sym v ∙ p.0)));
         number0 = (λ p. absurd (omega arith), ap number_of_hex_written);
         text = refl;
         back = λ n p. let z : number_of_refusal refusal ≡ 0 = ap number_of_hex_written p in absurd (omega arith);
       }
     where
-      not-both : (r : Refusal) → Rejected r ≡ Accepted → ⊥
+      not-both : (r : Refusal) → ◌≡◌ {A = Verdict} (Err r) (Ok tt) → ⊥
       not-both r p = let z : ◌≡◌ {A = ℕ} 0 1 = cc in omega arith
 
-  module _ (v : image_verdict image ≡ Accepted) where
-    not-rejected : (r : Refusal) → image_verdict image ≡ Rejected r → ⊥
-    not-rejected r p = let q : Accepted ≡ Rejected r = sym v ∙ p in let z : ◌≡◌ {A = ℕ} 0 1 = cc in omega arith
+  module _ (v : image_verdict image ≡ Ok tt) where
+    not-rejected : (r : Refusal) → image_verdict image ≡ Err r → ⊥
+    not-rejected r p = let q : ◌≡◌ {A = Verdict} (Ok tt) (Err r) = sym v ∙ p in let z : ◌≡◌ {A = ℕ} 0 1 = cc in omega arith
 
     -- too short an output
-    pub no-text-room : length before < text_length (length image) → HexWrites image before before NoTextRoom
+    pub no-text-room : length before < text_length (length image) → HexWrites image before before (Err NoTextRoom)
     unfolding hex_written
     no-text-room h =
         record {
@@ -68,12 +64,12 @@ module _ (image before : List ℕ) where
           back = λ n p. let z : ◌≡◌ {A = ℕ} 25 0 = ap number_of_hex_written p in absurd (omega arith);
         }
       where
-        no-room-bad : (r : Refusal) → NoTextRoom ≡ BadImage r → ⊥
+        no-room-bad : (r : Refusal) → ◌≡◌ {A = Result ℕ WriteError} (Err NoTextRoom) (Err (BadImage r)) → ⊥
         no-room-bad r p = let z : 25 ≡ number_of_refusal r = ap number_of_hex_written p in omega (arith, (numbers r).1)
 
     -- the text
     pub text-written : {after : List ℕ} (n : ℕ) → n ≡ text_length (length image) → n ≤ length before → Small image → length image ≤ 4096 → PutsText (hex_of image) before 0 after
-        → HexWrites image before after (Characters n)
+        → HexWrites image before after (Ok n)
     unfolding hex_written
     text-written {after} n e h small most p =
         let size : length (hex_of image) ≡ n = text-length image ∙ sym e in
@@ -82,7 +78,7 @@ module _ (image before : List ℕ) where
           answered = rw (v, size, le-leb n (length before) h);
           numbers1to8 = λ r. (λ q. let z : 0 ≡ number_of_refusal r = ap number_of_hex_written q in absurd (omega (arith, (numbers r).0)), λ q. absurd (not-rejected r q));
           number25 = (λ q. absurd (omega arith), λ q. absurd (omega (arith, q.1)));
-          number0 = (λ q. ap Characters e, λ q. refl);
+          number0 = (λ q. ap Ok e, λ q. refl);
           text = all;
           back = λ m q.
               let same : n ≡ m = ap characters_of q in
@@ -90,18 +86,18 @@ module _ (image before : List ℕ) where
         }
 
 -- the three tests, in their order
-data Tested (lines : List (List ℕ)) : HexRead → Type 0 where
-  lined : malformed lines ≡ true → Tested lines Malformed
-  summed : malformed lines ≡ false → bad_checksum lines ≡ true → Tested lines BadChecksum
-  spanned : malformed lines ≡ false → bad_checksum lines ≡ false → bad_span 0 lines ≡ true → Tested lines BadSpan
-  passed : malformed lines ≡ false → bad_checksum lines ≡ false → bad_span 0 lines ≡ false → Tested lines (Bytes (length (said_by lines)))
+data Tested (lines : List (List ℕ)) : Result ℕ ReadError → Type 0 where
+  lined : malformed lines ≡ true → Tested lines (Err Malformed)
+  summed : malformed lines ≡ false → bad_checksum lines ≡ true → Tested lines (Err BadChecksum)
+  spanned : malformed lines ≡ false → bad_checksum lines ≡ false → bad_span 0 lines ≡ true → Tested lines (Err BadSpan)
+  passed : malformed lines ≡ false → bad_checksum lines ≡ false → bad_span 0 lines ≡ false → Tested lines (Ok (length (said_by lines)))
 
 tested : (lines : List (List ℕ)) → Tested lines (verdict_of lines)
 unfolding verdict_of
 tested lines = one (malformed lines) (bad_checksum lines) (bad_span 0 lines) refl refl refl
   where
     one : (a b c : Bool) → malformed lines ≡ a → bad_checksum lines ≡ b → bad_span 0 lines ≡ c
-        → Tested lines (cond a Malformed (cond b BadChecksum (cond c BadSpan (Bytes (length (said_by lines))))))
+        → Tested lines (cond a (Err Malformed) (cond b (Err BadChecksum) (cond c (Err BadSpan) (Ok (length (said_by lines))))))
     one true b c x y z = lined x
     one false true c x y z = summed x y
     one false false true x y z = spanned x y z
@@ -112,7 +108,7 @@ pub verdict-number : (lines : List (List ℕ)) → number_of_hex_read (verdict_o
 unfolding verdict_of text_number
 verdict-number lines = one (malformed lines) (bad_checksum lines) (bad_span 0 lines)
   where
-    one : (a b c : Bool) → number_of_hex_read (cond a Malformed (cond b BadChecksum (cond c BadSpan (Bytes (length (said_by lines)))))) ≡ cond a 27 (cond b 28 (cond c 29 0))
+    one : (a b c : Bool) → number_of_hex_read (cond a (Err Malformed) (cond b (Err BadChecksum) (cond c (Err BadSpan) (Ok (length (said_by lines)))))) ≡ cond a 27 (cond b 28 (cond c 29 0))
     one true b c = refl
     one false true c = refl
     one false false true = refl
@@ -120,55 +116,55 @@ verdict-number lines = one (malformed lines) (bad_checksum lines) (bad_span 0 li
 
 -- what each verdict tells
 module _ (lines : List (List ℕ)) where
-  apart : {a b : HexRead} → a ≡ b → number_of_hex_read a ≡ number_of_hex_read b
+  apart : {a b : Result ℕ ReadError} → a ≡ b → number_of_hex_read a ≡ number_of_hex_read b
   apart = ap number_of_hex_read
 
-  told-bytes : (n : ℕ) (r : HexRead) → Tested lines r → r ≡ Bytes n → (malformed lines ≡ false) × (bad_checksum lines ≡ false) × (bad_span 0 lines ≡ false) × (n ≡ length (said_by lines))
-  told-bytes n Malformed (lined x) e = absurd (omega (arith, apart e))
-  told-bytes n BadChecksum (summed x y) e = absurd (omega (arith, apart e))
-  told-bytes n BadSpan (spanned x y z) e = absurd (omega (arith, apart e))
-  told-bytes n (Bytes m) (passed x y z) e = (x, y, z, sym (ap bytes_in e))
-  told-bytes n NoByteRoom x e = elim x [ ]
+  told-bytes : (n : ℕ) (r : Result ℕ ReadError) → Tested lines r → r ≡ Ok n → (malformed lines ≡ false) × (bad_checksum lines ≡ false) × (bad_span 0 lines ≡ false) × (n ≡ length (said_by lines))
+  told-bytes n (Err Malformed) (lined x) e = absurd (omega (arith, apart e))
+  told-bytes n (Err BadChecksum) (summed x y) e = absurd (omega (arith, apart e))
+  told-bytes n (Err BadSpan) (spanned x y z) e = absurd (omega (arith, apart e))
+  told-bytes n (Ok m) (passed x y z) e = (x, y, z, sym (ap bytes_in e))
+  told-bytes n (Err NoByteRoom) x e = elim x [ ]
 
-  pub passes : (n : ℕ) → Bytes n ≡ verdict_of lines → (malformed lines ≡ false) × (bad_checksum lines ≡ false) × (bad_span 0 lines ≡ false) × (n ≡ length (said_by lines))
+  pub passes : (n : ℕ) → Ok n ≡ verdict_of lines → (malformed lines ≡ false) × (bad_checksum lines ≡ false) × (bad_span 0 lines ≡ false) × (n ≡ length (said_by lines))
   passes n e = told-bytes n (verdict_of lines) (tested lines) (sym e)
 
-  told-malformed : (r : HexRead) → Tested lines r → r ≡ Malformed → malformed lines ≡ true
-  told-malformed Malformed (lined x) e = x
-  told-malformed BadChecksum (summed x y) e = absurd (omega (arith, apart e))
-  told-malformed BadSpan (spanned x y z) e = absurd (omega (arith, apart e))
-  told-malformed (Bytes m) (passed x y z) e = absurd (omega (arith, apart e))
-  told-malformed NoByteRoom x e = elim x [ ]
+  told-malformed : (r : Result ℕ ReadError) → Tested lines r → r ≡ Err Malformed → malformed lines ≡ true
+  told-malformed (Err Malformed) (lined x) e = x
+  told-malformed (Err BadChecksum) (summed x y) e = absurd (omega (arith, apart e))
+  told-malformed (Err BadSpan) (spanned x y z) e = absurd (omega (arith, apart e))
+  told-malformed (Ok m) (passed x y z) e = absurd (omega (arith, apart e))
+  told-malformed (Err NoByteRoom) x e = elim x [ ]
 
-  told-checksum : (r : HexRead) → Tested lines r → r ≡ BadChecksum → (malformed lines ≡ false) × (bad_checksum lines ≡ true)
-  told-checksum Malformed (lined x) e = absurd (omega (arith, apart e))
-  told-checksum BadChecksum (summed x y) e = (x, y)
-  told-checksum BadSpan (spanned x y z) e = absurd (omega (arith, apart e))
-  told-checksum (Bytes m) (passed x y z) e = absurd (omega (arith, apart e))
-  told-checksum NoByteRoom x e = elim x [ ]
+  told-checksum : (r : Result ℕ ReadError) → Tested lines r → r ≡ Err BadChecksum → (malformed lines ≡ false) × (bad_checksum lines ≡ true)
+  told-checksum (Err Malformed) (lined x) e = absurd (omega (arith, apart e))
+  told-checksum (Err BadChecksum) (summed x y) e = (x, y)
+  told-checksum (Err BadSpan) (spanned x y z) e = absurd (omega (arith, apart e))
+  told-checksum (Ok m) (passed x y z) e = absurd (omega (arith, apart e))
+  told-checksum (Err NoByteRoom) x e = elim x [ ]
 
-  told-span : (r : HexRead) → Tested lines r → r ≡ BadSpan → (malformed lines ≡ false) × (bad_checksum lines ≡ false) × (bad_span 0 lines ≡ true)
-  told-span Malformed (lined x) e = absurd (omega (arith, apart e))
-  told-span BadChecksum (summed x y) e = absurd (omega (arith, apart e))
-  told-span BadSpan (spanned x y z) e = (x, y, z)
-  told-span (Bytes m) (passed x y z) e = absurd (omega (arith, apart e))
-  told-span NoByteRoom x e = elim x [ ]
+  told-span : (r : Result ℕ ReadError) → Tested lines r → r ≡ Err BadSpan → (malformed lines ≡ false) × (bad_checksum lines ≡ false) × (bad_span 0 lines ≡ true)
+  told-span (Err Malformed) (lined x) e = absurd (omega (arith, apart e))
+  told-span (Err BadChecksum) (summed x y) e = absurd (omega (arith, apart e))
+  told-span (Err BadSpan) (spanned x y z) e = (x, y, z)
+  told-span (Ok m) (passed x y z) e = absurd (omega (arith, apart e))
+  told-span (Err NoByteRoom) x e = elim x [ ]
 
-  told-room : (r : HexRead) → Tested lines r → r ≡ NoByteRoom → ⊥
-  told-room Malformed (lined x) e = omega (arith, apart e)
-  told-room BadChecksum (summed x y) e = omega (arith, apart e)
-  told-room BadSpan (spanned x y z) e = omega (arith, apart e)
-  told-room (Bytes m) (passed x y z) e = omega (arith, apart e)
-  told-room NoByteRoom x e = elim x [ ]
+  told-room : (r : Result ℕ ReadError) → Tested lines r → r ≡ Err NoByteRoom → ⊥
+  told-room (Err Malformed) (lined x) e = omega (arith, apart e)
+  told-room (Err BadChecksum) (summed x y) e = omega (arith, apart e)
+  told-room (Err BadSpan) (spanned x y z) e = omega (arith, apart e)
+  told-room (Ok m) (passed x y z) e = omega (arith, apart e)
+  told-room (Err NoByteRoom) x e = elim x [ ]
 
-  pub no-room-told : NoByteRoom ≡ verdict_of lines → ⊥
+  no-room-told : Err NoByteRoom ≡ verdict_of lines → ⊥
   no-room-told e = told-room (verdict_of lines) (tested lines) (sym e)
 
 unlike : {b : Bool} → b ≡ true → b ≡ false → ⊥
 unlike x y = true≢false (sym x ∙ y)
 
 module _ (text before : List ℕ) where
-  pub is-malformed : Malformed ≡ verdict_of (text_lines text) → HexReads text before before Malformed
+  is-malformed : Err Malformed ≡ verdict_of (text_lines text) → HexReads text before before (Err Malformed)
   unfolding hex_read
   is-malformed e =
       let x : malformed (text_lines text) ≡ true = told-malformed (text_lines text) (verdict_of (text_lines text)) (tested (text_lines text)) (sym e) in
@@ -184,7 +180,7 @@ module _ (text before : List ℕ) where
         canonical = λ n p. let z : ◌≡◌ {A = ℕ} 27 0 = ap number_of_hex_read p in absurd (omega arith);
       }
 
-  pub is-bad-checksum : BadChecksum ≡ verdict_of (text_lines text) → HexReads text before before BadChecksum
+  is-bad-checksum : Err BadChecksum ≡ verdict_of (text_lines text) → HexReads text before before (Err BadChecksum)
   unfolding hex_read
   is-bad-checksum e =
       let t = told-checksum (text_lines text) (verdict_of (text_lines text)) (tested (text_lines text)) (sym e) in
@@ -200,7 +196,7 @@ module _ (text before : List ℕ) where
         canonical = λ n p. let z : ◌≡◌ {A = ℕ} 28 0 = ap number_of_hex_read p in absurd (omega arith);
       }
 
-  pub is-bad-span : BadSpan ≡ verdict_of (text_lines text) → HexReads text before before BadSpan
+  is-bad-span : Err BadSpan ≡ verdict_of (text_lines text) → HexReads text before before (Err BadSpan)
   unfolding hex_read
   is-bad-span e =
       let t = told-span (text_lines text) (verdict_of (text_lines text)) (tested (text_lines text)) (sym e) in
@@ -216,11 +212,18 @@ module _ (text before : List ℕ) where
         canonical = λ n p. let z : ◌≡◌ {A = ℕ} 29 0 = ap number_of_hex_read p in absurd (omega arith);
       }
 
-  module _ (n : ℕ) (e : Bytes n ≡ verdict_of (text_lines text)) where
+  -- whatever it is refused for
+  pub is-refused : (error : ReadError) → Err error ≡ verdict_of (text_lines text) → HexReads text before before (Err error)
+  is-refused Malformed e = is-malformed e
+  is-refused BadChecksum e = is-bad-checksum e
+  is-refused BadSpan e = is-bad-span e
+  is-refused NoByteRoom e = absurd (no-room-told (text_lines text) e)
+
+  module _ (n : ℕ) (e : Ok n ≡ verdict_of (text_lines text)) where
     all_pass : ReadsAs text (said_by (text_lines text))
     all_pass = let t = passes (text_lines text) n e in record { lines = t.0; checksums = t.1; span = t.2; said = refl }
 
-    pub no-byte-room : length before < n → HexReads text before before NoByteRoom
+    pub no-byte-room : length before < n → HexReads text before before (Err NoByteRoom)
     unfolding hex_read
     no-byte-room h =
         let t = passes (text_lines text) n e in
@@ -236,7 +239,7 @@ module _ (text before : List ℕ) where
           canonical = λ m p. let z : ◌≡◌ {A = ℕ} 25 0 = ap number_of_hex_read p in absurd (omega arith);
         }
 
-    pub bytes_read : {after : List ℕ} → n ≤ length before → after ≡ said_by (text_lines text) ++ drop n before → HexReads text before after (Bytes n)
+    pub bytes_read : {after : List ℕ} → n ≤ length before → after ≡ said_by (text_lines text) ++ drop n before → HexReads text before after (Ok n)
     unfolding hex_read
     bytes_read {after} h is =
         let t = passes (text_lines text) n e in
@@ -246,7 +249,7 @@ module _ (text before : List ℕ) where
           number28 = (λ p. absurd (omega arith), λ p. absurd (unlike p.1 t.1));
           number29 = (λ p. absurd (omega arith), λ p. absurd (unlike p.2 t.2));
           number25 = (λ p. absurd (omega arith), λ p. absurd (omega (arith, p.1, t.3)));
-          number0 = (λ p. ap Bytes t.3, λ p. refl);
+          number0 = (λ p. ap Ok t.3, λ p. refl);
           bytes = is;
           reads = λ m p. front m (ap bytes_in p);
           canonical = λ m p. canonical text (take m after) (front m (ap bytes_in p));

@@ -1,10 +1,10 @@
 -- Laws of digits and of the tables of them. Assumes nothing.
-use Rattle.std.proofs.Common.{◌≡◌, ℕ, zero, suc, ◌+◌, ◌-◌, ◌*◌, ◌<◌, ◌≤◌, Bool, true, false, cond, ◌&&◌, ◌||◌, eqb, ltb, leb, List, [], ◌∷◌, length, get_or, replicate, refl, add-zero, zero-add, add-one, arith, ltb-false, ltb-true, eqb-true, le-leb, leb-true}
+use Rattle.std.proofs.Common.{◌≡◌, ℕ, zero, suc, ◌+◌, ◌-◌, ◌<◌, ◌≤◌, Bool, true, false, cond, ◌&&◌, ◌||◌, eqb, ltb, leb, List, [], ◌∷◌, length, get_or, refl, ap, ◌∙◌, add-zero, zero-add, arith, ltb-false, ltb-true, eqb-true, le-leb, leb-true}
 use mathlib.Core.Bool.{and-eq-true_iff}
 use borrow.Author.Tests.{lt-leb}
-use lib.Seq.{sets}
 use Rattle.hex_format.specs.Digits.{capital, between, is_digit, digit_value}
-use Rattle.intel_hex.specs.Found.{digit_weight, Weights, sum_at}
+use Rattle.intel_hex.specs.declared.digits.TheConstants.{WEIGHTS}
+use Rattle.intel_hex.specs.Found.{digit_weight}
 
 -- where a digit's character lies
 pub data Range (c : ℕ) : Type 0 where
@@ -89,20 +89,14 @@ each rule (x ∷ xs) i (suc k) h l =
     let e : i + suc k ≡ suc i + k = omega arith in
     rw e (each rule xs (suc i) k ((and-eq-true_iff (rule i x) (every rule (suc i) xs)).0 h).1 (omega arith))
 
--- the values of digits, and no weight of anything else
-unfoldable pub weighed : List ℕ
-weighed =
-    let letters : List ℕ = 10 ∷ 11 ∷ 12 ∷ 13 ∷ 14 ∷ 15 ∷ [] in
-    sets (sets (sets (replicate 256 8192) 48 (0 ∷ 1 ∷ 2 ∷ 3 ∷ 4 ∷ 5 ∷ 6 ∷ 7 ∷ 8 ∷ 9 ∷ [])) 65 letters) 97 letters
-
-pub weights-right : Weights weighed
-unfolding weighed digit_weight is_digit digit_value
+-- the table has each character's weight
+weights-right : (c : ℕ) → c < 256 → get_or WEIGHTS c 0 ≡ digit_weight c
+unfolding digit_weight is_digit digit_value
 weights-right c h =
-    let e : eqb (get_or weighed c 0) (digit_weight (0 + c)) ≡ true = each (λ k x. eqb x (digit_weight k)) weighed 0 c refl h in
-    eqb-true (get_or weighed c 0) (digit_weight c) (rw (zero-add c) at e)
+    let e : eqb (get_or WEIGHTS c 0) (digit_weight (0 + c)) ≡ true = each (λ k x. eqb x (digit_weight k)) WEIGHTS 0 c refl h in
+    eqb-true (get_or WEIGHTS c 0) (digit_weight c) (rw (zero-add c) at e)
 
--- pairs of characters added up, with one more
-pub one-more-pair : (text : List ℕ) (at i highs lows : ℕ) {high low : ℕ} → 16 * highs + lows ≡ sum_at text at i → high ≡ digit_weight (get_or text (at + 2 * i) 0)
-    → low ≡ digit_weight (get_or text (at + 2 * i + 1) 0) → 16 * (highs + high) + (lows + low) ≡ sum_at text at (i + 1)
-unfolding sum_at
-one-more-pair text at i highs lows e h l = rw (add-one i) (omega arith)
+pub weighed : (k c : ℕ) → k ≡ c → c < 256 → (get_or WEIGHTS k 0 ≡ digit_weight c) × (get_or WEIGHTS k 0 ≤ 8192)
+weighed k c e h =
+    let w : get_or WEIGHTS k 0 ≡ digit_weight c = ap (λ (n : ℕ). get_or WEIGHTS n 0) e ∙ weights-right c h in
+    (w, omega (arith, w, weight-most c))

@@ -1,18 +1,18 @@
 -- Laws of the loops over a full record's characters. Assumes nothing.
-use Rattle.std.proofs.Common.{◌≡◌, ℕ, zero, suc, ◌+◌, ◌*◌, ◌/◌, ◌%◌, ◌<◌, ◌≤◌, Bool, true, false, cond, ◌||◌, eqb, ltb, leb, List, [], ◌∷◌, ◌++◌, length, get_or, drop, set, replicate, sym, refl, ap, ◌∙◌, true≢false, append-nil, add-zero, zero-add, add-one, arith, length-append, drop_of_length-le, get_or-drop, get_or-append-add, ltb-false, ltb-true, le-ltb, lt-ltb, eq-eqb, ne_eqb, eqb-true, leb-true}
-use lib.ListN.{get_or-append}
-use lib.Seq.{sets, get_or_at}
+use Rattle.std.specs.Prelude.{min, max}
+use Rattle.std.proofs.Common.{◌≡◌, ℕ, zero, suc, ◌+◌, ◌*◌, ◌/◌, ◌%◌, ◌<◌, ◌≤◌, Bool, true, false, cond, ◌||◌, eqb, ltb, leb, List, [], length, get_or, drop, set, sym, refl, ◌∙◌, true≢false, append-nil, zero-add, add-one, arith, drop_of_length-le, ltb-false, ltb-true, le-ltb, lt-ltb, eq-eqb, ne_eqb, eqb-true, leb-true}
+use lib.Seq.{sets}
 use Rattle.hex_format.specs.Digits.{is_digit, digit_value}
-use Rattle.intel_hex.specs.Found.{digit_weight, least_of, most_of, Valued, Digits, pair_at, sum_at, pairs_at, Weighs}
+use Rattle.intel_hex.specs.Found.{digit_weight, Valued, Digits, pair_at, sum_at, pairs_at, Weighs}
 use Rattle.intel_hex.proofs.DigitLaws.{every, each, value-most, weight-value}
 use Rattle.intel_hex.proofs.TextLaws.{count_up, counted-length}
 use Rattle.intel_hex.proofs.Standing.{pair-value, sum-most}
-use Rattle.intel_hex.proofs.Storing.{sets_then, sets-front}
+use Rattle.intel_hex.proofs.Storing.{sets-front}
 use Rattle.intel_hex.proofs.Said.{pairs-size, one-more-byte}
 
 -- what `value` computes
 pub computed : ℕ → ℕ
-computed c = least_of ((most_of ((c + 198) % 256) 6 + 10) % 256) (((c + 255) % 256 % 32 + 64 * ((c + 255) % 256 / 64) + 202) % 256)
+computed c = min ((max ((c + 198) % 256) 6 + 10) % 256) (((c + 255) % 256 % 32 + 64 * ((c + 255) % 256 / 64) + 202) % 256)
 
 -- it is right of each of 256 characters
 right-value : ℕ → ℕ → Bool
@@ -29,24 +29,13 @@ right c h =
     let t : cond (is_digit c) (eqb (computed c) (digit_value c)) (leb 16 (computed c)) ≡ true = rw (zero-add c) at e in
     record { digit = λ d. eqb-true (computed c) (digit_value c) (rw d at t); other = λ d. leb-true 16 (computed c) (rw d at t) }
 
-pub value-told : (c p first m number letter r : ℕ) → c < 256 → p < 256 → letter < 256 → (p + 1) % 256 ≡ c → first ≡ (c + 198) % 256 → m ≡ most_of first 6 → number ≡ (m + 10) % 256
-    → (letter + 54) % 256 ≡ p % 32 + 64 * (p / 64) → r ≡ least_of number letter → Valued c r
+pub value-told : (c m r : ℕ) → c < 256 → m ≡ max ((c + 198) % 256) 6 → r ≡ min ((m + 10) % 256) (((c + 255) % 256 % 32 + 64 * ((c + 255) % 256 / 64) + 202) % 256) → Valued c r
 unfolding computed
-value-told c p first m number letter r hc hp hl ep e1 em en el er =
-    let p' : p ≡ (c + 255) % 256 = before-one c p hc hp ep in
-    let l' : letter ≡ (p % 32 + 64 * (p / 64) + 202) % 256 = less-54 (p % 32 + 64 * (p / 64)) letter hl el in
-    let is : r ≡ computed c = er ∙ rw (en, em, e1, l', p') in
-    rw is (right c hc)
-  where
-    before-one : (c p : ℕ) → c < 256 → p < 256 → (p + 1) % 256 ≡ c → p ≡ (c + 255) % 256
-    before-one c p hc hp e = omega arith
-
-    less-54 : (q l : ℕ) → l < 256 → (l + 54) % 256 ≡ q → l ≡ (q + 202) % 256
-    less-54 q l h e = omega arith
+value-told c m r h em er = let is : r ≡ computed c = er ∙ rw em in rw is (right c h)
 
 -- what `plain` computes, likewise
 pub computed-plain : ℕ → ℕ
-computed-plain c = least_of ((c % 32 + 240) % 256) (c % 32 + 9)
+computed-plain c = min ((c % 32 + 240) % 256) (c % 32 + 9)
 
 right-plain : ℕ → ℕ → Bool
 right-plain c x = cond (is_digit c) (eqb (computed-plain c) (digit_value c)) true
@@ -62,22 +51,9 @@ plain-right c h d =
     let t : cond (is_digit c) (eqb (computed-plain c) (digit_value c)) true ≡ true = rw (zero-add c) at e in
     eqb-true (computed-plain c) (digit_value c) (rw d at t)
 
-pub plain-told : (c less r : ℕ) → c < 256 → less < 256 → (less + 16) % 256 ≡ c % 32 → r ≡ least_of less (c % 32 + 9) → (is_digit c ≡ true → r ≡ digit_value c) × (r ≤ 40)
+pub plain-told : (c r : ℕ) → c < 256 → r ≡ min ((c % 32 + 240) % 256) (c % 32 + 9) → is_digit c ≡ true → r ≡ digit_value c
 unfolding computed-plain
-plain-told c less r hc hl e er =
-    let l : less ≡ (c % 32 + 240) % 256 = less-16 (c % 32) less hl e in
-    let is : r ≡ computed-plain c = er ∙ rw l in
-    (λ d. is ∙ plain-right c hc d, rw er (at_most less (c % 32 + 9) (omega arith)))
-  where
-    less-16 : (q l : ℕ) → l < 256 → (l + 16) % 256 ≡ q → l ≡ (q + 240) % 256
-    less-16 q l h e = omega arith
-
-    at_most : (a b : ℕ) → b ≤ 40 → least_of a b ≤ 40
-    at_most a b h = go (ltb a b) refl
-      where
-        go : (t : Bool) → ltb a b ≡ t → cond t a b ≤ 40
-        go true e = omega (arith, ltb-true a b e)
-        go false e = h
+plain-told c r h e d = e ∙ plain-right c h d
 
 -- the weight of a character by its place, the high digit of a pair first
 unfoldable pub unit : ℕ → ℕ
@@ -97,45 +73,14 @@ pairs_of text at (suc m) =
     let n : at + suc (2 * m) ≡ at + 2 * m + 1 = omega arith in
     rw (two, e, o, n) (omega (arith, pairs_of text at m))
 
--- tables of 15 at even and at odd places
-unfoldable pub evens : List ℕ
-evens = 15 ∷ 0 ∷ 15 ∷ 0 ∷ 15 ∷ 0 ∷ 15 ∷ 0 ∷ 15 ∷ 0 ∷ 15 ∷ 0 ∷ 15 ∷ 0 ∷ 15 ∷ 0 ∷ 15 ∷ 0 ∷ 15 ∷ 0 ∷ 15 ∷ 0 ∷ 15 ∷ 0 ∷ 15 ∷ 0 ∷ 15 ∷ 0 ∷ 15 ∷ 0 ∷ 15 ∷ 0 ∷ []
-
-unfoldable pub odds : List ℕ
-odds = 0 ∷ 15 ∷ 0 ∷ 15 ∷ 0 ∷ 15 ∷ 0 ∷ 15 ∷ 0 ∷ 15 ∷ 0 ∷ 15 ∷ 0 ∷ 15 ∷ 0 ∷ 15 ∷ 0 ∷ 15 ∷ 0 ∷ 15 ∷ 0 ∷ 15 ∷ 0 ∷ 15 ∷ 0 ∷ 15 ∷ 0 ∷ 15 ∷ 0 ∷ 15 ∷ 0 ∷ 15 ∷ []
-
-right-even : ℕ → ℕ → Bool
-right-even i x = eqb x (cond (eqb (i % 2) 0) 15 0)
-
-right-odd : ℕ → ℕ → Bool
-right-odd i x = eqb x (cond (eqb (i % 2) 0) 0 15)
-
-pub even-at : (i : ℕ) → i < 32 → get_or evens i 0 ≡ cond (eqb (i % 2) 0) 15 0
-unfolding evens right-even
-even-at i h = let e : right-even (0 + i) (get_or evens i 0) ≡ true = each right-even evens 0 i refl h in eqb-true (get_or evens i 0) (cond (eqb (i % 2) 0) 15 0) (rw (zero-add i) at e)
-
-pub odd-at : (i : ℕ) → i < 32 → get_or odds i 0 ≡ cond (eqb (i % 2) 0) 0 15
-unfolding odds right-odd
-odd-at i h = let e : right-odd (0 + i) (get_or odds i 0) ≡ true = each right-odd odds 0 i refl h in eqb-true (get_or odds i 0) (cond (eqb (i % 2) 0) 0 15) (rw (zero-add i) at e)
-
 -- what a digit adds
-adds : (i v : ℕ) → i < 32 → v ≤ 15 → 16 * (least_of v (get_or evens i 0) % 16) + least_of v (get_or odds i 0) % 16 ≡ unit i * v
+adds : (i v : ℕ) → cond (eqb (i % 2) 0) (16 * v) v ≡ unit i * v
 unfolding unit
-adds i v h l = rw (even-at i h, odd-at i h) (go (eqb (i % 2) 0))
+adds i v = go (eqb (i % 2) 0)
   where
-    full : least_of v 15 ≡ v
-    full = by (ltb v 15) refl
-      where
-        by : (t : Bool) → ltb v 15 ≡ t → cond t v 15 ≡ v
-        by true e = refl
-        by false e = omega (arith, ltb-false v 15 e)
-
-    none : least_of v 0 ≡ 0
-    none = rw (le-ltb v 0 (omega arith))
-
-    go : (t : Bool) → 16 * (least_of v (cond t 15 0) % 16) + least_of v (cond t 0 15) % 16 ≡ cond t 16 1 * v
-    go true = rw (full, none) (omega arith)
-    go false = rw (full, none) (omega arith)
+    go : (t : Bool) → cond t (16 * v) v ≡ cond t 16 1 * v
+    go true = refl
+    go false = omega arith
 
 pub record Tallied (text : List ℕ) (at i sum : ℕ) (bad : Bool) : Type 0 where
   pub digits : bad ≡ false → Digits text at i
@@ -170,30 +115,30 @@ module _ (text : List ℕ) (at i : ℕ) (within : i < 32) where
   unfolding chars_at digit_weight
   no_digit d = rw (add-one i, d) (omega (arith, unit-some i))
 
-  a-digit : (sum v : ℕ) → is_digit (get_or text (at + i) 0) ≡ true → v ≡ digit_value (get_or text (at + i) 0) → sum ≡ chars_at text at i % 256
-      → (sum + (16 * (least_of v (get_or evens i 0) % 16) + least_of v (get_or odds i 0) % 16)) % 256 ≡ chars_at text at (i + 1) % 256
+  a-digit : (sum v p : ℕ) → is_digit (get_or text (at + i) 0) ≡ true → v ≡ digit_value (get_or text (at + i) 0) → p ≡ cond (eqb (i % 2) 0) (16 * v) v → sum ≡ chars_at text at i % 256
+      → (sum + p) % 256 ≡ chars_at text at (i + 1) % 256
   unfolding chars_at
-  a-digit sum v d e s =
+  a-digit sum v p d e put s =
       let w : digit_weight (get_or text (at + i) 0) ≡ v = weight-value (get_or text (at + i) 0) d ∙ sym e in
-      let term = adds i v within (omega (arith, value-most (get_or text (at + i) 0) d)) in
-      rw (add-one i, term, s, w) (mod-left (chars_at text at i) (unit i * v))
+      rw (add-one i, put, adds i v, s, w) (mod-left (chars_at text at i) (unit i * v))
     where
       mod-left : (a b : ℕ) → (a % 256 + b) % 256 ≡ (a + b) % 256
       mod-left a b = omega arith
 
-  pub one-more-tallied : (sum v : ℕ) (bad : Bool) (next : ℕ) (worse : Bool) → Tallied text at i sum bad → Valued (get_or text (at + i) 0) v → worse ≡ (bad || ltb 15 v)
-      → next ≡ (sum + (16 * (least_of v (get_or evens i 0) % 16) + least_of v (get_or odds i 0) % 16)) % 256 → Tallied text at (i + 1) next worse
-  one-more-tallied sum v true next worse t val w n =
+  pub one-more-tallied : (sum v p : ℕ) (bad : Bool) (next : ℕ) (worse : Bool) → Tallied text at i sum bad → Valued (get_or text (at + i) 0) v → worse ≡ (bad || ltb 15 v)
+      → (v ≤ 15 → p ≡ cond (eqb (i % 2) 0) (16 * v) v) → next ≡ (sum + p) % 256 → Tallied text at (i + 1) next worse
+  one-more-tallied sum v p true next worse t val w put n =
       record { digits = λ e. absurd (true≢false (sym w ∙ e)); summed = λ e. absurd (true≢false (sym w ∙ e)); heavy = λ e. heavier (t.heavy refl) }
-  one-more-tallied sum v false next worse t val w n = go (is_digit (get_or text (at + i) 0)) refl
+  one-more-tallied sum v p false next worse t val w put n = go (is_digit (get_or text (at + i) 0)) refl
     where
       go : (b : Bool) → is_digit (get_or text (at + i) 0) ≡ b → Tallied text at (i + 1) next worse
       go true d =
           let v' : v ≡ digit_value (get_or text (at + i) 0) = val.digit d in
-          let fine : worse ≡ false = w ∙ le-ltb 15 v (omega (arith, value-most (get_or text (at + i) 0) d)) in
+          let few : v ≤ 15 = omega (arith, value-most (get_or text (at + i) 0) d) in
+          let fine : worse ≡ false = w ∙ le-ltb 15 v few in
           record {
             digits = λ e. more-digits text at i (t.digits refl) d;
-            summed = λ e. n ∙ a-digit sum v d v' (t.summed refl);
+            summed = λ e. n ∙ a-digit sum v p d v' (put few) (t.summed refl);
             heavy = λ e. absurd (true≢false (sym e ∙ fine));
           }
       go false d =
@@ -213,64 +158,22 @@ tallied-good text at sum i z b t =
     let s : sum ≡ sum_at text at 16 % 256 = rw (z, pairs_of text at 16) at (t.summed refl) in
     record { most = omega arith; light = λ l. omega arith; same = λ l. omega arith; heavy = λ h. absurd (omega arith) }
 
--- the high digits of so many bytes, by their weight
-unfoldable pub highs_at : List ℕ → ℕ → ℕ → List ℕ
-highs_at text p zero = []
-highs_at text p (suc n) = highs_at text p n ++ (16 * digit_value (get_or text (p + 2 * n) 0) ∷ [])
-
-highs-size : (text : List ℕ) (p n : ℕ) → length (highs_at text p n) ≡ n
-unfolding highs_at
-highs-size text p zero = refl
-highs-size text p (suc n) = omega (arith, length-append (highs_at text p n) (16 * digit_value (get_or text (p + 2 * n) 0) ∷ []), highs-size text p n)
-
-highs-at : (text : List ℕ) (p n k : ℕ) → k < n → get_or (highs_at text p n) k 0 ≡ 16 * digit_value (get_or text (p + 2 * k) 0)
-unfolding highs_at
-highs-at text p zero k h = absurd (omega arith)
-highs-at text p (suc n) k h = go (highs-at text p n k) (ltb k n) refl
+-- the loop over bytes
+pub one-more-decoded : (b text part : List ℕ) (p i high low x : ℕ) → i < 16 → part ≡ sets b 0 (pairs_at text p i) → Digits text p 32
+    → (is_digit (get_or text (p + 2 * i) 0) ≡ true → high ≡ digit_value (get_or text (p + 2 * i) 0)) → (is_digit (get_or text (p + 2 * i + 1) 0) ≡ true → low ≡ digit_value (get_or text (p + 2 * i + 1) 0))
+    → x ≡ (16 * (high % 16) + low) % 256 → set part i x ≡ sets b 0 (pairs_at text p (i + 1))
+one-more-decoded b text part p i high low x few e digits h l is =
+    let n : p + 2 * i + 1 ≡ p + (2 * i + 1) = omega arith in
+    let first : is_digit (get_or text (p + 2 * i) 0) ≡ true = digits (2 * i) (omega arith) in
+    let second : is_digit (get_or text (p + 2 * i + 1) 0) ≡ true = rw n (digits (2 * i + 1) (omega arith)) in
+    let two = pair-value text (p + 2 * i) first second in
+    let x' : x ≡ pair_at text (p + 2 * i) = is ∙ small-sum _ _ _ (omega (arith, h first, value-most (get_or text (p + 2 * i) 0) first)) (omega (arith, two.0, h first, l second)) two.1 in
+    rw (e, x') (rw (zero-add i) at (one-more-byte b text 0 p i))
   where
-    last : List ℕ
-    last = 16 * digit_value (get_or text (p + 2 * n) 0) ∷ []
+    small-sum : (a c r : ℕ) → a ≤ 15 → r ≡ 16 * a + c → r ≤ 255 → (16 * (a % 16) + c) % 256 ≡ r
+    small-sum a c r l e m = omega arith
 
-    go : (k < n → get_or (highs_at text p n) k 0 ≡ 16 * digit_value (get_or text (p + 2 * k) 0)) → (t : Bool) → ltb k n ≡ t → get_or (highs_at text p n ++ last) k 0 ≡ 16 * digit_value (get_or text (p + 2 * k) 0)
-    go rest true e = get_or-append (highs_at text p n) last 0 k (rw (highs-size text p n) (ltb-true k n e)) ∙ rest (ltb-true k n e)
-    go rest false e =
-        let same : k ≡ n = omega (arith, ltb-false k n e) in
-        rw same (get_or_at (highs_at text p n) (16 * digit_value (get_or text (p + 2 * n) 0)) [] 0 n (highs-size text p n))
-
--- the first loop, and what it leaves
-pub one-more-high : (b text part : List ℕ) (p i v : ℕ) → part ≡ sets b 0 (highs_at text p i) → v ≡ digit_value (get_or text (p + 2 * i) 0) → v ≤ 15 → set part i (16 * (v % 16)) ≡ sets b 0 (highs_at text p (i + 1))
-unfolding highs_at
-one-more-high b text part p i v e is l =
-    let v' : 16 * (v % 16) ≡ 16 * digit_value (get_or text (p + 2 * i) 0) = omega arith in
-    rw (add-one i, e, v') (rw (zero-add i) at (sets_then b 0 i (highs_at text p i) (16 * digit_value (get_or text (p + 2 * i) 0) ∷ []) (highs-size text p i)))
-
-pub all-high : (text part : List ℕ) (p i : ℕ) → i ≡ 16 → part ≡ sets (replicate 16 0) 0 (highs_at text p i) → part ≡ sets (highs_at text p 16) 0 (pairs_at text p 0)
-unfolding pairs_at
-all-high text part p i z e =
-    e ∙ rw z (sets-front (replicate 16 0) (highs_at text p 16) 16 (highs-size text p 16) (omega arith) ∙ append-nil (highs_at text p 16))
-
--- the second loop
-pub low_digit : (text : List ℕ) (p j : ℕ) → j < 16 → Digits text p 32 → is_digit (get_or text (p + 2 * j + 1) 0) ≡ true
-low_digit text p j h digits = let n : p + 2 * j + 1 ≡ p + (2 * j + 1) = omega arith in rw n (digits (2 * j + 1) (omega arith))
-
-module _ (text part : List ℕ) (p j : ℕ) (h : j < 16) (e : part ≡ sets (highs_at text p 16) 0 (pairs_at text p j)) (digits : Digits text p 32) where
-  pub still-high : get_or part j 0 ≡ 16 * digit_value (get_or text (p + 2 * j) 0)
-  still-high =
-      let f : part ≡ pairs_at text p j ++ drop j (highs_at text p 16) = e ∙ sets-front (highs_at text p 16) (pairs_at text p j) j (pairs-size text p j) (omega (arith, highs-size text p 16)) in
-      let g : get_or (pairs_at text p j ++ drop j (highs_at text p 16)) j 0 ≡ get_or (drop j (highs_at text p 16)) 0 0 = ap (λ (k : ℕ). get_or (pairs_at text p j ++ drop j (highs_at text p 16)) k 0) (sym (pairs-size text p j) ∙ sym (add-zero (length (pairs_at text p j)))) ∙ get_or-append-add (pairs_at text p j) (drop j (highs_at text p 16)) 0 0 in
-      ap (λ (l : List ℕ). get_or l j 0) f ∙ g ∙ get_or-drop j (highs_at text p 16) 0 0 ∙ rw (add-zero j) (highs-at text p 16 j h)
-
-  pub one-more-low : (v x : ℕ) → v ≡ digit_value (get_or text (p + 2 * j + 1) 0) → x ≡ (get_or part j 0 + v) % 256 → set part j x ≡ sets (highs_at text p 16) 0 (pairs_at text p (j + 1))
-  one-more-low v x is sum =
-      let n : p + 2 * j + 1 ≡ p + (2 * j + 1) = omega arith in
-      let two = pair-value text (p + 2 * j) (digits (2 * j) (omega arith)) (rw n (digits (2 * j + 1) (omega arith))) in
-      let x' : x ≡ pair_at text (p + 2 * j) = sum ∙ rw (still-high, is) (small-sum _ _ two.0 two.1) in
-      rw (e, x') (rw (zero-add j) at (one-more-byte (highs_at text p 16) text 0 p j))
-    where
-      small-sum : (a r : ℕ) → r ≡ a → r ≤ 255 → a % 256 ≡ r
-      small-sum a r e l = omega arith
-
-pub all-low : (text part : List ℕ) (p j : ℕ) → j ≡ 16 → part ≡ sets (highs_at text p 16) 0 (pairs_at text p j) → part ≡ pairs_at text p 16
-all-low text part p j z e =
-    let none : drop 16 (highs_at text p 16) ≡ [] = drop_of_length-le (highs_at text p 16) {i = 16} (omega (arith, highs-size text p 16)) in
-    e ∙ rw z (sets-front (highs_at text p 16) (pairs_at text p 16) 16 (pairs-size text p 16) (omega (arith, highs-size text p 16)) ∙ rw (none, append-nil (pairs_at text p 16)))
+pub all-decoded : (b text part : List ℕ) (p i : ℕ) → length b ≡ 16 → i ≡ 16 → part ≡ sets b 0 (pairs_at text p i) → part ≡ pairs_at text p 16
+all-decoded b text part p i size z e =
+    let none : drop 16 b ≡ [] = drop_of_length-le b {i = 16} (omega arith) in
+    e ∙ rw z (sets-front b (pairs_at text p 16) 16 (pairs-size text p 16) (omega arith) ∙ rw (none, append-nil (pairs_at text p 16)))

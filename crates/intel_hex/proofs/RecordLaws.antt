@@ -120,6 +120,6 @@ good line lines h = one (is_end line) refl h
     one true e g = end e (last lines g)
     one false e g = two (is_data line) e refl g
 
-pub good-formed : (line : List ℕ) (lines : List (List ℕ)) → Good line lines → (well_formed line ≡ true) × (count_of line ≤ 16)
-good-formed line lines (end e n) = let p = end-parts line e in (p.formed, omega (arith, p.none))
-good-formed line lines (more e d m) = let p = data-parts line d in (p.formed, p.few)
+pub good-formed : (line : List ℕ) (lines : List (List ℕ)) → Good line lines → (well_formed line ≡ true) × (count_of line ≤ 16) × (type_of line ≤ 1)
+good-formed line lines (end e n) = let p = end-parts line e in (p.formed, omega (arith, p.none), omega (arith, p.type))
+good-formed line lines (more e d m) = let p = data-parts line d in (p.formed, p.few, omega (arith, p.type))

@@ -4,8 +4,8 @@ use lib.Seq.{sets, length-sets, take-length}
 use Rattle.hex_format.specs.Lines.{text_lines}
 use Rattle.hex_format.specs.Record.{line_byte, bytes_from, count_of, data_of}
 use Rattle.hex_format.specs.Reading.{malformed, said_by}
-use Rattle.intel_hex.specs.Found.{pair_at, pairs_at, Digits, end_at, line_at}
-use Rattle.intel_hex.proofs.LineLaws.{end-inside}
+use Rattle.intel_hex.specs.Found.{pair_at, pairs_at, Digits, line_at}
+use Rattle.intel_hex.proofs.LineLaws.{width_at, end-inside}
 use Rattle.intel_hex.proofs.RecordLaws.{Good, end, more, good, data-parts, end-parts}
 use Rattle.intel_hex.proofs.Standing.{pair-value, same_byte, next-line, Whole, whole}
 use Rattle.intel_hex.proofs.Scanning.{no-lines}
@@ -49,9 +49,10 @@ pub record Next (text : List ℕ) (from n : ℕ) : Type 0 where
   pub digits : Digits text (from + 9) (2 * n)
   pub some : 1 ≤ n
   pub few : n ≤ 16
-  pub fine : malformed (text_lines (drop (from + 11 + 2 * n + end_at text (from + 11 + 2 * n)) text)) ≡ false
-  pub said : said_by (text_lines (drop from text)) ≡ pairs_at text (from + 9) n ++ said_by (text_lines (drop (from + 11 + 2 * n + end_at text (from + 11 + 2 * n)) text))
-  pub next : from + 11 + 2 * n + end_at text (from + 11 + 2 * n) ≤ length text
+  pub fine : malformed (text_lines (drop (from + 11 + 2 * n + width_at text (from + 11 + 2 * n)) text)) ≡ false
+  pub said : said_by (text_lines (drop from text)) ≡ pairs_at text (from + 9) n ++ said_by (text_lines (drop (from + 11 + 2 * n + width_at text (from + 11 + 2 * n)) text))
+  pub ended : width_at text (from + 11 + 2 * n) < 3
+  pub next : from + 11 + 2 * n + width_at text (from + 11 + 2 * n) ≤ length text
 
 not-over : (text : List ℕ) (from : ℕ) → 0 < length (said_by (text_lines (drop from text))) → from < length text
 unfolding said_by
@@ -73,15 +74,15 @@ module _ (text : List ℕ) (from n : ℕ) (inside : from + 11 + 2 * n ≤ length
   data-digits : Digits text (from + 9) (2 * n)
   data-digits j h = let e : from + 9 + j ≡ from + 1 + (8 + j) = omega arith in rw e (digits (8 + j) (omega arith))
 
-  module _ (colon : get_or text from 0 ≡ 58) (few : n ≤ 16) (ended : end_at text (from + 11 + 2 * n) < 3) where
-    lines-on : text_lines (drop from text) ≡ line_at text from n ∷ text_lines (drop (from + 11 + 2 * n + end_at text (from + 11 + 2 * n)) text)
+  module _ (colon : get_or text from 0 ≡ 58) (few : n ≤ 16) (ended : width_at text (from + 11 + 2 * n) < 3) where
+    lines-on : text_lines (drop from text) ≡ line_at text from n ∷ text_lines (drop (from + 11 + 2 * n + width_at text (from + 11 + 2 * n)) text)
     lines-on = next-line text from n inside digits colon ended
 
-    said-on : said_by (text_lines (drop from text)) ≡ pairs_at text (from + 9) n ++ said_by (text_lines (drop (from + 11 + 2 * n + end_at text (from + 11 + 2 * n)) text))
+    said-on : said_by (text_lines (drop from text)) ≡ pairs_at text (from + 9) n ++ said_by (text_lines (drop (from + 11 + 2 * n + width_at text (from + 11 + 2 * n)) text))
     unfolding said_by
     said-on = rw (lines-on, line-data)
 
-    by_kind : 0 < length (said_by (text_lines (drop from text))) → Good (line_at text from n) (text_lines (drop (from + 11 + 2 * n + end_at text (from + 11 + 2 * n)) text)) → Next text from n
+    by_kind : 0 < length (said_by (text_lines (drop from text))) → Good (line_at text from n) (text_lines (drop (from + 11 + 2 * n + width_at text (from + 11 + 2 * n)) text)) → Next text from n
     unfolding said_by pairs_at
     by_kind left (end e nothing) =
         let z : n ≡ 0 = sym line-count ∙ (end-parts (line_at text from n) e).none in
@@ -96,6 +97,7 @@ module _ (text : List ℕ) (from n : ℕ) (inside : from + 11 + 2 * n ≤ length
           few = few;
           fine = m;
           said = said-on;
+          ended = ended;
           next = end-inside text (from + 11 + 2 * n) inside ended;
         }
 
@@ -139,18 +141,18 @@ module _ {text before : List ℕ} {from at : ℕ} {bytes : List ℕ} (s : Storin
         length-drop at (said_by (text_lines text)),
         ap length s.ahead,
         ap length r.said,
-        length-append (pairs_at text (from + 9) n) (said_by (text_lines (drop (from + 11 + 2 * n + end_at text (from + 11 + 2 * n)) text))),
+        length-append (pairs_at text (from + 9) n) (said_by (text_lines (drop (from + 11 + 2 * n + width_at text (from + 11 + 2 * n)) text))),
         pairs-size text (from + 9) n,
         s.most,
         r.some,
       )
 
-  pub stored : (n next : ℕ) {after : List ℕ} → Next text from n → next ≡ from + 11 + 2 * n + end_at text (from + 11 + 2 * n) → after ≡ sets bytes at (pairs_at text (from + 9) n)
+  pub stored : (n next : ℕ) {after : List ℕ} → Next text from n → next ≡ from + 11 + 2 * n + width_at text (from + 11 + 2 * n) → after ≡ sets bytes at (pairs_at text (from + 9) n)
       → Storing text before next (at + n) after
   stored n next r e put =
       let said : List ℕ = said_by (text_lines text) in
       let here : List ℕ = pairs_at text (from + 9) n in
-      let rest : List ℕ = said_by (text_lines (drop (from + 11 + 2 * n + end_at text (from + 11 + 2 * n)) text)) in
+      let rest : List ℕ = said_by (text_lines (drop (from + 11 + 2 * n + width_at text (from + 11 + 2 * n)) text)) in
       let d : drop at said ≡ here ++ rest = s.ahead ∙ r.said in
       let size : length here ≡ n = pairs-size text (from + 9) n in
       let front : take (at + n) said ≡ take at said ++ here = take-add at n said ∙ rw (d, take_at here rest n size) in

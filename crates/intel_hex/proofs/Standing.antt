@@ -1,13 +1,14 @@
 -- A line at a position of a text: what the code finds by positions alone, and the line's record. Assumes nothing.
-use Rattle.std.proofs.Common.{◌≡◌, ℕ, zero, suc, ◌+◌, ◌-◌, ◌*◌, ◌%◌, ◌<◌, ◌≤◌, Bool, true, false, cond, eqb, ltb, List, ◌∷◌, length, get_or, take, drop, sym, refl, ap, ◌∙◌, true≢false, add-zero, add-one, arith, length-drop, length-take-le, get_or-drop, get_or-take, drop-drop, ltb-false, ltb-true, eqb-true}
+use Rattle.std.proofs.Common.{◌≡◌, ℕ, zero, suc, ◌+◌, ◌*◌, ◌%◌, ◌<◌, ◌≤◌, Bool, true, false, ltb, List, ◌∷◌, length, get_or, take, drop, sym, refl, ap, ◌∙◌, add-zero, add-one, arith, length-drop, length-take-le, get_or-drop, get_or-take, drop-drop, ltb-false, ltb-true}
 use Rattle.hex_format.specs.Digits.{is_digit, digit_value}
 use Rattle.hex_format.specs.Text.{total}
 use Rattle.hex_format.specs.Lines.{text_lines}
-use Rattle.hex_format.specs.Record.{line_byte, bytes_from, count_of}
+use Rattle.hex_format.specs.Record.{line_byte, bytes_from, count_of, type_of}
 use Rattle.hex_format.specs.Reading.{malformed}
-use Rattle.intel_hex.specs.Found.{digit_weight, pair_at, sum_at, end_at, line_at, Weighs, full_at, StandsAt}
+use Rattle.intel_hex.specs.declared.line.RecordType.{RecordType}
+use Rattle.intel_hex.specs.Found.{digit_weight, pair_at, sum_at, line_at, Weighs, number_of_type, FullAt, StandsAt}
 use Rattle.intel_hex.proofs.DigitLaws.{value-most, weight-value, weight-most, light, plain}
-use Rattle.intel_hex.proofs.LineLaws.{Plain, first-line, Cut, cut, end_rest, end-inside}
+use Rattle.intel_hex.proofs.LineLaws.{width_at, Plain, first-line, Cut, cut, end_rest, end-inside}
 use Rattle.intel_hex.proofs.RecordLaws.{Formed, formed, is-formed, good, good-formed}
 
 -- two digits say a byte
@@ -183,14 +184,14 @@ module _ (text : List ℕ) (at n : ℕ) (inside : at + 11 + 2 * n ≤ length tex
         }
 
     -- such a line is a text's next
-    pub next-line : get_or text at 0 ≡ 58 → end_at text (at + 11 + 2 * n) < 3
-        → text_lines (drop at text) ≡ line_at text at n ∷ text_lines (drop (at + 11 + 2 * n + end_at text (at + 11 + 2 * n)) text)
+    pub next-line : get_or text at 0 ≡ 58 → width_at text (at + 11 + 2 * n) < 3
+        → text_lines (drop at text) ≡ line_at text at n ∷ text_lines (drop (at + 11 + 2 * n + width_at text (at + 11 + 2 * n)) text)
     next-line colon ended =
         let place : at + 11 + 2 * n ≡ at + (11 + 2 * n) = omega arith in
-        let e : end_at text (at + 11 + 2 * n) ≡ end_at (drop at text) (11 + 2 * n) = ap (end_at text) place ∙ end_rest text at (11 + 2 * n) (omega arith) in
-        let far : at + (11 + 2 * n + end_at (drop at text) (11 + 2 * n)) ≡ at + 11 + 2 * n + end_at text (at + 11 + 2 * n) = omega arith in
-        let d : drop (11 + 2 * n + end_at (drop at text) (11 + 2 * n)) (drop at text) ≡ drop (at + 11 + 2 * n + end_at text (at + 11 + 2 * n)) text =
-        drop-drop (11 + 2 * n + end_at (drop at text) (11 + 2 * n)) at text ∙ ap (λ (k : ℕ). drop k text) far in
+        let e : width_at text (at + 11 + 2 * n) ≡ width_at (drop at text) (11 + 2 * n) = ap (width_at text) place ∙ end_rest text at (11 + 2 * n) (omega arith) in
+        let far : at + (11 + 2 * n + width_at (drop at text) (11 + 2 * n)) ≡ at + 11 + 2 * n + width_at text (at + 11 + 2 * n) = omega arith in
+        let d : drop (11 + 2 * n + width_at (drop at text) (11 + 2 * n)) (drop at text) ≡ drop (at + 11 + 2 * n + width_at text (at + 11 + 2 * n)) text =
+        drop-drop (11 + 2 * n + width_at (drop at text) (11 + 2 * n)) at text ∙ ap (λ (k : ℕ). drop k text) far in
         first-line (11 + 2 * n) (drop at text) (omega (arith, length-drop at text)) (omega (arith, length-drop at text)) plains (omega arith)
         ∙ ap (λ (rest : List ℕ). line_at text at n ∷ text_lines rest) d
       where
@@ -202,9 +203,9 @@ module _ (text : List ℕ) (at n : ℕ) (inside : at + 11 + 2 * n ≤ length tex
 
 -- what the code finds is a record's line
 module _ (text : List ℕ) (at n inner after : ℕ) (inside : at + 11 + 2 * n ≤ length text) (colon : get_or text at 0 ≡ 58) (count : pair_at text (at + 1) ≡ n) (few : n ≤ 16) where
-  pub stands : Weighs text (at + 9) n inner → {sum address kind : ℕ}
+  pub stands : Weighs text (at + 9) n inner → {sum address : ℕ} {kind : RecordType}
       → sum ≡ pair_at text (at + 1) + pair_at text (at + 3) + pair_at text (at + 5) + pair_at text (at + 7) + inner + pair_at text (at + 9 + 2 * n) → sum < 8192
-      → after ≡ end_at text (at + 11 + 2 * n) → after < 3 → address ≡ 256 * pair_at text (at + 3) + pair_at text (at + 5) → kind ≡ pair_at text (at + 7)
+      → after ≡ width_at text (at + 11 + 2 * n) → after < 3 → address ≡ 256 * pair_at text (at + 3) + pair_at text (at + 5) → number_of_type kind ≡ pair_at text (at + 7)
       → StandsAt text at (record { count = n; address = address; kind = kind; sum = sum; next = at + 11 + 2 * n + after })
   stands w s low e ended a k =
       let p = parts-light text at n inner few w (omega arith) in
@@ -231,12 +232,13 @@ pub record Whole (text : List ℕ) (at : ℕ) : Type 0 where
   pub digits : (j : ℕ) → j < 2 * (n + 5) → is_digit (get_or text (at + 1 + j) 0) ≡ true
   pub count : pair_at text (at + 1) ≡ n
   pub few : n ≤ 16
-  pub ended : end_at text (at + 11 + 2 * n) < 3
+  pub type : pair_at text (at + 7) ≤ 1
+  pub ended : width_at text (at + 11 + 2 * n) < 3
 
 module _ (text : List ℕ) (at n : ℕ) (line : List ℕ) (is : line ≡ line_at text at n) (inside : at + 11 + 2 * n ≤ length text) where
   -- the same, in a line that is known
-  whole_of : Formed line → count_of line ≡ n → n ≤ 16 → end_at (drop at text) (11 + 2 * n) < 3 → Whole text at
-  whole_of f count few ended =
+  whole_of : Formed line → count_of line ≡ n → n ≤ 16 → type_of line ≤ 1 → width_at (drop at text) (11 + 2 * n) < 3 → Whole text at
+  whole_of f count few type ended =
       let digits : (j : ℕ) → j < 2 * (n + 5) → is_digit (get_or text (at + 1 + j) 0) ≡ true = λ j l.
       let e : at + 1 + j ≡ at + suc j = omega arith in
       rw (e, ← same-character text at n inside (suc j) (omega arith), ← is) (f.digits j (omega (arith, f.size))) in
@@ -249,6 +251,7 @@ module _ (text : List ℕ) (at n : ℕ) (line : List ℕ) (is : line ≡ line_at
         digits = digits;
         count = sym c ∙ rw (← is) count;
         few = few;
+        type = omega (arith, rw is at type, same_byte text at n inside digits 3 (at + 7) (omega arith) (omega arith));
         ended = rw (place, end_rest text at (11 + 2 * n) (omega arith)) ended;
       }
 
@@ -259,7 +262,7 @@ whole text at h fine = go (cut (drop at text) (omega (arith, length-drop at text
     go c =
         let g = good-formed c.line _ (good c.line _ (rw c.lines at fine)) in
         let f = formed c.line g.0 in
-        whole_of text at (count_of c.line) c.line (c.first ∙ ap (λ (m : ℕ). take m (drop at text)) f.size) (omega (arith, c.inside, f.size, length-drop at text)) f refl g.1
+        whole_of text at (count_of c.line) c.line (c.first ∙ ap (λ (m : ℕ). take m (drop at text)) f.size) (omega (arith, c.inside, f.size, length-drop at text)) f refl g.1 g.2
         (rw f.size at c.ended)
 
 -- where the code finds no such line, the text is malformed
@@ -279,35 +282,18 @@ module _ (text : List ℕ) (at n : ℕ) (count : n ≡ pair_at text (at + 1)) (w
       → 8191 < pair_at text (at + 1) + pair_at text (at + 3) + pair_at text (at + 5) + pair_at text (at + 7) + inner + pair_at text (at + 9 + 2 * n) → ⊥
   never-heavy inner v h = omega (arith, light-parts text at n inner (omega (arith, w.few, same_count)) v (rw same_count at w.digits))
 
-  pub never-open : end_at text (at + 11 + 2 * n) ≡ 3 → ⊥
-  never-open e = let l : end_at text (at + 11 + 2 * n) < 3 = rw same_count at w.ended in omega arith
+  pub never-open : width_at text (at + 11 + 2 * n) ≡ 3 → ⊥
+  never-open e = let l : width_at text (at + 11 + 2 * n) < 3 = rw same_count at w.ended in omega arith
 
--- two characters that are known, compared at once
-two-told : (a b c d : ℕ) → a < 256 → c < 256 → a + 256 * b ≡ c + 256 * d → (a ≡ c) × (b ≡ d)
-two-told a b c d h l e = (omega arith, omega arith)
-
-pub sixteen : (text : List ℕ) (p : ℕ) → get_or text p 0 < 256 → get_or text p 0 + 256 * get_or text (p + 1) 0 ≡ 12337 → pair_at text p ≡ 16
+-- the characters `10`, and `00`
+pub sixteen : (text : List ℕ) (p q : ℕ) → q ≡ p + 1 → get_or text p 0 ≡ 49 → get_or text q 0 ≡ 48 → pair_at text p ≡ 16
 unfolding digit_weight is_digit digit_value
-sixteen text p h e = let t = two-told (get_or text p 0) (get_or text (p + 1) 0) 49 48 h (omega arith) e in rw (t.0, t.1)
+sixteen text p q e h l = rw (h, rw e at l)
 
-nought : (text : List ℕ) (p : ℕ) → get_or text p 0 < 256 → get_or text p 0 + 256 * get_or text (p + 1) 0 ≡ 12336 → pair_at text p ≡ 0
+nought : (text : List ℕ) (p q : ℕ) → q ≡ p + 1 → get_or text p 0 ≡ 48 → get_or text q 0 ≡ 48 → pair_at text p ≡ 0
 unfolding digit_weight is_digit digit_value
-nought text p h e = let t = two-told (get_or text p 0) (get_or text (p + 1) 0) 48 48 h (omega arith) e in rw (t.0, t.1)
+nought text p q e h l = rw (h, rw e at l)
 
-pub full-told : (text : List ℕ) (at : ℕ) → full_at text at ≡ true → get_or text (at + 1) 0 < 256 → get_or text (at + 7) 0 < 256
-    → (43 ≤ length text - at) × (pair_at text (at + 1) ≡ 16) × (pair_at text (at + 7) ≡ 0)
-full-told text at f h l = one (ltb (length text - at) 43) refl f
-  where
-    first : ℕ
-    first = get_or text (at + 1) 0 + 256 * get_or text (at + 1 + 1) 0
-
-    last : ℕ
-    last = get_or text (at + 7) 0 + 256 * get_or text (at + 7 + 1) 0
-
-    two : (b : Bool) → 43 ≤ length text - at → eqb first 12337 ≡ b → cond b (eqb last 12336) false ≡ true → (43 ≤ length text - at) × (pair_at text (at + 1) ≡ 16) × (pair_at text (at + 7) ≡ 0)
-    two true n e g = (n, sixteen text (at + 1) h (eqb-true first 12337 e), nought text (at + 7) l (eqb-true last 12336 g))
-    two false n e g = absurd (true≢false (sym g))
-
-    one : (b : Bool) → ltb (length text - at) 43 ≡ b → cond b false (cond (eqb first 12337) (eqb last 12336) false) ≡ true → (43 ≤ length text - at) × (pair_at text (at + 1) ≡ 16) × (pair_at text (at + 7) ≡ 0)
-    one true e g = absurd (true≢false (sym g))
-    one false e g = two (eqb first 12337) (ltb-false (length text - at) 43 e) refl g
+pub full-told : (text : List ℕ) (at : ℕ) → FullAt text at → (pair_at text (at + 1) ≡ 16) × (pair_at text (at + 7) ≡ 0)
+full-told text at f =
+    (sixteen text (at + 1) (at + 2) (omega arith) f.count.0 f.count.1, nought text (at + 7) (at + 8) (omega arith) f.type.0 f.type.1)

@@ -1,5 +1,6 @@
 -- Laws of bytes stored one after another. Assumes nothing.
-use Rattle.std.proofs.Common.{◌≡◌, ℕ, suc, ◌+◌, ◌<◌, ◌≤◌, List, [], ◌∷◌, ◌++◌, length, get_or, take, drop, set, sym, refl, ap, ◌∙◌, add-zero, zero-add, add-one, arith, length-take-le, take-suc}
+use Rattle.std.proofs.Common.{◌≡◌, ℕ, suc, ◌+◌, ◌<◌, ◌≤◌, List, [], ◌∷◌, ◌++◌, length, get_or, take, drop, set, sym, refl, ap, ◌∙◌, add-zero, zero-add, add-one, arith, length-take-le, take-suc, append_assoc, drop-drop}
+use borrow.Rule.Slice.PartMut.{put_mid}
 use lib.Seq.{sets, sets-eq, length-sets}
 use Rattle.intel_hex.specs.Found.{PutsText}
 
@@ -43,3 +44,9 @@ pub one-more-stored : (xs : List ℕ) (i : ℕ) → i < length xs → {b : List 
 one-more-stored xs i h {b} {at} {m} p =
     let size : length (take i xs) ≡ i = length-take-le i xs (omega arith) in
     rw (add-one i, take-suc xs i 0 h) (puts_then p (at + i) (rw size) (puts_one (get_or xs i 0) m (at + i)))
+
+-- a part of a list that is written at once
+pub sets-mid : (b xs ys : List ℕ) (at n : ℕ) → ys ≡ xs → n ≡ length xs → at + length xs ≤ length b → put_mid at n b ys ≡ sets b at xs
+sets-mid b xs ys at n same e h =
+    let d : drop n (drop at b) ≡ drop (at + length xs) b = drop-drop n at b ∙ rw e in
+    rw (same, d) (sym (sets-eq xs b at h ∙ append_assoc (take at b) xs (drop (at + length xs) b)))

@@ -1,9 +1,10 @@
 -- Laws of the text that is written: pairs of digits, lines and their lengths. Assumes nothing.
-use Rattle.std.proofs.Common.{◌≡◌, ℕ, zero, suc, ◌+◌, ◌-◌, ◌*◌, ◌/◌, ◌%◌, ◌<◌, ◌≤◌, Bool, true, false, cond, eqb, List, [], ◌∷◌, ◌++◌, length, get_or, take, drop, set, sym, refl, ap, ◌∙◌, append_assoc, append-nil, add-zero, zero-add, add-one, arith, length-append, length-drop, length-take-le, take-suc, drop-drop, eq-eqb, ne_eqb}
+use Rattle.std.proofs.Common.{◌≡◌, ℕ, zero, suc, ◌+◌, ◌-◌, ◌*◌, ◌/◌, ◌%◌, ◌<◌, ◌≤◌, Bool, true, false, cond, eqb, List, [], ◌∷◌, ◌++◌, length, get_or, take, drop, set, sym, refl, ap, ◌∙◌, append_assoc, append-nil, add-zero, zero-add, add-one, arith, length-append, length-drop, length-take-le, take_all, take-suc, drop-drop, eq-eqb, ne_eqb}
 use Rattle.hex_format.specs.Digits.{capital}
 use Rattle.hex_format.specs.Text.{pairs_of, total, checksum_of, fields_of, line_of, record_line, data_lines}
 use Rattle.intel_hex.specs.Answers.{text_length}
-use Rattle.intel_hex.specs.Found.{Pairs, PutsText, head_of, check_of}
+use Rattle.intel_hex.specs.declared.writing.TheConstants.{PAIRS}
+use Rattle.intel_hex.specs.Found.{PutsText, head_of, check_of}
 use Rattle.intel_hex.proofs.Storing.{puts_then, puts_one, puts-same}
 
 pub pairs-append : (xs ys : List ℕ) → pairs_of (xs ++ ys) ≡ pairs_of xs ++ pairs_of ys
@@ -54,19 +55,23 @@ unfolding count_up
 counted-length zero from = refl
 counted-length (suc n) from = ap suc (counted-length n (suc from))
 
--- the table of all bytes
-pub pairs-right : Pairs (pairs_of (count_up 256 0))
-pairs-right =
-    record {
-      size = pairs-length (count_up 256 0) ∙ rw (counted-length 256 0);
-      high = λ byte h. pair-high (count_up 256 0) byte (rw (counted-length 256 0) h) ∙ rw (counted 256 0 byte h, zero-add byte);
-      low = λ byte h. pair-low (count_up 256 0) byte (rw (counted-length 256 0) h) ∙ rw (counted 256 0 byte h, zero-add byte);
-    }
+-- the table has the characters of all bytes
+all-pairs : PAIRS ≡ pairs_of (count_up 256 0)
+unfolding pairs_of capital count_up
+all-pairs = refl
+
+stored-from : (table b : List ℕ) (at byte : ℕ) → table ≡ pairs_of (count_up 256 0) → byte < 256 → PutsText (pairs_of (byte ∷ [])) b at (set (set b at (get_or table (2 * byte) 0)) (at + 1) (get_or table (2 * byte + 1) 0))
+unfolding pairs_of
+stored-from table b at byte e h =
+    let size : byte < length (count_up 256 0) = rw (counted-length 256 0) h in
+    let is : get_or (count_up 256 0) byte 0 ≡ byte = counted 256 0 byte h ∙ zero-add byte in
+    let high : get_or table (2 * byte) 0 ≡ capital (byte / 16) = rw e (pair-high (count_up 256 0) byte size) ∙ ap (λ (n : ℕ). capital (n / 16)) is in
+    let low : get_or table (2 * byte + 1) 0 ≡ capital (byte % 16) = rw e (pair-low (count_up 256 0) byte size) ∙ ap (λ (n : ℕ). capital (n % 16)) is in
+    record { stored = rw (high, low, add-one at) }
 
 -- the two stores of a byte
-pub stored-pair : (table b : List ℕ) (at byte : ℕ) → Pairs table → byte < 256 → PutsText (pairs_of (byte ∷ [])) b at (set (set b at (get_or table (2 * byte) 0)) (at + 1) (get_or table (2 * byte + 1) 0))
-unfolding pairs_of
-stored-pair table b at byte p h = record { stored = rw (p.high byte h, p.low byte h, add-one at) }
+pub stored-pair : (b : List ℕ) (at byte k : ℕ) → k ≡ byte → byte < 256 → PutsText (pairs_of (byte ∷ [])) b at (set (set b at (get_or PAIRS (2 * k) 0)) (at + 1) (get_or PAIRS (2 * k + 1) 0))
+stored-pair b at byte k e h = rw e (stored-from PAIRS b at byte all-pairs h)
 
 -- a line's head by its parts
 pub head-written : {b n o q e : List ℕ} {at : ℕ} (count address high low : ℕ) → high ≡ address / 256 % 256 → low ≡ address % 256
@@ -76,9 +81,6 @@ unfolding pairs_of
 head-written {b} {n} {o} {q} {e} {at} count address high low h l p2 p3 p4 p5 =
     let four : PutsText (58 ∷ pairs_of (count ∷ high ∷ low ∷ 0 ∷ [])) b at e = puts_then (puts_then (puts_then (puts_then (puts_one 58 b at) (at + 1) refl p2) (at + 3) refl p3) (at + 5) refl p4) (at + 7) refl p5 in
     rw (h, l) at four
-
-pub high_byte : (address : ℕ) → address < 65536 → address / 256 ≡ address / 256 % 256
-high_byte address h = omega arith
 
 -- sums modulo 256
 mod-left : (a b : ℕ) → (a % 256 + b) % 256 ≡ (a + b) % 256
@@ -126,14 +128,6 @@ line-written {b} {m} {n} {o} {at} bytes address inner e p q r =
         → (head_of (length bytes) address ++ pairs_of bytes) ++ (pairs_of (check ∷ []) ++ (10 ∷ [])) ≡ 58 ∷ (pairs_of (fields_of 0 address bytes ++ (check ∷ [])) ++ (10 ∷ []))
     parts bytes address check = rw (pairs-append bytes (check ∷ [])) (sym (append_assoc (head_of (length bytes) address ++ pairs_of bytes) (pairs_of (check ∷ [])) (10 ∷ [])))
 
-pub full-line-written : {b m n o : List ℕ} {at : ℕ} (bytes : List ℕ) (address inner : ℕ) → length bytes ≡ 16 → inner ≡ total bytes % 256 → PutsText (head_of 16 address) b at m
-    → PutsText (pairs_of bytes) m (at + 9) n → PutsText (check_of 16 address inner) n (at + 41) o → PutsText (record_line 0 address bytes) b at o
-full-line-written {b} {m} {n} {o} {at} bytes address inner size e p q r =
-    let place : at + 9 + 2 * 16 ≡ at + 41 = omega arith in
-    let head : PutsText (head_of (length bytes) address) b at m = rw size p in
-    let check : PutsText (check_of (length bytes) address inner) n (at + 9 + 2 * length bytes) o = rw (size, place) r in
-    line-written bytes address inner e head q check
-
 pub line-length : (type address : ℕ) (bytes : List ℕ) → length (line_of type address bytes) ≡ 11 + 2 * length bytes
 line-length type address bytes =
     omega (arith, pairs-length (fields_of type address bytes ++ (checksum_of (fields_of type address bytes) ∷ [])), length-append (fields_of type address bytes) (checksum_of (fields_of type address bytes) ∷ []))
@@ -179,6 +173,12 @@ one-more-pair b text e at bytes i h p q =
 pub one-more-summed : (bytes : List ℕ) (i sum : ℕ) → i < length bytes → sum ≡ total (take i bytes) % 256 → (sum + get_or bytes i 0) % 256 ≡ total (take (i + 1) bytes) % 256
 unfolding total
 one-more-summed bytes i sum h e = rw (add-one i, take-suc bytes i 0 h) (omega (arith, total-append (take i bytes) (get_or bytes i 0 ∷ [])))
+
+pub all-summed : (bytes : List ℕ) (i sum : ℕ) → length bytes ≤ i → sum ≡ total (take i bytes) % 256 → sum ≡ total bytes % 256
+all-summed bytes i sum h e = e ∙ rw (take_all i bytes h)
+
+pub all-put : (bytes : List ℕ) (i : ℕ) → length bytes ≤ i → {b : List ℕ} {at : ℕ} {e : List ℕ} → PutsText (pairs_of (take i bytes)) b at e → PutsText (pairs_of bytes) b at e
+all-put bytes i h p = puts-same p (ap pairs_of (take_all i bytes h))
 
 -- the length of a text, without and with a last record of fewer bytes
 pub even-length : (n k : ℕ) → n ≡ 16 * k → text_length n ≡ 44 * k + 12

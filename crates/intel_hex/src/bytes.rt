@@ -3,58 +3,57 @@ ghost use Rattle.std.specs.Prelude.{◌≡◌, ◌+◌, ◌*◌, ◌≤◌, fals
 ghost use Rattle.std.proofs.lemmas.List.Edits.{sets};
 ghost use Rattle.hex_format.specs.Lines.{text_lines};
 ghost use Rattle.hex_format.specs.Reading.{malformed, said_by};
-ghost use Rattle.intel_hex.specs.Found.{Weights, Digits, pair_at, pairs_at};
+ghost use Rattle.intel_hex.specs.Found.{Digits, pair_at, pairs_at};
 
-use crate::digits::{byte, two};
+use crate::digits::byte;
 use crate::full::put_full;
 use crate::line::line_end;
 
 // So many bytes, read at one position and stored at another.
-fn put_pairs(table: &[u32; 256], text: &[u8], from: usize, bytes: &mut [u8], at: usize, n: usize)
-    requires { Weights table.now × Digits text.now from (2 * n) × (from + 2 * n ≤ length text.now) × (at + n ≤ length bytes.old) }
+fn put_pairs(text: &[u8], from: usize, bytes: &mut [u8], at: usize, n: usize)
+    requires { Digits text.now from (2 * n) × (from + 2 * n ≤ length text.now) × (at + n ≤ length bytes.old) }
     ensures { bytes.new ≡ sets bytes.old at (pairs_at text.now from n) }
 {
-    let mut i: usize = 0;
-    while i < n {
-        bytes[at + i] = byte(table, text, from + 2 * i) as u8;
-        i = i + 1;
+    for i in 0..n {
+        bytes[at + i] = byte(text, from + 2 * i) as u8;
     }
 }
 
 // A record's data.
-fn put_data(table: &[u32; 256], text: &[u8], from: usize, bytes: &mut [u8], at: usize, n: usize)
-    requires { Weights table.now × Digits text.now from (2 * n) × (from + 2 * n ≤ length text.now) × (at + n ≤ length bytes.old) }
+fn put_data(text: &[u8], from: usize, bytes: &mut [u8], at: usize, n: usize)
+    requires { Digits text.now from (2 * n) × (from + 2 * n ≤ length text.now) × (at + n ≤ length bytes.old) }
     ensures { bytes.new ≡ sets bytes.old at (pairs_at text.now from n) }
 {
     if n == 16 {
         put_full(text, from, bytes, at);
     } else {
-        put_pairs(table, text, from, bytes, at, n);
+        put_pairs(text, from, bytes, at, n);
     }
 }
 
 // The count of a record; 16 is told by its characters.
-fn count_at(table: &[u32; 256], text: &[u8], from: usize) -> usize
-    requires { Weights table.now × (from + 3 ≤ length text.now) }
+fn count_at(text: &[u8], from: usize) -> usize
+    requires { from + 3 ≤ length text.now }
     ensures { (result ≡ pair_at text.now (from + 1)) × (result ≤ 139264) }
 {
-    if two(text, from + 1) == 12337 {
-        return 16;
+    if text[from + 1] == b'1' && text[from + 2] == b'0' {
+        16
+    } else {
+        byte(text, from + 1) as usize
     }
-    byte(table, text, from + 1) as usize
 }
 
-pub fn put_bytes(table: &[u32; 256], text: &[u8], bytes: &mut [u8], count: usize)
-    requires { Weights table.now × (malformed (text_lines text.now) ≡ false) × (count ≡ length (said_by (text_lines text.now))) × (count ≤ length bytes.old) }
+pub fn put_bytes(text: &[u8], bytes: &mut [u8], count: usize)
+    requires { (malformed (text_lines text.now) ≡ false) × (count ≡ length (said_by (text_lines text.now))) × (count ≤ length bytes.old) }
     ensures { bytes.new ≡ said_by (text_lines text.now) ++ drop count bytes.old }
 {
     let mut from: usize = 0;
     let mut at: usize = 0;
     while at < count {
-        let n = count_at(table, text, from);
-        put_data(table, text, from + 9, bytes, at, n);
-        at = at + n;
+        let n = count_at(text, from);
+        put_data(text, from + 9, bytes, at, n);
+        at += n;
         let end = from + 11 + 2 * n;
-        from = end + line_end(text, end);
+        from = end + line_end(text, end).unwrap();
     }
 }

@@ -7,6 +7,6 @@ pub returns-then-d-gt9 : goal.returns-then-d-gt9
 unfolding capital
 returns-then-d-gt9 c = simp (le-ltb c.args.d 10 (omega arith))
 
-pub returns : goal.returns
+pub returns-else-d-gt9 : goal.returns-else-d-gt9
 unfolding capital
-returns c = simp (lt-ltb c.args.d 10 (omega arith))
+returns-else-d-gt9 c = simp (lt-ltb c.args.d 10 (omega arith))

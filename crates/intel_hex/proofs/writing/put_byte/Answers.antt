@@ -4,4 +4,4 @@ use Rattle.intel_hex.proofs.TextLaws.{stored-pair}
 use Rattle.intel_hex.proofs.writing.put_byte.Goals as goal
 
 pub returns : goal.returns
-returns c = stored-pair _ _ _ _ c.requires.0 (omega arith)
+returns c = stored-pair _ _ _ _ c.from-k.ensures (omega arith)

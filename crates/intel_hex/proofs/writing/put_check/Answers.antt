@@ -1,7 +1,9 @@
 -- `intel_hex::writing::put_check` meets its contract. Assumes nothing.
-use Rattle.std.proofs.Common.{refl, rules}
-use Rattle.intel_hex.proofs.TextLaws.{high_byte, check-written}
+use Rattle.std.proofs.Common.{ℕ, List, get_or, refl, ap, arith}
+use Rattle.intel_hex.proofs.TextLaws.{check-written}
 use Rattle.intel_hex.proofs.writing.put_check.Goals as goal
 
 pub returns : goal.returns
-returns c = check-written _ _ _ _ _ _ _ _ _ (high_byte _ (search rules)) refl c.wrapping_add_u8-place.ensures.value c.wrapping_add_u8.ensures.value c.wrapping_add_u8-sum.ensures.value (search rules) c.wrapping_sub_u8.ensures.value c.put_byte.ensures
+returns c =
+    let e = c.to_be_bytes.ensures in
+    check-written _ _ _ _ _ _ _ _ _ (ap (λ (l : List ℕ). get_or l 0 0) e) (ap (λ (l : List ℕ). get_or l 1 0) e) refl refl refl (omega arith) (omega arith) c.put_byte.ensures
