@@ -6,11 +6,12 @@ use Prim.Native.Nat.{ℕ, ◌+◌, ◌*◌, ◌/◌, ◌%◌, ◌<◌}
 use native.Mathlib.Omega.{arith}
 use lib.Dec.{eqb}
 use lib.ListN.{get_or}
+use Rattle.std.specs.Int.{w16, from_bool, to_le_bytes}
 use Rattle.thread.specs.declared.Thread.{Thread}
 use Rattle.thread.specs.declared.Status.{Status}
 use Rattle.thread.specs.declared.Status.TheVariants.{Free, Running, Ready, Suspended, Waiting, Lent}
 use Rattle.thread.specs.Thread.{status_number, blank_thread, moved_to}
-use Rattle.cells.specs.Record.{status_of, bit_of, record_at, cells_of}
+use Rattle.cells.specs.Record.{status_of, record_at, cells_of}
 
 -- a record by its 24 cells
 pub record_same : (xs ys : List ℕ) (a b : ℕ) → ((k : ℕ) → k < 24 → get_or ys (b + k) 0 ≡ get_or xs (a + k) 0) → record_at ys b ≡ record_at xs a
@@ -27,7 +28,7 @@ status-back Suspended = refl
 status-back Waiting = refl
 status-back Lent = refl
 
-bit-back : (b : Bool) → not (eqb (bit_of b) 0) ≡ b
+bit-back : (b : Bool) → not (eqb (from_bool b) 0) ≡ b
 bit-back true = refl
 bit-back false = refl
 
@@ -52,3 +53,10 @@ pub blank : (xs : List ℕ) → ((k : ℕ) → get_or xs k 0 ≡ 0) → (a : ℕ
 unfolding record_at status_of
 blank xs z a =
     rw (z (a + 0), z (a + 1), z (a + 2), z (a + 3), z (a + 4), z (a + 5), z (a + 6), z (a + 7), z (a + 8), z (a + 9), z (a + 10), z (a + 11), z (a + 12), z (a + 13), z (a + 14), z (a + 15), z (a + 16), z (a + 17), z (a + 18), z (a + 19), z (a + 20), z (a + 21), z (a + 22), z (a + 23))
+
+-- the two bytes of a number
+pub low : (n : ℕ) (bs : List ℕ) → bs ≡ to_le_bytes w16 n → get_or bs 0 0 ≡ n % 256
+low n bs e = rw e (omega arith)
+
+pub high : (n : ℕ) (bs : List ℕ) → n < 65536 → bs ≡ to_le_bytes w16 n → get_or bs 1 0 ≡ n / 256
+high n bs l e = rw e (omega arith)

@@ -1,6 +1,7 @@
 -- A thread's record as 24 bytes: position (2), status, connected, routine, parent, result, children, base (2), lo (2), mark (2), ceiling (2), hi (2),
 -- from (2), to (2), pending (2).
-use Rattle.std.specs.Prelude.{Bool, cond, not, List, [], ◌∷◌, ◌++◌, ℕ, ◌+◌, ◌*◌, ◌/◌, ◌%◌, eqb, get_or}
+use Rattle.std.specs.Prelude.{cond, not, List, [], ◌∷◌, ◌++◌, ℕ, ◌+◌, ◌*◌, ◌/◌, ◌%◌, eqb, get_or}
+use Rattle.std.specs.Int.{from_bool}
 use Rattle.window.specs.declared.Window.{Window}
 use Rattle.thread.specs.declared.Thread.{Thread}
 use Rattle.thread.specs.declared.Status.{Status}
@@ -10,10 +11,6 @@ use Rattle.thread.specs.Thread.{status_number}
 -- a thread's status by its number
 unfoldable pub status_of : ℕ → Status
 status_of n = cond (eqb n 0) Free (cond (eqb n 1) Running (cond (eqb n 2) Ready (cond (eqb n 3) Suspended (cond (eqb n 4) Waiting Lent))))
-
--- a test's answer as a number
-abbrev pub bit_of : Bool → ℕ
-bit_of b = cond b 1 0
 
 -- the window at a place
 abbrev pub window_at : List ℕ → ℕ → Window
@@ -50,6 +47,6 @@ window_cells w =
 -- the cells of a record
 abbrev pub cells_of : Thread → List ℕ
 cells_of h =
-    (h.position % 256) ∷ (h.position / 256) ∷ status_number h.status ∷ bit_of h.connected ∷ h.origin.routine ∷ h.origin.parent
+    (h.position % 256) ∷ (h.position / 256) ∷ status_number h.status ∷ from_bool h.connected ∷ h.origin.routine ∷ h.origin.parent
     ∷ h.origin.result ∷ h.family.children
     ∷ (h.origin.base % 256) ∷ (h.origin.base / 256) ∷ window_cells h.family.window ++ ((h.family.pending % 256) ∷ (h.family.pending / 256) ∷ [])

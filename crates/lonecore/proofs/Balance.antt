@@ -34,7 +34,7 @@ module _ (j : Job) (s : State) (ok : Sound j s) where
 
   pub steal-even : (c t : ℕ) → (steal_of j s c t).log ≡ 0 → Even s (steal_of j s c t).state
   steal-even c t = steal-by (λ a. a.log ≡ 0 → Even s a.state) j s (λ n l m z. absurd (omega arith)) c t
-      (λ k n q z. absurd (no-fault n (fault-tested j s t n q) (inl (omega arith)))) (λ k r d a w q n ns x xs f z. stolen-even c t k r d a w n ns x xs f)
+      (λ k n q z. absurd (no-fault _ (fault-tested j s t n q) (inl (omega arith)))) (λ k r d a w q n ns x xs f z. stolen-even c t k r d a w n ns x xs f)
 
 module _ (j : Job) (s : State) (ok : Sound j s) (only : LforksOnly j.image) (few : Few s) where
   steps : StepCases (Shown s) j s

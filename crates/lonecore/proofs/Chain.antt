@@ -171,7 +171,7 @@ module _ (j : Job) (s : State) (ok : Sound j s) (only : LforksOnly j.image) (one
   steps : StepCases (Onward s) j s
   steps = record {
     refuses = λ n l m. (λ _. alone, λ z. absurd (omega arith));
-    fault = λ c t k n q. (λ z. let y : ◌≡◌ {A = ℕ} 0 1 = cc in absurd (omega arith), λ z. absurd (no-fault n (fault-tested j s t n q) (inl (omega arith))));
+    fault = λ c t k n q. (λ z. let y : ◌≡◌ {A = ℕ} 0 1 = cc in absurd (omega arith), λ z. absurd (no-fault _ (fault-tested j s t n q) (inl (omega arith))));
     waiting = λ c t w. absurd (no-wait c t w);
     sets = λ c t k d v q. own-step c t _ _ k refl refl refl refl refl;
     loads = λ c t k d a q. own-step c t _ _ k refl refl refl refl refl;

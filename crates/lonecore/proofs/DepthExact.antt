@@ -12,6 +12,7 @@ use lib.Dec.{ltb}
 use lib.ListN.{set}
 use Rattle.window.specs.Rights.{child_of}
 use Rattle.thread.specs.declared.Effect.{Effect}
+use Rattle.thread.specs.Effect.{number_of_fault}
 use Rattle.thread.specs.declared.Effect.TheVariants.{Faults, Sets, Loads, Stores, Goes, Continues, Lforks, Forks, Joins, Suspends, Yields, Returns, Shares}
 use Rattle.thread.specs.Effect.{Asked, asked}
 use Rattle.thread.specs.Job.{Job, word_at}
@@ -105,7 +106,7 @@ module _ (j : Job) where
       → Exact k (carried_depth j (call f) (depth f) n l m u e) (carried j (call f) (n + k) l m u e) (carried j (call f) n l m u e)
       × (n ≤ carried_depth j (call f) (depth f) n l m u e)
   unfolding carried_depth carried AllExact
-  carried-exact f ih k n l m u h (Faults x) = (exact-stopped k n x m u, omega arith)
+  carried-exact f ih k n l m u h (Faults x) = (exact-stopped k n (number_of_fault x) m u, omega arith)
   carried-exact f ih k n l m u h (Sets d v) = ih k n (advanced j (assigned d v l)) m (u + weight_at j l) h
   carried-exact f ih k n l m u h (Loads d a) = ih k n (advanced j (assigned d (word_at j m a) l)) m (u + weight_at j l) h
   carried-exact f ih k n l m u h (Stores a v) = ih k n (advanced j l) (set m (a - 32) v) (u + weight_at j l) h

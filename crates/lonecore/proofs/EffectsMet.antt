@@ -11,6 +11,8 @@ use Rattle.command.specs.Command.{decoded, decoded_at}
 use Rattle.command.proofs.Bools.{neither}
 use Rattle.image.specs.Layout.{arguments_of}
 use Rattle.thread.specs.declared.Effect.{Effect}
+use Rattle.thread.specs.declared.Fault.{Fault}
+use Rattle.thread.specs.declared.Fault.TheVariants.{SlotPending, AddressNotAllowed, CutOutOfRange, ReturnPending, ShareOutOfRange}
 use Rattle.thread.specs.declared.Effect.TheVariants.{Faults, Sets, Loads, Stores, Goes, Continues, Lforks, Forks, Joins, Suspends, Yields, Returns, Shares}
 use Rattle.thread.specs.Effect.{Context, any_pending, unless_pending, provided, forking, effect_of}
 use Rattle.rules.specs.State.{Job, State, thread_at}
@@ -75,31 +77,31 @@ decoded-calls byte x y z w h =
     (either is_calling (eqb byte 10) _ _ refl
     (either is_calling (eqb byte 13) _ _ refl refl))))))))))
 
-unless : (n : ℕ) (p : ℕ → Bool) (ks : List ℕ) (e : Effect) → calls e ≡ true → calls (unless_pending n p ks e) ≡ true
+unless : (n : Fault) (p : ℕ → Bool) (ks : List ℕ) (e : Effect) → calls e ≡ true → calls (unless_pending n p ks e) ≡ true
 unfolding unless_pending
 unless n p ks e h = either calls (any_pending p ks) (Faults n) e refl h
 
-given : (b : Bool) (n : ℕ) (e : Effect) → calls e ≡ true → calls (provided b n e) ≡ true
+given : (b : Bool) (n : Fault) (e : Effect) → calls e ≡ true → calls (provided b n e) ≡ true
 unfolding provided
 given true n e h = h
 given false n e h = refl
 
 effect-calls : (arguments : ℕ → ℕ) (x : Context) (c : Command) → is_calling c ≡ true → calls (effect_of arguments x c) ≡ true
 unfolding effect_of forking
-effect-calls arguments x (Set d v) h = unless 9 x.pending _ _ refl
-effect-calls arguments x (Add d a b) h = unless 9 x.pending _ _ refl
-effect-calls arguments x (Subtract d a b) h = unless 9 x.pending _ _ refl
-effect-calls arguments x (Load d a) h = unless 9 x.pending _ _ (given _ _ _ refl)
-effect-calls arguments x (Store a b) h = unless 9 x.pending _ _ (given _ _ _ refl)
-effect-calls arguments x (JumpIfZero a t) h = unless 9 x.pending _ _ (either calls (eqb (x.slot a) 0) (Goes t) Continues refl refl)
+effect-calls arguments x (Set d v) h = unless SlotPending x.pending _ _ refl
+effect-calls arguments x (Add d a b) h = unless SlotPending x.pending _ _ refl
+effect-calls arguments x (Subtract d a b) h = unless SlotPending x.pending _ _ refl
+effect-calls arguments x (Load d a) h = unless SlotPending x.pending _ _ (given _ _ _ refl)
+effect-calls arguments x (Store a b) h = unless SlotPending x.pending _ _ (given _ _ _ refl)
+effect-calls arguments x (JumpIfZero a t) h = unless SlotPending x.pending _ _ (either calls (eqb (x.slot a) 0) (Goes t) Continues refl refl)
 effect-calls arguments x (Jump t) h = refl
-effect-calls arguments x (Lfork r d a w) h = unless 9 x.pending _ _ (given _ _ _ refl)
+effect-calls arguments x (Lfork r d a w) h = unless SlotPending x.pending _ _ (given _ _ _ refl)
 effect-calls arguments x (Fork r d a w) h = let z : ◌≡◌ {A = ℕ} 0 1 = cc in absurd (omega arith)
 effect-calls arguments x Join h = refl
 effect-calls arguments x Suspend h = let z : ◌≡◌ {A = ℕ} 0 1 = cc in absurd (omega arith)
 effect-calls arguments x Yield h = let z : ◌≡◌ {A = ℕ} 0 1 = cc in absurd (omega arith)
-effect-calls arguments x (Return a) h = unless 12 x.pending _ _ refl
-effect-calls arguments x (Share a) h = unless 9 x.pending _ _ (given _ _ _ refl)
+effect-calls arguments x (Return a) h = unless ReturnPending x.pending _ _ refl
+effect-calls arguments x (Share a) h = unless SlotPending x.pending _ _ (given _ _ _ refl)
 
 -- what thread t meets
 pub met-calls : (j : Job) (s : State) → GoodJob j → Positioned j s → LforksOnly j.image → (t : ℕ) → Used s t → (e : Effect)

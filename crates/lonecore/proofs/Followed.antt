@@ -19,6 +19,8 @@ use Rattle.forkjoin.proofs.Follow.{Follows, Ends, no-halt, shallow, deep-most, f
 use Rattle.schedule.specs.declared.Entry.{Entry}
 use Rattle.window.specs.declared.Window.{Window}
 use Rattle.window.proofs.Instance.{windows}
+use Rattle.thread.specs.declared.Fault.{Fault}
+use Rattle.thread.specs.Effect.{number_of_fault}
 use Rattle.thread.specs.declared.Effect.TheVariants.{Faults, Lforks}
 use Rattle.thread.specs.Thread.{none}
 use Rattle.thread.proofs.ThreadState.{ThreadState, started, behind-fork, by-return, split, act_of, effect}
@@ -101,12 +103,12 @@ module _ (j : Job) (good : GoodJob j) (arguments memory : List ℕ) (k : ℕ) (l
                 (lt-leb none (parent_at s u) (used_low s ok.sized.threads (parent_at s u) parent_in))
 
     module _ (E : Ending) where
-      pub no-fault : (t : ℕ) → Used s t → (x : ℕ) → effect_at j s (thread_at s t) ≡ Faults x → ⊥
+      pub no-fault : (t : ℕ) → Used s t → (x : Fault) → effect_at j s (thread_at s t) ≡ Faults x → ⊥
       no-fault t h x q =
-          no-halt deep_job (words-from 32 memory) E n (pool_of j s) f t x (here j good s ok 0 t h) (link_of (thread_at s t)) (cell-of t h)
-          (does-other k (theory_job j good arguments memory) low (here j good s ok 0 t h) (halt-no-fork _ x halts) ∙ halts)
+          no-halt deep_job (words-from 32 memory) E n (pool_of j s) f t (number_of_fault x) (here j good s ok 0 t h) (link_of (thread_at s t)) (cell-of t h)
+          (does-other k (theory_job j good arguments memory) low (here j good s ok 0 t h) (halt-no-fork _ (number_of_fault x) halts) ∙ halts)
         where
-          halts : does windows window-tests (code_of j good) 0 (here j good s ok 0 t h) ≡ halt x
+          halts : does windows window-tests (code_of j good) 0 (here j good s ok 0 t h) ≡ halt (number_of_fault x)
           halts = does-fault windows window-tests (code_of j good) (here j good s ok 0 t h) x (effect-met j good s ok 0 t h (Faults x) q)
 
       -- a thread that forks is not at the limit: there it would halt

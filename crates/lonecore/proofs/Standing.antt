@@ -73,8 +73,8 @@ module _ (j : Job) (good : GoodJob j) (arguments memory : List ℕ) (k : ℕ) (l
           by x (step_no_core e o l) = absurd (omega (arith, l, core))
           by x (step_idle e o l i) = absurd (omega (arith, i, busy))
           by x (step_dear e d) = absurd (cheap c (on_core s c) (let z = h.sound.seats.runs c core busy in omega arith) d.dear)
-          by x (step_faults g q) =
-              absurd (no-fault j good arguments memory k low s h.sound n h.followed E (on_core s c) (runner j s h.sound c (on_core s c) g) x q)
+          by x (step_faults g y q e) =
+              absurd (no-fault j good arguments memory k low s h.sound n h.followed E (on_core s c) (runner j s h.sound c (on_core s c) g) y q)
           by x (step_few_threads e g kind r f z) = absurd ((room c g kind r f).0 z)
           by x (step_few_stacklets e g kind r f y b z) = absurd ((room c g kind r f).1 z)
           by x (step_accepted e) = e
@@ -94,7 +94,7 @@ module _ (j : Job) (good : GoodJob j) (arguments memory : List ℕ) (k : ℕ) (l
           by x (steal_busy e o l b) = absurd (omega (arith, b, idle))
           by x (steal_no_seed e o l i m) = inr e
           by x (steal_dear e d) = absurd (cheap c t (let z = d.seed.1 in omega arith) d.dear)
-          by x (steal_faults g q) = absurd (no-fault j good arguments memory k low s h.sound n h.followed E t (lent-used j s h.sound c t g) x q)
+          by x (steal_faults g y q e) = absurd (no-fault j good arguments memory k low s h.sound n h.followed E t (lent-used j s h.sound c t g) y q)
           by x (steal_few_threads e g r f z) = absurd ((room_for g r f).0 z)
           by x (steal_few_stacklets e g r f y z) = absurd ((room_for g r f).1 z)
           by x (steal_accepted e) = inl e

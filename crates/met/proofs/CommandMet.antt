@@ -24,15 +24,14 @@ use Rattle.image.proofs.Accepted.{Accepts, accepted}
 use Rattle.image.proofs.Laws.{Placed, placed, slots-most}
 use Rattle.window.specs.declared.Window.{Window}
 use Rattle.window.specs.declared.Cut.{Cut}
-use Rattle.window.specs.declared.Cut.TheVariants.{Parts, BadCut}
-use Rattle.window.specs.declared.Share.{Share as Sharing}
-use Rattle.window.specs.declared.Share.TheVariants.{Shared, BadShare}
+use Rattle.std.specs.Prelude.{Option, Some, None, is_some}
 use Rattle.window.specs.Rights.{cut_at, share_at}
 use Rattle.window.proofs.Laws.{cut-means, share-means}
 use Rattle.thread.specs.declared.Effect.{Effect}
+use Rattle.thread.specs.declared.Fault.{Fault}
 use Rattle.thread.specs.declared.Effect.TheVariants.{Faults, Sets, Loads, Stores, Goes, Continues, Lforks, Forks, Joins, Suspends, Yields, Returns, Shares}
 use Rattle.thread.specs.Effect.{Context, any_pending, unless_pending, provided, forking, effect_of}
-use Rattle.thread.specs.View.{context_of, may_cut, is_cut, may_share, is_shared}
+use Rattle.thread.specs.View.{context_of, may_cut, may_share}
 use Rattle.thread.specs.Job.{Job, GoodJob, offset_at, byte_at}
 use Rattle.thread.proofs.Routines.{InRange}
 use Rattle.met.proofs.Operands.{in_frame, in-range}
@@ -43,17 +42,17 @@ use Rattle.thread.proofs.Widths.{Widened, decoded-wide}
 pub cut_inside : (w : Window) (e : ℕ) → may_cut w e ≡ true → (w.mark ≤ e) × (e ≤ w.ceiling)
 cut_inside w e h = go (cut_at w e) refl h
   where
-    go : (c : Cut) → cut_at w e ≡ c → is_cut c ≡ true → (w.mark ≤ e) × (e ≤ w.ceiling)
-    go (Parts child rest) f g = let m = cut-means w e child rest f in (m.low, m.high)
-    go BadCut f g = absurd (let z : ◌≡◌ {A = ℕ} 0 1 = cc in omega arith)
+    go : (c : Option Cut) → cut_at w e ≡ c → is_some c ≡ true → (w.mark ≤ e) × (e ≤ w.ceiling)
+    go (Some c) f g = let m = cut-means w e c f in (m.low, m.high)
+    go None f g = absurd (let z : ◌≡◌ {A = ℕ} 0 1 = cc in omega arith)
 
 -- and so does what may be shared
 pub share-inside : (w : Window) (x : ℕ) → may_share w x ≡ true → (w.mark ≤ x) × (x ≤ w.ceiling)
 share-inside w x h = go (share_at w x) refl h
   where
-    go : (c : Sharing) → share_at w x ≡ c → is_shared c ≡ true → (w.mark ≤ x) × (x ≤ w.ceiling)
-    go (Shared rest) f g = let m = share-means w x rest f in (m.low, m.high)
-    go BadShare f g = absurd (let z : ◌≡◌ {A = ℕ} 0 1 = cc in omega arith)
+    go : (c : Option Window) → share_at w x ≡ c → is_some c ≡ true → (w.mark ≤ x) × (x ≤ w.ceiling)
+    go (Some rest) f g = let m = share-means w x rest f in (m.low, m.high)
+    go None f g = absurd (let z : ◌≡◌ {A = ℕ} 0 1 = cc in omega arith)
 
 -- what a fork asks for
 pub record ForkMet (image : List ℕ) (slots : ℕ) (w : Window) (r d a e : ℕ) : Type 0 where
@@ -89,7 +88,7 @@ module _ (image : List ℕ) (slots : ℕ) (start : ℕ → Bool) (next : ℕ) (s
   pub record Met (e : Effect) : Type 0 where
     pub facts : Facts e
 
-  met-unless : (n : ℕ) (ks : List ℕ) (e : Effect) → (AllClear pending ks → Met e) → Met (unless_pending n pending ks e)
+  met-unless : (n : Fault) (ks : List ℕ) (e : Effect) → (AllClear pending ks → Met e) → Met (unless_pending n pending ks e)
   unfolding unless_pending
   met-unless n ks e f = go (any_pending pending ks) (λ h. f (all-clear pending ks h))
     where
@@ -97,7 +96,7 @@ module _ (image : List ℕ) (slots : ℕ) (start : ℕ → Bool) (next : ℕ) (s
       go true f = record { facts = tt }
       go false f = f refl
 
-  met-provided : (t : Bool) (n : ℕ) (e : Effect) → (t ≡ true → Met e) → Met (provided t n e)
+  met-provided : (t : Bool) (n : Fault) (e : Effect) → (t ≡ true → Met e) → Met (provided t n e)
   unfolding provided
   met-provided true n e f = f refl
   met-provided false n e f = record { facts = tt }

@@ -14,6 +14,7 @@ use Rattle.image.specs.Layout.{routine_count, arguments_of}
 use Rattle.image.specs.Image.{all_slots, fork_in_range, in_range}
 use Rattle.window.specs.declared.Window.{Window}
 use Rattle.window.specs.Rights.{may_load, may_store}
+use Rattle.thread.specs.declared.Fault.TheVariants.{SlotPending, AddressNotAllowed, CutOutOfRange, ReturnPending, ShareOutOfRange}
 use Rattle.thread.specs.declared.Effect.TheVariants.{Sets, Loads, Stores, Goes, Continues, Lforks, Forks, Returns, Shares}
 use Rattle.thread.specs.Effect.{run, unless_pending, provided, sum, difference, forking, effect_of}
 use Rattle.thread.specs.View.{context_of, may_cut, may_share}
@@ -105,20 +106,20 @@ module _ (s : List ℕ) (n : ℕ) (f g : ℕ → ℕ) (alike : (k : ℕ) → k <
   unfolding effect_of forking
   effect-alike (Set d v) h = refl
   effect-alike (Add d a b) h =
-      ap₂ (λ x y. unless_pending 9 pending (d ∷ a ∷ b ∷ []) (Sets d (sum x y))) (alike a h.1) (alike b h.2)
+      ap₂ (λ x y. unless_pending SlotPending pending (d ∷ a ∷ b ∷ []) (Sets d (sum x y))) (alike a h.1) (alike b h.2)
   effect-alike (Subtract d a b) h =
-      ap₂ (λ x y. unless_pending 9 pending (d ∷ a ∷ b ∷ []) (Sets d (difference x y))) (alike a h.1) (alike b h.2)
-  effect-alike (Load d a) h = ap (λ x. unless_pending 9 pending (d ∷ a ∷ []) (provided (may_load w x) 10 (Loads d x))) (alike a h.1)
+      ap₂ (λ x y. unless_pending SlotPending pending (d ∷ a ∷ b ∷ []) (Sets d (difference x y))) (alike a h.1) (alike b h.2)
+  effect-alike (Load d a) h = ap (λ x. unless_pending SlotPending pending (d ∷ a ∷ []) (provided (may_load w x) AddressNotAllowed (Loads d x))) (alike a h.1)
   effect-alike (Store a b) h =
-      ap₂ (λ x y. unless_pending 9 pending (a ∷ b ∷ []) (provided (may_store w x) 10 (Stores x y))) (alike a h.0) (alike b h.1)
-  effect-alike (JumpIfZero a t) h = ap (λ x. unless_pending 9 pending (a ∷ []) (cond (eqb x 0) (Goes t) Continues)) (alike a h)
+      ap₂ (λ x y. unless_pending SlotPending pending (a ∷ b ∷ []) (provided (may_store w x) AddressNotAllowed (Stores x y))) (alike a h.0) (alike b h.1)
+  effect-alike (JumpIfZero a t) h = ap (λ x. unless_pending SlotPending pending (a ∷ []) (cond (eqb x 0) (Goes t) Continues)) (alike a h)
   effect-alike (Jump t) h = refl
-  effect-alike (Lfork r d a e) h = ap (λ x. unless_pending 9 pending (d ∷ e ∷ run a (arguments_of s r)) (provided (may_cut w x) 11 (Lforks r d a x)))
+  effect-alike (Lfork r d a e) h = ap (λ x. unless_pending SlotPending pending (d ∷ e ∷ run a (arguments_of s r)) (provided (may_cut w x) CutOutOfRange (Lforks r d a x)))
       (alike e h.cut)
-  effect-alike (Fork r d a e) h = ap (λ x. unless_pending 9 pending (d ∷ e ∷ run a (arguments_of s r)) (provided (may_cut w x) 11 (Forks r d a x)))
+  effect-alike (Fork r d a e) h = ap (λ x. unless_pending SlotPending pending (d ∷ e ∷ run a (arguments_of s r)) (provided (may_cut w x) CutOutOfRange (Forks r d a x)))
       (alike e h.cut)
   effect-alike Join h = refl
   effect-alike Suspend h = refl
   effect-alike Yield h = refl
-  effect-alike (Return a) h = ap (λ x. unless_pending 12 pending (run 0 16) (Returns x)) (alike a h)
-  effect-alike (Share a) h = ap (λ x. unless_pending 9 pending (a ∷ []) (provided (may_share w x) 31 (Shares x))) (alike a h)
+  effect-alike (Return a) h = ap (λ x. unless_pending ReturnPending pending (run 0 16) (Returns x)) (alike a h)
+  effect-alike (Share a) h = ap (λ x. unless_pending SlotPending pending (a ∷ []) (provided (may_share w x) ShareOutOfRange (Shares x))) (alike a h)

@@ -1,6 +1,7 @@
 -- In reading order. What a reader must believe of the machine: what a state is, its threads' statuses and the one at Start; its small changes;
 -- what a command needs; the rules of leaving a core, of forks, of returns and of each entry; and a run, which is their fold.
 pub mod State
+pub mod Lent
 pub mod Statuses
 pub mod Start
 pub mod Update
@@ -33,3 +34,4 @@ pub mod RowsFree
 -- The same of the stacklets' words, after each entry.
 pub mod WordsRow
 pub mod RowsWords
+pub mod Denial

@@ -4,6 +4,7 @@ use Rattle.std.specs.Prelude.{Bool, cond, ◌&&◌, ◌||◌, not, List, [], ◌
 use Rattle.schedule.specs.declared.Entry.{Entry}
 use Rattle.schedule.specs.declared.Entry.TheVariants.{Step, Take, Steal, Enable}
 use Rattle.thread.specs.declared.Effect.{Effect}
+use Rattle.thread.specs.Effect.{number_of_fault}
 use Rattle.thread.specs.declared.Effect.TheVariants.{Faults, Sets, Loads, Stores, Goes, Continues, Lforks, Forks, Joins, Suspends, Yields, Returns, Shares}
 use Rattle.thread.specs.declared.Status.TheVariants.{Ready, Suspended, Waiting, Lent}
 use Rattle.thread.specs.Thread.{with_status, moved_to, joined_at, shared_at, ◌is◌}
@@ -19,7 +20,7 @@ use Rattle.rules.specs.Return.{return_of}
 -- A command carried out by a step, by its effect.
 -- "suspend, yield: the command is done, then the thread is suspended, or stands at the tail of the ready line"
 unfoldable pub carried_of : Job → State → Turn → Effect → After
-carried_of j s o (Faults n) = faults o n s
+carried_of j s o (Faults f) = faults o (number_of_fault f) s
 carried_of j s o (Sets d v) = accepted (goes_on o (set_slot o.thread d v s))
 carried_of j s o (Loads d a) = accepted (goes_on o (set_slot o.thread d (word_at j s.store.memory a) s))
 carried_of j s o (Stores a v) = accepted (goes_on o (set_memory a v s))
@@ -67,7 +68,7 @@ is_seed j s t = ltb t 32 && ((thread_at s t).status is Lent && (eqb (byte_of j (
 
 -- a seed carried out for core c; a command that is no fork is no seed
 unfoldable pub stolen_of : Job → State → Turn → Effect → After
-stolen_of j s o (Faults n) = faults o n s
+stolen_of j s o (Faults f) = faults o (number_of_fault f) s
 stolen_of j s o (Sets d v) = refused 18 s
 stolen_of j s o (Loads d a) = refused 18 s
 stolen_of j s o (Stores a v) = refused 18 s

@@ -9,6 +9,8 @@ use native.Mathlib.Omega.{arith}
 use Rattle.image.specs.Layout.{routine_count}
 use Rattle.schedule.specs.declared.Entry.{Entry}
 use Rattle.window.proofs.Instance.{windows}
+use Rattle.thread.specs.declared.Fault.{Fault}
+use Rattle.thread.specs.Effect.{number_of_fault}
 use Rattle.thread.specs.declared.Effect.TheVariants.{Faults, Lforks, Forks, Returns}
 use Rattle.thread.specs.declared.Status.{Status}
 use Rattle.thread.specs.declared.Status.TheVariants.{Ready, Suspended, Waiting}
@@ -75,12 +77,12 @@ module _ (j : Job) (good : GoodJob j) (s : State) (ok : Sound j s) where
   leaves-step c t x k l step = subst (ThreadStep windows window-tests (code_of j good) t (pool_of j s))
       (sym (leaves-pool j c t x (goes_on (turn_at j s c t) s) (moved-used j s ok c t k) l (moved-parent j s ok c t k))) step
 
-  fault-moves : (c t : ℕ) → s.outcome ≡ going → Used s t → (n : ℕ) → effect_at j s (thread_at s t) ≡ Faults n
-      → Moves j good s (faults (turn_at j s c t) n s)
+  fault-moves : (c t : ℕ) → s.outcome ≡ going → Used s t → (n : Fault) → effect_at j s (thread_at s t) ≡ Faults n
+      → Moves j good s (faults (turn_at j s c t) (number_of_fault n) s)
   fault-moves c t o u n met =
       let f = fault-tested j s t n met in
       faults-by o (record {
-        number = n;
+        number = number_of_fault n;
         fault = f;
         thread = t;
         offset = offset_of j (thread_at s t);

@@ -8,12 +8,12 @@ use native.Mathlib.Omega.{arith}
 use lib.Dec.{ltb}
 use lib.ListN.{get_or}
 use borrow.Author.Tests.{ltb-true, lt-ltb}
+use Rattle.std.specs.Prelude.{Ok}
 use Rattle.command.specs.declared.Command.TheVariants.{Join}
 use Rattle.command.specs.Command.{decoded_at, width_of}
 use Rattle.command.specs.Weight.{weight_of}
 use Rattle.command.proofs.RoundTrip.{stands}
 use Rattle.command.proofs.Bools.{both}
-use Rattle.image.specs.declared.Verdict.TheVariants.{Accepted}
 use Rattle.image.specs.Layout.{routine_count, slots_of, arguments_of, start_of, code_of}
 use Rattle.image.specs.Code.{commands_of, is_start}
 use Rattle.image.specs.Image.{image_verdict}
@@ -43,7 +43,7 @@ pub record Stood (image : List ℕ) (r p : ℕ) : Type 0 where
   -- and it has bytes
   pub wide : 1 ≤ width_of (first_byte image r p)
 
-module _ (image : List ℕ) (verdict : image_verdict image ≡ Accepted) where
+module _ (image : List ℕ) (verdict : image_verdict image ≡ Ok tt) where
   pub stood : (r p : ℕ) → r < routine_count image → is_start (commands_of (code_of image r)) p ≡ true → Stood image r p
   stood r p h st =
       let accepts : Accepts image = accepted image verdict in

@@ -5,6 +5,8 @@ use mathlib.Core.Logic.{◌⊎◌}
 use mathlib.Core.Path.{◌≡◌}
 use Prim.Native.Nat.{ℕ, ◌<◌}
 use Rattle.schedule.specs.declared.Entry.{Entry}
+use Rattle.thread.specs.declared.Fault.{Fault}
+use Rattle.thread.specs.Effect.{number_of_fault}
 use Rattle.thread.specs.declared.Effect.TheVariants.{Faults, Sets, Loads, Stores, Goes, Continues, Lforks, Forks, Joins, Suspends, Yields, Returns, Shares}
 use Rattle.thread.specs.declared.Status.TheVariants.{Ready, Suspended, Waiting}
 use Rattle.thread.specs.Thread.{moved_to, joined_at, shared_at, with_status}
@@ -25,8 +27,8 @@ use Rattle.soundness.proofs.EntryCases as cases
 pub record Kept (P : State → Type 0) (j : Job) (s : State) : Type 0 where
   -- refused: nothing changes
   pub unchanged : P s
-  pub fault : (t n : ℕ) → s.outcome ≡ going → t < 32 → effect_at j s (thread_at s t) ≡ Faults n
-      → P (set_outcome (faulted n t (offset_of j (thread_at s t))) s)
+  pub fault : (t : ℕ) (n : Fault) → s.outcome ≡ going → t < 32 → effect_at j s (thread_at s t) ≡ Faults n
+      → P (set_outcome (faulted (number_of_fault n) t (offset_of j (thread_at s t))) s)
   pub waiting : (c t : ℕ) → Waits j s c t → P (leaves c t Waiting s)
   pub sets : (c t : ℕ) → Stepped j s c t → (d v : ℕ) → effect_at j s (thread_at s t) ≡ Sets d v
       → P (goes_on (turn_at j s c t) (set_slot (thread_at s t) d v s))

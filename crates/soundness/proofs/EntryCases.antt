@@ -12,6 +12,8 @@ use Rattle.command.proofs.Bools.{both}
 use Rattle.schedule.specs.declared.Entry.{Entry}
 use Rattle.schedule.specs.declared.Entry.TheVariants.{Step, Take, Steal, Enable}
 use Rattle.thread.specs.declared.Effect.{Effect}
+use Rattle.thread.specs.declared.Fault.{Fault}
+use Rattle.thread.specs.Effect.{number_of_fault}
 use Rattle.thread.specs.declared.Effect.TheVariants.{Faults, Sets, Loads, Stores, Goes, Continues, Lforks, Forks, Joins, Suspends, Yields, Returns, Shares}
 use Rattle.thread.specs.declared.Status.TheVariants.{Ready, Suspended, Lent}
 use Rattle.thread.specs.Thread.{with_status, none, ◌is◌}
@@ -42,7 +44,7 @@ pub record Enabled (s : State) (t : ℕ) : Type 0 where
 
 -- what thread t's seed can give core c, and P of each: a fault, or a child by an lfork or a fork
 abbrev pub SeedFault : (After → Type 0) → Job → State → ℕ → ℕ → Type 0
-SeedFault P j s c t = Seeded j s c t → (n : ℕ) → effect_at j s (thread_at s t) ≡ Faults n → P (faults (turn_at j s c t) n s)
+SeedFault P j s c t = Seeded j s c t → (n : Fault) → effect_at j s (thread_at s t) ≡ Faults n → P (faults (turn_at j s c t) (number_of_fault n) s)
 
 abbrev pub SeedChild : (After → Type 0) → Job → State → ℕ → ℕ → Type 0
 SeedChild P j s c t = Seeded j s c t → (r d a e : ℕ)

@@ -13,15 +13,18 @@ use Rattle.command.specs.declared.Command.{Command}
 use Rattle.command.specs.declared.Command.TheVariants.{Set, Add, Subtract, Load, Store, JumpIfZero, Jump, Lfork, Fork, Join, Suspend, Yield, Return, Share}
 use Rattle.image.specs.Layout.{arguments_of}
 use Rattle.thread.specs.declared.Effect.{Effect}
+use Rattle.thread.specs.declared.Fault.{Fault}
+use Rattle.thread.specs.declared.Fault.TheVariants.{SlotPending, AddressNotAllowed, CutOutOfRange, ReturnPending, ShareOutOfRange}
 use Rattle.thread.specs.declared.Effect.TheVariants.{Faults, Sets, Loads, Stores, Goes, Continues, Lforks, Forks, Joins, Suspends, Yields, Returns, Shares}
-use Rattle.thread.specs.Effect.{Context, any_pending, unless_pending, provided, forking, effect_of}
+use Rattle.thread.specs.Effect.{number_of_fault, Context, any_pending, unless_pending, provided, forking, effect_of}
 use Rattle.rules.specs.State.{Job, State, thread_at}
 use Rattle.rules.specs.Turn.{effect_at}
+use Rattle.thread.proofs.FaultNumbers.{same_fault}
 pub use Rattle.soundness.specs.Faults.{operand_slots, reads_pending, address_allowed, cut_allowed, share_allowed, returns_pending, Condition9, Condition10, Condition11, Condition12, Condition31, command_of, context_at, Next}
 
 -- a fault's number, or 0
 abbrev pub number_of : Effect → ℕ
-number_of (Faults n) = n
+number_of (Faults f) = number_of_fault f
 number_of (Sets d v) = 0
 number_of (Loads d a) = 0
 number_of (Stores a v) = 0
@@ -35,34 +38,41 @@ number_of Yields = 0
 number_of (Returns v) = 0
 number_of (Shares x) = 0
 
-pub number-faults : (e : Effect) (n : ℕ) → 0 < n → ((e ≡ Faults n) ↔ (number_of e ≡ n))
-number-faults e n l = (ap number_of, back e)
+pub number-faults : (e : Effect) (f : Fault) → ((e ≡ Faults f) ↔ (number_of e ≡ number_of_fault f))
+number-faults e f = (ap number_of, back e (positive f))
   where
-    back : (x : Effect) → number_of x ≡ n → x ≡ Faults n
-    back (Faults m) q = ap Faults q
-    back (Sets d v) q = absurd (omega arith)
-    back (Loads d a) q = absurd (omega arith)
-    back (Stores a v) q = absurd (omega arith)
-    back (Goes t) q = absurd (omega arith)
-    back Continues q = absurd (omega arith)
-    back (Lforks r d a w) q = absurd (omega arith)
-    back (Forks r d a w) q = absurd (omega arith)
-    back Joins q = absurd (omega arith)
-    back Suspends q = absurd (omega arith)
-    back Yields q = absurd (omega arith)
-    back (Returns v) q = absurd (omega arith)
-    back (Shares x) q = absurd (omega arith)
+    positive : (g : Fault) → 0 < number_of_fault g
+    positive SlotPending = omega arith
+    positive AddressNotAllowed = omega arith
+    positive CutOutOfRange = omega arith
+    positive ReturnPending = omega arith
+    positive ShareOutOfRange = omega arith
 
-number-unless : (n : ℕ) (p : ℕ → Bool) (ks : List ℕ) (e : Effect) (m : ℕ) → number_of e ≡ m
-    → number_of (unless_pending n p ks e) ≡ cond (any_pending p ks) n m
+    back : (x : Effect) → 0 < number_of_fault f → number_of x ≡ number_of_fault f → x ≡ Faults f
+    back (Faults g) l q = ap Faults (same_fault g f q)
+    back (Sets d v) l q = absurd (omega arith)
+    back (Loads d a) l q = absurd (omega arith)
+    back (Stores a v) l q = absurd (omega arith)
+    back (Goes t) l q = absurd (omega arith)
+    back Continues l q = absurd (omega arith)
+    back (Lforks r d a w) l q = absurd (omega arith)
+    back (Forks r d a w) l q = absurd (omega arith)
+    back Joins l q = absurd (omega arith)
+    back Suspends l q = absurd (omega arith)
+    back Yields l q = absurd (omega arith)
+    back (Returns v) l q = absurd (omega arith)
+    back (Shares x) l q = absurd (omega arith)
+
+number-unless : (f : Fault) (p : ℕ → Bool) (ks : List ℕ) (e : Effect) (m : ℕ) → number_of e ≡ m
+    → number_of (unless_pending f p ks e) ≡ cond (any_pending p ks) (number_of_fault f) m
 unfolding unless_pending
-number-unless n p ks e m q = go (any_pending p ks)
+number-unless f p ks e m q = go (any_pending p ks)
   where
-    go : (b : Bool) → number_of (cond b (Faults n) e) ≡ cond b n m
+    go : (b : Bool) → number_of (cond b (Faults f) e) ≡ cond b (number_of_fault f) m
     go true = refl
     go false = q
 
-number-provided : (t : Bool) (n : ℕ) (e : Effect) (m : ℕ) → number_of e ≡ m → number_of (provided t n e) ≡ cond t m n
+number-provided : (t : Bool) (f : Fault) (e : Effect) (m : ℕ) → number_of e ≡ m → number_of (provided t f e) ≡ cond t m (number_of_fault f)
 unfolding provided
 number-provided true n e m q = q
 number-provided false n e m q = refl
@@ -73,24 +83,24 @@ module _ (arguments : ℕ → ℕ) (own : Context) where
       ≡ cond (returns_pending arguments own c) 12 (cond (reads_pending arguments own c) 9
       (cond (address_allowed arguments own c) (cond (cut_allowed arguments own c) (cond (share_allowed arguments own c) 0 31) 11) 10))
   unfolding effect_of forking any_pending
-  fault-number (Set d v) = number-unless 9 own.pending _ _ 0 refl
-  fault-number (Add d a b) = number-unless 9 own.pending _ _ 0 refl
-  fault-number (Subtract d a b) = number-unless 9 own.pending _ _ 0 refl
-  fault-number (Load d a) = number-unless 9 own.pending _ _ _ (number-provided _ 10 _ 0 refl)
-  fault-number (Store a b) = number-unless 9 own.pending _ _ _ (number-provided _ 10 _ 0 refl)
-  fault-number (JumpIfZero a t) = number-unless 9 own.pending _ _ 0 (either (eqb (own.slot a) 0))
+  fault-number (Set d v) = number-unless SlotPending own.pending _ _ 0 refl
+  fault-number (Add d a b) = number-unless SlotPending own.pending _ _ 0 refl
+  fault-number (Subtract d a b) = number-unless SlotPending own.pending _ _ 0 refl
+  fault-number (Load d a) = number-unless SlotPending own.pending _ _ _ (number-provided _ AddressNotAllowed _ 0 refl)
+  fault-number (Store a b) = number-unless SlotPending own.pending _ _ _ (number-provided _ AddressNotAllowed _ 0 refl)
+  fault-number (JumpIfZero a t) = number-unless SlotPending own.pending _ _ 0 (either (eqb (own.slot a) 0))
     where
       either : (b : Bool) → ◌≡◌ {A = ℕ} (number_of (cond b (Goes t) Continues)) 0
       either true = refl
       either false = refl
   fault-number (Jump t) = refl
-  fault-number (Lfork r d a w) = number-unless 9 own.pending _ _ _ (number-provided _ 11 _ 0 refl)
-  fault-number (Fork r d a w) = number-unless 9 own.pending _ _ _ (number-provided _ 11 _ 0 refl)
+  fault-number (Lfork r d a w) = number-unless SlotPending own.pending _ _ _ (number-provided _ CutOutOfRange _ 0 refl)
+  fault-number (Fork r d a w) = number-unless SlotPending own.pending _ _ _ (number-provided _ CutOutOfRange _ 0 refl)
   fault-number Join = refl
   fault-number Suspend = refl
   fault-number Yield = refl
-  fault-number (Return a) = number-unless 12 own.pending _ _ 0 refl
-  fault-number (Share a) = number-unless 9 own.pending _ _ _ (number-provided _ 31 _ 0 refl)
+  fault-number (Return a) = number-unless ReturnPending own.pending _ _ 0 refl
+  fault-number (Share a) = number-unless SlotPending own.pending _ _ _ (number-provided _ ShareOutOfRange _ 0 refl)
 
 -- what each number of a chain of tests means: r a return's, p pending slots', a the address's, c the cut's, x the share's
 record Order (n : ℕ) (r p a c x : Bool) : Type 0 where
@@ -156,42 +166,42 @@ module _ (arguments : ℕ → ℕ) (own : Context) (c : Command) where
       (address_allowed arguments own c) (cut_allowed arguments own c) (share_allowed arguments own c)
   ordered = rw (fault-number arguments own c) (order _ _ _ _ _)
 
-  both : {B : Type 0} (n : ℕ) → 0 < n → ((number_of (effect_of arguments own c) ≡ n) ↔ B) → ((effect_of arguments own c ≡ Faults n) ↔ B)
-  both n l z = let y = number-faults (effect_of arguments own c) n l in (λ e. z.0 (y.0 e), λ b. y.1 (z.1 b))
+  both : {B : Type 0} (f : Fault) → ((number_of (effect_of arguments own c) ≡ number_of_fault f) ↔ B) → ((effect_of arguments own c ≡ Faults f) ↔ B)
+  both f z = let y = number-faults (effect_of arguments own c) f in (λ e. z.0 (y.0 e), λ b. y.1 (z.1 b))
 
-  pub faults-12 : (effect_of arguments own c ≡ Faults 12) ↔ (Condition12 arguments own c)
-  faults-12 = both 12 (omega arith) ordered.by12
+  pub faults-12 : (effect_of arguments own c ≡ Faults ReturnPending) ↔ (Condition12 arguments own c)
+  faults-12 = both ReturnPending ordered.by12
 
-  pub faults-9 : (effect_of arguments own c ≡ Faults 9) ↔ (Condition9 arguments own c)
-  faults-9 = both 9 (omega arith) ordered.by9
+  pub faults-9 : (effect_of arguments own c ≡ Faults SlotPending) ↔ (Condition9 arguments own c)
+  faults-9 = both SlotPending ordered.by9
 
-  pub faults-10 : (effect_of arguments own c ≡ Faults 10) ↔ (Condition10 arguments own c)
-  faults-10 = both 10 (omega arith) ordered.by10
+  pub faults-10 : (effect_of arguments own c ≡ Faults AddressNotAllowed) ↔ (Condition10 arguments own c)
+  faults-10 = both AddressNotAllowed ordered.by10
 
-  pub faults-11 : (effect_of arguments own c ≡ Faults 11) ↔ (Condition11 arguments own c)
-  faults-11 = both 11 (omega arith) ordered.by11
+  pub faults-11 : (effect_of arguments own c ≡ Faults CutOutOfRange) ↔ (Condition11 arguments own c)
+  faults-11 = both CutOutOfRange ordered.by11
 
-  pub faults-31 : (effect_of arguments own c ≡ Faults 31) ↔ (Condition31 arguments own c)
-  faults-31 = both 31 (omega arith) ordered.by31
+  pub faults-31 : (effect_of arguments own c ≡ Faults ShareOutOfRange) ↔ (Condition31 arguments own c)
+  faults-31 = both ShareOutOfRange ordered.by31
 
 -- THE NEXT COMMAND of thread t
 module _ (j : Job) (s : State) (t : ℕ) where
-  pub next-12 : (effect_at j s (thread_at s t) ≡ Faults 12) ↔ (Next j s t Condition12)
+  pub next-12 : (effect_at j s (thread_at s t) ≡ Faults ReturnPending) ↔ (Next j s t Condition12)
   unfolding effect_at
   next-12 = faults-12 (arguments_of j.image) (context_at j s t) (command_of j s t)
 
-  pub next-9 : (effect_at j s (thread_at s t) ≡ Faults 9) ↔ (Next j s t Condition9)
+  pub next-9 : (effect_at j s (thread_at s t) ≡ Faults SlotPending) ↔ (Next j s t Condition9)
   unfolding effect_at
   next-9 = faults-9 (arguments_of j.image) (context_at j s t) (command_of j s t)
 
-  pub next-10 : (effect_at j s (thread_at s t) ≡ Faults 10) ↔ (Next j s t Condition10)
+  pub next-10 : (effect_at j s (thread_at s t) ≡ Faults AddressNotAllowed) ↔ (Next j s t Condition10)
   unfolding effect_at
   next-10 = faults-10 (arguments_of j.image) (context_at j s t) (command_of j s t)
 
-  pub next-11 : (effect_at j s (thread_at s t) ≡ Faults 11) ↔ (Next j s t Condition11)
+  pub next-11 : (effect_at j s (thread_at s t) ≡ Faults CutOutOfRange) ↔ (Next j s t Condition11)
   unfolding effect_at
   next-11 = faults-11 (arguments_of j.image) (context_at j s t) (command_of j s t)
 
-  pub next-31 : (effect_at j s (thread_at s t) ≡ Faults 31) ↔ (Next j s t Condition31)
+  pub next-31 : (effect_at j s (thread_at s t) ≡ Faults ShareOutOfRange) ↔ (Next j s t Condition31)
   unfolding effect_at
   next-31 = faults-31 (arguments_of j.image) (context_at j s t) (command_of j s t)

@@ -5,9 +5,9 @@ use mathlib.Core.Path.{◌≡◌, refl}
 use Prim.Native.Nat.{ℕ, zero, suc, ◌<◌}
 use native.Mathlib.Omega.{arith}
 use lib.ListN.{get_or, length, replicate}
+use Rattle.std.specs.Prelude.{Ok}
 use Rattle.command.specs.Command.{command_at, decoded}
 use Rattle.command.proofs.Tables.{weight-least}
-use Rattle.image.specs.declared.Verdict.TheVariants.{Accepted}
 use Rattle.image.specs.Layout.{routine_count, start_of}
 use Rattle.image.specs.Code.{commands_from, commands_of, verdict_from, last_ends, is_start, targets_good, routine_verdict}
 use Rattle.image.specs.Image.{image_verdict, rows_good, in_range, routines_verdict}
@@ -17,7 +17,7 @@ use Rattle.rules.specs.Lists.{Every}
 use Rattle.rules.specs.Sound.{GoodJob, Sound}
 use Rattle.soundness.proofs.StartSound.{start-sound}
 
-pub good-job : (image starts parameters : List ℕ) (allowance : ℕ) → image_verdict image ≡ Accepted → ((i : ℕ) → get_or image i 0 < 256)
+pub good-job : (image starts parameters : List ℕ) (allowance : ℕ) → image_verdict image ≡ Ok tt → ((i : ℕ) → get_or image i 0 < 256)
     → ((r : ℕ) → r < routine_count image → get_or starts r 0 ≡ start_of image r) → length parameters ≡ 32 → GoodJob (job_of image starts parameters allowance)
 good-job image starts parameters allowance accepted bytes begin many =
     record { image = accepted; bytes = bytes; starts = begin; parameters = many; weighs = weight-least }
@@ -32,7 +32,7 @@ every_byte (x ∷ xs) h (suc i) = every_byte xs h.1 i
 abbrev pub return_image : List ℕ
 return_image = 1 ∷ 1 ∷ 0 ∷ 2 ∷ 0 ∷ 13 ∷ 0 ∷ []
 
-return-accepted : image_verdict return_image ≡ Accepted
+return-accepted : image_verdict return_image ≡ Ok tt
 unfolding image_verdict rows_good in_range routines_verdict commands_from commands_of verdict_from last_ends is_start targets_good routine_verdict command_at decoded start_of
 return-accepted = refl
 

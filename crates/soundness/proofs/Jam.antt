@@ -88,7 +88,7 @@ busy-lacks j s c o l b n (step_over e f) k = absurd (not-both (is_over s.outcome
 busy-lacks j s c o l b n (step_no_core e f g) k = absurd (omega arith)
 busy-lacks j s c o l b n (step_idle e f g h) k = absurd (omega arith)
 busy-lacks j s c o l b n (step_dear e d) k = inr (inr e)
-busy-lacks j s c o l b n (step_faults d q) k = absurd (let y = k.0 in let z = k.1 in no-fault n (fault-tested j s (on_core s c) n q) (inr (omega arith, omega arith)))
+busy-lacks j s c o l b n (step_faults d f q e) k = absurd (let y = k.0 in let z = k.1 in no-fault n (rw e (fault-tested j s (on_core s c) f q)) (inr (omega arith, omega arith)))
 busy-lacks j s c o l b n (step_few_threads e d x y z w) k = inl e
 busy-lacks j s c o l b n (step_few_stacklets e d x y z w v u) k = inr (inl e)
 busy-lacks j s c o l b n (step_accepted e) k = absurd (let y = k.0 in omega arith)

@@ -9,6 +9,8 @@ use native.Mathlib.Omega.{arith}
 use lib.Dec.{ltb, leb}
 use borrow.Author.Tests.{eq-eqb, ne_eqb, ltb-true, ltb-false, lt-ltb, leb-true, leb-false}
 use Rattle.thread.specs.declared.Effect.{Effect}
+use Rattle.thread.specs.declared.Fault.{Fault}
+use Rattle.thread.specs.Effect.{number_of_fault}
 use Rattle.thread.specs.declared.Effect.TheVariants.{Faults, Sets, Loads, Stores, Goes, Continues, Lforks, Forks, Joins, Suspends, Yields, Returns, Shares}
 use Rattle.thread.specs.declared.Status.TheVariants.{Ready, Suspended, Waiting}
 use Rattle.thread.specs.declared.Thread.{Thread}
@@ -54,7 +56,7 @@ pub data StepLog (j : Job) (s : State) (c n : ℕ) : Type 0 where
   step_no_core : n ≡ 14 → s.outcome ≡ going → s.count ≤ c → StepLog j s c n
   step_idle : n ≡ 15 → s.outcome ≡ going → c < s.count → none ≤ on_core s c → StepLog j s c n
   step_dear : n ≡ 22 → Dear j s c (on_core s c) → StepLog j s c n
-  step_faults : Stepped j s c (on_core s c) → effect_at j s (thread_at s (on_core s c)) ≡ Faults n → StepLog j s c n
+  step_faults : Stepped j s c (on_core s c) → (f : Fault) → effect_at j s (thread_at s (on_core s c)) ≡ Faults f → n ≡ number_of_fault f → StepLog j s c n
   step_few_threads : n ≡ 20 → Stepped j s c (on_core s c) → (kind : ForkKind) (r : ℕ) → StepForks j s (on_core s c) kind r → s.queues.free_threads ≡ []
       → StepLog j s c n
   step_few_stacklets : n ≡ 21 → Stepped j s c (on_core s c) → (kind : ForkKind) (r : ℕ) → StepForks j s (on_core s c) kind r → ¬ (s.queues.free_threads ≡ [])
@@ -64,7 +66,7 @@ pub data StepLog (j : Job) (s : State) (c n : ℕ) : Type 0 where
 carried-log : (j : Job) (s : State) (c : ℕ) → Stepped j s c (on_core s c) → (e : Effect) → effect_at j s (thread_at s (on_core s c)) ≡ e
     → StepLog j s c (carried_of j s (turn_at j s c (on_core s c)) e).log
 unfolding carried_of
-carried-log j s c k (Faults n) q = step_faults k q
+carried-log j s c k (Faults f) q = step_faults k f q refl
 carried-log j s c k (Sets d v) q = step_accepted refl
 carried-log j s c k (Loads d a) q = step_accepted refl
 carried-log j s c k (Stores a v) q = step_accepted refl
@@ -151,7 +153,7 @@ pub data StealLog (j : Job) (s : State) (c t n : ℕ) : Type 0 where
   steal_busy : n ≡ 15 → s.outcome ≡ going → c < s.count → on_core s c < none → StealLog j s c t n
   steal_no_seed : n ≡ 18 → s.outcome ≡ going → c < s.count → none ≤ on_core s c → ¬ (Seed j s t) → StealLog j s c t n
   steal_dear : n ≡ 22 → DearSeed j s c t → StealLog j s c t n
-  steal_faults : Seeded j s c t → effect_at j s (thread_at s t) ≡ Faults n → StealLog j s c t n
+  steal_faults : Seeded j s c t → (f : Fault) → effect_at j s (thread_at s t) ≡ Faults f → n ≡ number_of_fault f → StealLog j s c t n
   steal_few_threads : n ≡ 20 → Seeded j s c t → (r : ℕ) → SeedForks j s t r → s.queues.free_threads ≡ [] → StealLog j s c t n
   steal_few_stacklets : n ≡ 21 → Seeded j s c t → (r : ℕ) → SeedForks j s t r → ¬ (s.queues.free_threads ≡ []) → s.queues.free_stacklets ≡ [] → StealLog j s c t n
   steal_accepted : n ≡ 0 → StealLog j s c t n
@@ -159,7 +161,7 @@ pub data StealLog (j : Job) (s : State) (c t n : ℕ) : Type 0 where
 stolen-log : (j : Job) (s : State) (c t : ℕ) → Seeded j s c t → (e : Effect) → effect_at j s (thread_at s t) ≡ e → SeedEffect e
     → StealLog j s c t (stolen_of j s (turn_at j s c t) e).log
 unfolding stolen_of
-stolen-log j s c t k (Faults n) q i = steal_faults k q
+stolen-log j s c t k (Faults f) q i = steal_faults k f q refl
 stolen-log j s c t k (Sets d v) q i = absurd i
 stolen-log j s c t k (Loads d a) q i = absurd i
 stolen-log j s c t k (Stores a v) q i = absurd i

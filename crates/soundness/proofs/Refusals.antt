@@ -8,8 +8,11 @@ use mathlib.Core.Path.{◌≡◌, refl, sym, ◌∙◌, ap}
 use Prim.Native.Nat.{ℕ, ◌-◌, ◌/◌, ◌<◌, ◌≤◌}
 use native.Mathlib.Omega.{arith}
 use borrow.Author.Tests.{lt-ltb, le-ltb, lt-leb, le-leb}
+use Rattle.thread.specs.declared.Fault.{Fault}
+use Rattle.thread.specs.declared.Fault.TheVariants.{SlotPending, AddressNotAllowed, CutOutOfRange, ReturnPending, ShareOutOfRange}
 use Rattle.thread.specs.declared.Effect.TheVariants.{Faults}
-use Rattle.thread.specs.Effect.{IsFault}
+use Rattle.thread.specs.Effect.{IsFault, number_of_fault}
+use Rattle.thread.proofs.FaultNumbers.{is_fault, same_fault}
 use Rattle.thread.specs.Thread.{none}
 use Rattle.rules.specs.declared.ForkKind.{ForkKind}
 use Rattle.rules.specs.State.{Job, State, going, is_over, thread_at, on_core}
@@ -22,7 +25,7 @@ use Rattle.soundness.proofs.Entries.{Stepped}
 use Rattle.soundness.proofs.Exactly.{exactly-and}
 use Rattle.soundness.proofs.Faults.{Condition9, Condition10, Condition11, Condition12, Condition31, Next, next-9, next-10, next-11, next-12, next-31}
 use Rattle.soundness.proofs.NeededStacklets.{needs-stacklet}
-use Rattle.soundness.proofs.Tested.{fault-tested, no-fault}
+use Rattle.soundness.proofs.Tested.{no-fault}
 use Rattle.soundness.proofs.ThreadsMet.{runner}
 use Rattle.soundness.proofs.Logs.{Dear, StepForks, is_lfork, is_fork, StepLog, step_over, step_no_core, step_idle, step_dear, step_faults, step_few_threads, step_few_stacklets, step_accepted, step-log}
 
@@ -51,7 +54,7 @@ module _ (j : Job) (s : State) (sound : Sound j s) (c : ℕ) where
     number14 : n ≡ 14 → (s.outcome ≡ going) × (s.count ≤ c)
     number15 : n ≡ 15 → (s.outcome ≡ going) × (c < s.count) × (none ≤ on_core s c)
     number22 : n ≡ 22 → Dear j s c (on_core s c)
-    fault : IsFault n → Stepped j s c (on_core s c) × (effect_at j s (thread_at s (on_core s c)) ≡ Faults n)
+    fault : IsFault n → (f : Fault) × (n ≡ number_of_fault f) × Stepped j s c (on_core s c) × (effect_at j s (thread_at s (on_core s c)) ≡ Faults f)
     number20 : n ≡ 20 → FewThreads j s c
     number21 : n ≡ 21 → FewStacklets j s c
 
@@ -92,12 +95,12 @@ module _ (j : Job) (s : State) (sound : Sound j s) (c : ℕ) where
     number20 = λ e. absurd (omega arith);
     number21 = λ e. absurd (omega arith);
   }
-  step-means {n} (step_faults k q) = let z = fault-tested j s (on_core s c) n q in record {
+  step-means {n} (step_faults k f q h) = let z : IsFault n = rw h (is_fault f) in record {
     number19 = λ e. absurd (no-fault _ z (inr (omega arith, omega arith)));
     number14 = λ e. absurd (no-fault _ z (inr (omega arith, omega arith)));
     number15 = λ e. absurd (no-fault _ z (inr (omega arith, omega arith)));
     number22 = λ e. absurd (no-fault _ z (inr (omega arith, omega arith)));
-    fault = λ l. (k, q);
+    fault = λ l. (f, h, k, q);
     number20 = λ e. absurd (no-fault _ z (inr (omega arith, omega arith)));
     number21 = λ e. absurd (no-fault _ z (inr (omega arith, omega arith)));
   }
@@ -175,34 +178,35 @@ module _ (j : Job) (s : State) (sound : Sound j s) (c : ℕ) where
   )
 
   -- "12, 9, 10 or 11": the faults
-  pub step-fault : (n : ℕ) → IsFault n → (((step_of j s c).log ≡ n) ↔
-      (Stepped j s c (on_core s c) × (effect_at j s (thread_at s (on_core s c)) ≡ Faults n)))
+  pub step-fault : (f : Fault) → (((step_of j s c).log ≡ number_of_fault f) ↔ (Stepped j s c (on_core s c) × (effect_at j s (thread_at s (on_core s c)) ≡ Faults f)))
   unfolding carried_of
-  step-fault n l = (
-    λ e. rw e at (means.fault (rw e l)),
+  step-fault f = (
+    λ e.
+        let (g, h, k, q) = means.fault (rw e (is_fault f)) in
+        (k, q ∙ ap Faults (same_fault g f (sym h ∙ e))),
     λ z.
         ap (λ a. a.log) (step-carried z.0) ∙ ap (λ e. (carried_of j s (turn_at j s c (on_core s c)) e).log) z.1,
   )
 
   -- "12: return with pending slots"
   pub step-12 : ((step_of j s c).log ≡ 12) ↔ (Stepped j s c (on_core s c) × Next j s (on_core s c) Condition12)
-  step-12 = exactly-and (step-fault 12 (inl (omega arith, omega arith))) (next-12 j s (on_core s c))
+  step-12 = exactly-and (step-fault ReturnPending) (next-12 j s (on_core s c))
 
   -- "9: a pending slot read or written (a fork writes its d)"
   pub step-9 : ((step_of j s c).log ≡ 9) ↔ (Stepped j s c (on_core s c) × Next j s (on_core s c) Condition9)
-  step-9 = exactly-and (step-fault 9 (inl (omega arith, omega arith))) (next-9 j s (on_core s c))
+  step-9 = exactly-and (step-fault SlotPending) (next-9 j s (on_core s c))
 
   -- "10: address not allowed"
   pub step-10 : ((step_of j s c).log ≡ 10) ↔ (Stepped j s c (on_core s c) × Next j s (on_core s c) Condition10)
-  step-10 = exactly-and (step-fault 10 (inl (omega arith, omega arith))) (next-10 j s (on_core s c))
+  step-10 = exactly-and (step-fault AddressNotAllowed) (next-10 j s (on_core s c))
 
   -- "11: cut out of range"
   pub step-11 : ((step_of j s c).log ≡ 11) ↔ (Stepped j s c (on_core s c) × Next j s (on_core s c) Condition11)
-  step-11 = exactly-and (step-fault 11 (inl (omega arith, omega arith))) (next-11 j s (on_core s c))
+  step-11 = exactly-and (step-fault CutOutOfRange) (next-11 j s (on_core s c))
 
   -- T-04: "31 s out of range"
   pub step-31 : ((step_of j s c).log ≡ 31) ↔ (Stepped j s c (on_core s c) × Next j s (on_core s c) Condition31)
-  step-31 = exactly-and (step-fault 31 (inr refl)) (next-31 j s (on_core s c))
+  step-31 = exactly-and (step-fault ShareOutOfRange) (next-31 j s (on_core s c))
 
   fork_at : (kind : ForkKind) (r : ℕ) → StepForks j s (on_core s c) kind r → (n : ℕ)
       → ((f : Asked) → f.routine ≡ r → (fork_of j s kind (turn_at j s c (on_core s c)) f).log ≡ n)
@@ -243,7 +247,7 @@ module _ (j : Job) (s : State) (sound : Sound j s) (c : ℕ) where
       go (step_no_core x _ _) = inr (inr (inl (omega arith, omega arith)))
       go (step_idle x _ _ _) = inr (inr (inl (omega arith, omega arith)))
       go (step_dear x _) = inr (inr (inr (omega arith, omega arith)))
-      go {n} (step_faults _ q) = inr (inl (fault-tested j s (on_core s c) n q))
+      go (step_faults _ f _ h) = inr (inl (rw h (is_fault f)))
       go (step_few_threads x _ _ _ _ _) = inr (inr (inr (omega arith, omega arith)))
       go (step_few_stacklets x _ _ _ _ _ _ _) = inr (inr (inr (omega arith, omega arith)))
       go (step_accepted x) = inl x

@@ -3,13 +3,16 @@
 use mathlib.Core.Bool.{Bool, true, false}
 use mathlib.Core.List.{[]}
 use mathlib.Core.Logic.{◌⊎◌, inl, inr, ⊎_elim, ◌↔◌}
-use mathlib.Core.Path.{◌≡◌, refl, ◌∙◌, ap}
+use mathlib.Core.Path.{◌≡◌, refl, sym, ◌∙◌, ap}
 use Prim.Native.Nat.{ℕ, ◌-◌, ◌<◌, ◌≤◌}
 use native.Mathlib.Omega.{arith}
 use borrow.Author.Tests.{lt-ltb, le-ltb, lt-leb, le-leb}
+use Rattle.thread.specs.declared.Fault.{Fault}
+use Rattle.thread.specs.declared.Fault.TheVariants.{SlotPending, AddressNotAllowed, CutOutOfRange, ReturnPending, ShareOutOfRange}
 use Rattle.thread.specs.declared.Effect.TheVariants.{Faults}
 use Rattle.thread.specs.declared.Thread.{Thread}
-use Rattle.thread.specs.Effect.{IsFault}
+use Rattle.thread.specs.Effect.{IsFault, number_of_fault}
+use Rattle.thread.proofs.FaultNumbers.{is_fault, same_fault}
 use Rattle.thread.specs.Thread.{none}
 use Rattle.rules.specs.declared.ForkKind.TheVariants.{Stolen}
 use Rattle.rules.specs.State.{Job, State, going, is_over, thread_at, on_core}
@@ -20,7 +23,7 @@ use Rattle.rules.specs.Sound.{Sound}
 use Rattle.soundness.proofs.Entries.{Seed, Seeded, seed-true}
 use Rattle.soundness.proofs.Exactly.{exactly-and}
 use Rattle.soundness.proofs.Faults.{Condition9, Condition10, Condition11, Condition12, Next, next-9, next-10, next-11, next-12, next-31}
-use Rattle.soundness.proofs.Tested.{fault-tested, no-fault, seed-shares}
+use Rattle.soundness.proofs.Tested.{no-fault, seed-shares}
 use Rattle.soundness.proofs.Logs.{DearSeed, SeedForks, true-seed, StealLog, steal_over, steal_no_core, steal_busy, steal_no_seed, steal_dear, steal_faults, steal_few_threads, steal_few_stacklets, steal_accepted, steal-log}
 use Rattle.soundness.proofs.Refusals.{few-threads, few-stacklets}
 
@@ -45,7 +48,7 @@ module _ (j : Job) (s : State) (sound : Sound j s) (c t : ℕ) where
     number15 : n ≡ 15 → (s.outcome ≡ going) × (c < s.count) × (on_core s c < none)
     number18 : n ≡ 18 → (s.outcome ≡ going) × (c < s.count) × (none ≤ on_core s c) × (¬ (Seed j s t))
     number22 : n ≡ 22 → DearSeed j s c t
-    fault : IsFault n → Seeded j s c t × (effect_at j s (thread_at s t) ≡ Faults n)
+    fault : IsFault n → (f : Fault) × (n ≡ number_of_fault f) × Seeded j s c t × (effect_at j s (thread_at s t) ≡ Faults f)
     number20 : n ≡ 20 → Seeded j s c t × (r : ℕ) × SeedForks j s t r × (s.queues.free_threads ≡ [])
     number21 : n ≡ 21 → Seeded j s c t × (r : ℕ) × SeedForks j s t r × (¬ (s.queues.free_threads ≡ [])) × (s.queues.free_stacklets ≡ [])
 
@@ -100,13 +103,13 @@ module _ (j : Job) (s : State) (sound : Sound j s) (c t : ℕ) where
     number20 = λ e. absurd (omega arith);
     number21 = λ e. absurd (omega arith);
   }
-  steal-means {n} (steal_faults k q) = let z = fault-tested j s t n q in record {
+  steal-means {n} (steal_faults k f q h) = let z : IsFault n = rw h (is_fault f) in record {
     number19 = λ e. absurd (no-fault _ z (inr (omega arith, omega arith)));
     number14 = λ e. absurd (no-fault _ z (inr (omega arith, omega arith)));
     number15 = λ e. absurd (no-fault _ z (inr (omega arith, omega arith)));
     number18 = λ e. absurd (no-fault _ z (inr (omega arith, omega arith)));
     number22 = λ e. absurd (no-fault _ z (inr (omega arith, omega arith)));
-    fault = λ l. (k, q);
+    fault = λ l. (f, h, k, q);
     number20 = λ e. absurd (no-fault _ z (inr (omega arith, omega arith)));
     number21 = λ e. absurd (no-fault _ z (inr (omega arith, omega arith)));
   }
@@ -187,30 +190,32 @@ module _ (j : Job) (s : State) (sound : Sound j s) (c t : ℕ) where
         ),
   )
 
-  pub steal-fault : (n : ℕ) → IsFault n → (((steal_of j s c t).log ≡ n) ↔ (Seeded j s c t × (effect_at j s (thread_at s t) ≡ Faults n)))
+  pub steal-fault : (f : Fault) → (((steal_of j s c t).log ≡ number_of_fault f) ↔ (Seeded j s c t × (effect_at j s (thread_at s t) ≡ Faults f)))
   unfolding stolen_of
-  steal-fault n l = (
-    λ e. rw e at (stolen.fault (rw e l)),
+  steal-fault f = (
+    λ e.
+        let (g, h, k, q) = stolen.fault (rw e (is_fault f)) in
+        (k, q ∙ ap Faults (same_fault g f (sym h ∙ e))),
     λ z.
         ap (λ a. a.log) (steal-carried z.0) ∙ ap (λ e. (stolen_of j s (turn_at j s c t) e).log) z.1,
   )
 
   pub steal-9 : ((steal_of j s c t).log ≡ 9) ↔ (Seeded j s c t × Next j s t Condition9)
-  steal-9 = exactly-and (steal-fault 9 (inl (omega arith, omega arith))) (next-9 j s t)
+  steal-9 = exactly-and (steal-fault SlotPending) (next-9 j s t)
 
   pub steal-10 : ((steal_of j s c t).log ≡ 10) ↔ (Seeded j s c t × Next j s t Condition10)
-  steal-10 = exactly-and (steal-fault 10 (inl (omega arith, omega arith))) (next-10 j s t)
+  steal-10 = exactly-and (steal-fault AddressNotAllowed) (next-10 j s t)
 
   pub steal-12 : ((steal_of j s c t).log ≡ 12) ↔ (Seeded j s c t × Next j s t Condition12)
-  steal-12 = exactly-and (steal-fault 12 (inl (omega arith, omega arith))) (next-12 j s t)
+  steal-12 = exactly-and (steal-fault ReturnPending) (next-12 j s t)
 
   pub steal-11 : ((steal_of j s c t).log ≡ 11) ↔ (Seeded j s c t × Next j s t Condition11)
-  steal-11 = exactly-and (steal-fault 11 (inl (omega arith, omega arith))) (next-11 j s t)
+  steal-11 = exactly-and (steal-fault CutOutOfRange) (next-11 j s t)
 
   -- an 08 or 09 shares nothing
   pub steal-31 : ¬ ((steal_of j s c t).log ≡ 31)
   steal-31 e =
-      let (k, q) = (steal-fault 31 (inr refl)).0 e in
+      let (k, q) = (steal-fault ShareOutOfRange).0 e in
       seed-shares j s t k.byte ((next-31 j s t).0 q).4
 
   seed-at : (r : ℕ) → SeedForks j s t r → (n : ℕ) → ((f : Asked) → (fork_of j s Stolen (turn_at j s c t) f).log ≡ n)
@@ -247,7 +252,7 @@ module _ (j : Job) (s : State) (sound : Sound j s) (c t : ℕ) where
       go (steal_busy x _ _ _) = inr (inr (inl (omega arith, omega arith)))
       go (steal_no_seed x _ _ _ _) = inr (inr (inr (omega arith, omega arith)))
       go (steal_dear x _) = inr (inr (inr (omega arith, omega arith)))
-      go {n} (steal_faults _ q) = inr (inl (fault-tested j s t n q))
+      go (steal_faults _ f _ h) = inr (inl (rw h (is_fault f)))
       go (steal_few_threads x _ _ _ _) = inr (inr (inr (omega arith, omega arith)))
       go (steal_few_stacklets x _ _ _ _ _) = inr (inr (inr (omega arith, omega arith)))
       go (steal_accepted x) = inl x

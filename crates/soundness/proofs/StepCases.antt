@@ -9,6 +9,8 @@ use lib.Dec.{ltb, leb, eqb}
 use borrow.Author.Tests.{eqb-true, ltb-true, ltb-false, leb-false}
 use Rattle.command.proofs.Bools.{both}
 use Rattle.thread.specs.declared.Effect.{Effect}
+use Rattle.thread.specs.declared.Fault.{Fault}
+use Rattle.thread.specs.Effect.{number_of_fault}
 use Rattle.thread.specs.declared.Effect.TheVariants.{Faults, Sets, Loads, Stores, Goes, Continues, Lforks, Forks, Joins, Suspends, Yields, Returns, Shares}
 use Rattle.thread.specs.declared.Status.TheVariants.{Ready, Suspended, Waiting}
 use Rattle.thread.specs.declared.Thread.{Thread}
@@ -51,7 +53,7 @@ Refuses P s = (n : ℕ) → 14 ≤ n → n ≤ 22 → P (refused n s)
 -- what a step can give, and P of each
 pub record StepCases (P : After → Type 0) (j : Job) (s : State) : Type 0 where
   pub refuses : Refuses P s
-  pub fault : (c t : ℕ) → Stepped j s c t → (n : ℕ) → effect_at j s (thread_at s t) ≡ Faults n → P (faults (turn_at j s c t) n s)
+  pub fault : (c t : ℕ) → Stepped j s c t → (n : Fault) → effect_at j s (thread_at s t) ≡ Faults n → P (faults (turn_at j s c t) (number_of_fault n) s)
   pub waiting : (c t : ℕ) → Waits j s c t → P (accepted (leaves c t Waiting s))
   pub sets : (c t : ℕ) → Stepped j s c t → (d v : ℕ) → effect_at j s (thread_at s t) ≡ Sets d v
       → P (accepted (goes_on (turn_at j s c t) (set_slot (thread_at s t) d v s)))

@@ -1,4 +1,4 @@
--- What a command has been tested for where it has an effect (`tested`): a fault's number is 9 to 12 or 31, a fork's result slot is not pending,
+-- What a command has been tested for where it has an effect (`tested`): a fork's result slot is not pending,
 -- a return leaves nothing pending, and joins, suspends and yields are these commands. And the first byte of a join. Assumes nothing.
 use mathlib.Core.Bool.{Bool, true, false, cond, true≢false}
 use mathlib.Core.List.{List, ◌∷◌}
@@ -13,9 +13,12 @@ use Rattle.command.specs.declared.Command.{Command}
 use Rattle.command.specs.declared.Command.TheVariants.{Set, Add, Subtract, Load, Store, JumpIfZero, Jump, Lfork, Fork, Join, Suspend, Yield, Return, Share}
 use Rattle.image.specs.Layout.{arguments_of}
 use Rattle.thread.specs.declared.Effect.{Effect}
+use Rattle.thread.specs.declared.Fault.{Fault}
+use Rattle.thread.specs.declared.Fault.TheVariants.{SlotPending, CutOutOfRange}
 use Rattle.thread.specs.declared.Effect.TheVariants.{Faults, Sets, Loads, Stores, Goes, Continues, Lforks, Forks, Joins, Suspends, Yields, Returns, Shares}
-use Rattle.thread.specs.Effect.{IsFault, Context, run, any_pending, unless_pending, provided, forking, effect_of}
+use Rattle.thread.specs.Effect.{IsFault, number_of_fault, Context, run, any_pending, unless_pending, provided, forking, effect_of}
 use Rattle.thread.specs.Thread.{is_pending}
+use Rattle.thread.proofs.FaultNumbers.{is_fault}
 use Rattle.thread.proofs.EffectFacts.{AllClear, all-clear, first-clear}
 use Rattle.rules.specs.State.{Job, State, thread_at}
 use Rattle.rules.specs.Turn.{effect_at, byte_of}
@@ -25,7 +28,7 @@ use Rattle.soundness.specs.Faults.{share_allowed, command_of, context_at}
 module _ (arguments : ℕ → ℕ) (own : Context) where
   -- what has been tested where command c has this effect
   abbrev pub Tests : Command → Effect → Type 0
-  Tests c (Faults n) = IsFault n
+  Tests c (Faults f) = Unit {0}
   Tests c (Sets d v) = Unit {0}
   Tests c (Loads d a) = Unit {0}
   Tests c (Stores a v) = Unit {0}
@@ -39,27 +42,23 @@ module _ (arguments : ℕ → ℕ) (own : Context) where
   Tests c (Returns v) = (k : ℕ) → k < 16 → own.pending k ≡ false
   Tests c (Shares x) = Unit {0}
 
-  -- document 01's own
-  low : (n : ℕ) → 9 ≤ n → n ≤ 12 → IsFault n
-  low n l m = inl (l, m)
-
   -- a record, so that command and effect can be read off it
   pub record Tested (c : Command) (e : Effect) : Type 0 where
     pub facts : Tests c e
 
-  tested-unless : (c : Command) (n : ℕ) → IsFault n → (ks : List ℕ) (e : Effect) → (AllClear own.pending ks → Tested c e)
+  tested-unless : (c : Command) (n : Fault) (ks : List ℕ) (e : Effect) → (AllClear own.pending ks → Tested c e)
       → Tested c (unless_pending n own.pending ks e)
   unfolding unless_pending
-  tested-unless c n l ks e f = go (any_pending own.pending ks) (λ h. f (all-clear own.pending ks h))
+  tested-unless c n ks e f = go (any_pending own.pending ks) (λ h. f (all-clear own.pending ks h))
     where
       go : (t : Bool) → (t ≡ false → Tested c e) → Tested c (cond t (Faults n) e)
-      go true f = record { facts = l }
+      go true f = record { facts = tt }
       go false f = f refl
 
-  tested-provided : (c : Command) (t : Bool) (n : ℕ) → IsFault n → (e : Effect) → Tested c e → Tested c (provided t n e)
+  tested-provided : (c : Command) (t : Bool) (n : Fault) (e : Effect) → Tested c e → Tested c (provided t n e)
   unfolding provided
-  tested-provided c true n l e f = f
-  tested-provided c false n l e f = record { facts = l }
+  tested-provided c true n e f = f
+  tested-provided c false n e f = record { facts = tt }
 
   tested-choice : (c : Command) (t : Bool) (x y : Effect) → Tested c x → Tested c y → Tested c (cond t x y)
   tested-choice c true x y f g = f
@@ -68,19 +67,19 @@ module _ (arguments : ℕ → ℕ) (own : Context) where
   tested-fork : (c : Command) (r d a w : ℕ) (e : Effect) → (own.pending d ≡ false → Tested c e) → Tested c (forking arguments own r d a w e)
   unfolding forking
   tested-fork c r d a w e f =
-      tested-unless c 9 (low 9 (omega arith) (omega arith)) _ _ (λ none. tested-provided c _ 11 (low 11 (omega arith) (omega arith)) _ (f none.0))
+      tested-unless c _ _ _ (λ none. tested-provided c _ _ _ (f none.0))
 
   tested : (c : Command) → Tested c (effect_of arguments own c)
   unfolding effect_of
-  tested (Set d v) = tested-unless _ 9 (low 9 (omega arith) (omega arith)) _ _ (λ none. record { facts = tt })
-  tested (Add d a b) = tested-unless _ 9 (low 9 (omega arith) (omega arith)) _ _ (λ none. record { facts = tt })
-  tested (Subtract d a b) = tested-unless _ 9 (low 9 (omega arith) (omega arith)) _ _ (λ none. record { facts = tt })
+  tested (Set d v) = tested-unless _ _ _ _ (λ none. record { facts = tt })
+  tested (Add d a b) = tested-unless _ _ _ _ (λ none. record { facts = tt })
+  tested (Subtract d a b) = tested-unless _ _ _ _ (λ none. record { facts = tt })
   tested (Load d a) =
-      tested-unless _ 9 (low 9 (omega arith) (omega arith)) _ _ (λ none. tested-provided _ _ 10 (low 10 (omega arith) (omega arith)) _ (record { facts = tt }))
+      tested-unless _ _ _ _ (λ none. tested-provided _ _ _ _ (record { facts = tt }))
   tested (Store a b) =
-      tested-unless _ 9 (low 9 (omega arith) (omega arith)) _ _ (λ none. tested-provided _ _ 10 (low 10 (omega arith) (omega arith)) _ (record { facts = tt }))
+      tested-unless _ _ _ _ (λ none. tested-provided _ _ _ _ (record { facts = tt }))
   tested (JumpIfZero a t) =
-      tested-unless _ 9 (low 9 (omega arith) (omega arith)) _ _ (λ none. tested-choice _ (eqb (own.slot a) 0) (Goes t) Continues (record { facts = tt })
+      tested-unless _ _ _ _ (λ none. tested-choice _ (eqb (own.slot a) 0) (Goes t) Continues (record { facts = tt })
       (record { facts = tt }))
   tested (Jump t) = record { facts = tt }
   tested (Lfork r d a w) = tested-fork _ r d a w _ (λ f. record { facts = f })
@@ -88,8 +87,8 @@ module _ (arguments : ℕ → ℕ) (own : Context) where
   tested Join = record { facts = refl }
   tested Suspend = record { facts = refl }
   tested Yield = record { facts = refl }
-  tested (Return a) = tested-unless _ 12 (low 12 (omega arith) (omega arith)) _ _ (λ none. record { facts = λ k l. first-clear own.pending 16 none k l })
-  tested (Share a) = tested-unless _ 9 (low 9 (omega arith) (omega arith)) _ _ (λ none. tested-provided _ _ 31 (inr refl) _ (record { facts = tt }))
+  tested (Return a) = tested-unless _ _ _ _ (λ none. record { facts = λ k l. first-clear own.pending 16 none k l })
+  tested (Share a) = tested-unless _ _ _ _ (λ none. tested-provided _ _ _ _ (record { facts = tt }))
 
 -- BYTES. A command that is decoded as a join has first byte 0A
 abbrev is_join : Command → ℕ
@@ -149,8 +148,8 @@ module _ (j : Job) (s : State) (t : ℕ) where
   next-tested e q = subst (Tested (arguments_of j.image) (context_at j s t) (command_of j s t)) q (tested (arguments_of j.image) (context_at j s t) (command_of j s t))
 
   -- "faults": 9 to 12, or 31
-  pub fault-tested : (n : ℕ) → effect_at j s (thread_at s t) ≡ Faults n → IsFault n
-  fault-tested n q = (next-tested (Faults n) q).facts
+  pub fault-tested : (f : Fault) → effect_at j s (thread_at s t) ≡ Faults f → IsFault (number_of_fault f)
+  fault-tested f q = is_fault f
 
   -- "9: a pending slot .. written (a fork writes its d)"
   pub lfork-tested : (r d a e : ℕ) → effect_at j s (thread_at s t) ≡ Lforks r d a e → is_pending (pending_at s t) d ≡ false
@@ -186,7 +185,7 @@ forking-seed : (arguments : ℕ → ℕ) (own : Context) (r d a w : ℕ) (e : Ef
 unfolding forking unless_pending provided
 forking-seed arguments own r d a w e k = go (any_pending own.pending (d ∷ w ∷ run a (arguments r))) (own.may_cut (own.slot w))
   where
-    go : (b t : Bool) → SeedEffect (cond b (Faults 9) (cond t e (Faults 11)))
+    go : (b t : Bool) → SeedEffect (cond b (Faults SlotPending) (cond t e (Faults CutOutOfRange)))
     go true t = tt
     go false true = k
     go false false = tt

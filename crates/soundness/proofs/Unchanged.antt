@@ -17,7 +17,7 @@ module _ (j : Job) (s : State) where
   steps : StepCases Left j s
   steps = record {
     refuses = λ n l m x y. refl;
-    fault = λ c t k n e l m. absurd (no-fault n (fault-tested j s t n e) (inr (omega arith, omega arith)));
+    fault = λ c t k n e l m. absurd (no-fault _ (fault-tested j s t n e) (inr (omega arith, omega arith)));
     waiting = λ c t k l m. absurd (omega arith);
     sets = λ c t k d v e l m. absurd (omega arith);
     loads = λ c t k d a e l m. absurd (omega arith);
@@ -37,7 +37,7 @@ module _ (j : Job) (s : State) where
   cases = record {
     steps = steps;
     takes = λ c t ts k l m. absurd (omega arith);
-    seed_fault = λ c t k n e l m. absurd (no-fault n (fault-tested j s t n e) (inr (omega arith, omega arith)));
+    seed_fault = λ c t k n e l m. absurd (no-fault _ (fault-tested j s t n e) (inr (omega arith, omega arith)));
     steals = λ c t k r d a e q n ns x xs f l m. absurd (omega arith);
     enables = λ t k l m. absurd (omega arith);
   }
