@@ -12,8 +12,10 @@ use Rattle.cells.proofs.Laws.{record_same}
 use Rattle.rules.specs.State.{Outcome, thread_at, on_core}
 use Rattle.rules.specs.Update.{set_thread, set_core, set_tops, set_free_threads, set_free_stacklets, set_ready, set_outcome}
 use Rattle.tables.specs.Cells.{from, Outside}
-use Rattle.tables.specs.Change.{set_units, set_count}
-use Rattle.tables.specs.Meaning.{threads_in, cores_in, units_in, outcome_in, stacklets_in, queue_in, meaning}
+use Rattle.tables.specs.Change.{queue_of, set_queue, set_units, set_count}
+use Rattle.tables.specs.Meaning.{threads_in, cores_in, units_in, outcome_in, stacklets_in, queue_in, place_of, meaning}
+use Rattle.tables.specs.declared.lines.Line.{Line}
+use Rattle.tables.specs.declared.lines.Line.TheVariants.{FreeThreads, FreeStacklets, Ready}
 use Rattle.tables.proofs.Runs.{length_from, get_or-from, from-same, from-set, clear}
 
 -- what lies apart from the cells that change stays
@@ -118,22 +120,34 @@ module _ (xs ys words memory : List ℕ) where
       rw (threads-stay xs ys 786 16 o (omega arith), cores-stay xs ys 786 16 o (inr (omega arith)), cell_stays xs ys 786 16 o 776 (inr (omega arith)), e, queue-stays xs ys 786 16 o 802 (inl (omega arith)), queue-stays xs ys 786 16 o 836 (inl (omega arith)), queue-stays xs ys 786 16 o 870 (inl (omega arith)), units-stay xs ys 786 16 o (inr (omega arith)), outcome-stays xs ys 786 16 o (inr (omega arith)))
 
   -- the three queues
-  pub free-threads-put : (q : Queue) → Outside xs ys 802 34 → queue_in ys 802 ≡ q → meaning ys words memory ≡ set_free_threads (contents q) (meaning xs words memory)
+  free-threads-put : (q : Queue) → Outside xs ys 802 34 → queue_in ys 802 ≡ q → meaning ys words memory ≡ set_free_threads (contents q) (meaning xs words memory)
   unfolding meaning
   free-threads-put q o e =
       rw (threads-stay xs ys 802 34 o (omega arith), cores-stay xs ys 802 34 o (inr (omega arith)), cell_stays xs ys 802 34 o 776 (inr (omega arith)), stacklets-stay xs ys 802 34 o (inr (omega arith)), e, queue-stays xs ys 802 34 o 836 (inl (omega arith)), queue-stays xs ys 802 34 o 870 (inl (omega arith)), units-stay xs ys 802 34 o (inr (omega arith)), outcome-stays xs ys 802 34 o (inr (omega arith)))
 
-  pub free-stacklets-put : (q : Queue) → Outside xs ys 836 34 → queue_in ys 836 ≡ q → meaning ys words memory ≡ set_free_stacklets (contents q) (meaning xs words memory)
+  free-stacklets-put : (q : Queue) → Outside xs ys 836 34 → queue_in ys 836 ≡ q → meaning ys words memory ≡ set_free_stacklets (contents q) (meaning xs words memory)
   unfolding meaning
   free-stacklets-put q o e =
       rw (threads-stay xs ys 836 34 o (omega arith), cores-stay xs ys 836 34 o (inr (omega arith)), cell_stays xs ys 836 34 o 776 (inr (omega arith)), stacklets-stay xs ys 836 34 o (inr (omega arith)), queue-stays xs ys 836 34 o 802 (inr (omega arith)), e, queue-stays xs ys 836 34 o 870 (inl (omega arith)), units-stay xs ys 836 34 o (inr (omega arith)), outcome-stays xs ys 836 34 o (inr (omega arith)))
 
-  pub ready-put : (q : Queue) → Outside xs ys 870 34 → queue_in ys 870 ≡ q → meaning ys words memory ≡ set_ready (contents q) (meaning xs words memory)
+  ready-put : (q : Queue) → Outside xs ys 870 34 → queue_in ys 870 ≡ q → meaning ys words memory ≡ set_ready (contents q) (meaning xs words memory)
   unfolding meaning
   ready-put q o e =
       rw (threads-stay xs ys 870 34 o (omega arith), cores-stay xs ys 870 34 o (inr (omega arith)), cell_stays xs ys 870 34 o 776 (inr (omega arith)), stacklets-stay xs ys 870 34 o (inr (omega arith)), queue-stays xs ys 870 34 o 802 (inr (omega arith)), queue-stays xs ys 870 34 o 836 (inr (omega arith)), e, units-stay xs ys 870 34 o (inr (omega arith)), outcome-stays xs ys 870 34 o (inr (omega arith)))
 
+  pub queue-put : (which : Line) (q : Queue) → Outside xs ys (place_of which) 34 → queue_in ys (place_of which) ≡ q
+      → meaning ys words memory ≡ set_queue which (contents q) (meaning xs words memory)
+  queue-put FreeThreads = free-threads-put
+  queue-put FreeStacklets = free-stacklets-put
+  queue-put Ready = ready-put
+
 module _ (xs words memory : List ℕ) where
+  pub queue-is : (which : Line) → contents (queue_in xs (place_of which)) ≡ queue_of which (meaning xs words memory)
+  unfolding meaning
+  queue-is FreeThreads = refl
+  queue-is FreeStacklets = refl
+  queue-is Ready = refl
+
   -- what is read
   pub thread-is : (t : ℕ) → t < 32 → record_at xs (24 * t) ≡ thread_at (meaning xs words memory) t
   unfolding meaning threads_in

@@ -1,5 +1,5 @@
 -- Laws of lists by index. Assumes nothing.
-use Rattle.std.proofs.Common.{◌≡◌, ℕ, zero, suc, ◌+◌, ◌-◌, ◌<◌, ◌≤◌, ◌⊎◌, List, ◌++◌, length, get_or, take, drop, set, sym, refl, ap, ◌∙◌, inl, inr, ⊎_elim, append_assoc, add-zero, add-suc, suc-add, zero-add, arith, drop_of_length-le, length-take-le, get_or-drop, drop-cons, get_or-set_other, get_or-take, get_or-set_same, drop-drop, get_or-append-add, ext_get_or, below_more}
+use Rattle.std.proofs.Common.{◌≡◌, ℕ, zero, suc, ◌+◌, ◌-◌, ◌<◌, ◌≤◌, ◌⊎◌, List, ◌++◌, length, length-take, length-drop, get_or, take, drop, set, sym, refl, ap, ◌∙◌, inl, inr, ⊎_elim, append_assoc, add-zero, add-suc, suc-add, zero-add, arith, length-take-le, get_or-drop, get_or-set_other, get_or-take, drop-drop, get_or-append-add, ext_get_or}
 use lib.ListN.{get_or-append}
 use lib.Seq.{sets, sets-eq}
 use Rattle.tables.specs.Cells.{from, Outside, pasted}
@@ -85,22 +85,8 @@ filled xs places a n l f =
     ext_get_or 0 places (from 0 n (λ i. get_or xs (a + i) 0)) (l ∙ sym (length_from 0 n _))
     (λ i h. f i (omega arith) ∙ ap (λ (k : ℕ). get_or xs (a + k) 0) (sym (zero-add i)) ∙ sym (get_or-from 0 n i (λ k. get_or xs (a + k) 0) 0 (omega arith)))
 
--- what holds of each cell below i, and of v, holds of each below i + 1 once v is stored at i
-pub set_below : {A : Type 0} (P : ℕ → A → Type 0) (cells : List A) (i : ℕ) (v d : A) → i < length cells → P i v → ((k : ℕ) → k < i → P k (get_or cells k d))
-    → (k : ℕ) → k < i + 1 → P k (get_or (set cells i v) k d)
-set_below P cells i v d l e f =
-    below_more (λ k. P k (get_or (set cells i v) k d)) i (λ k h. rw (get_or-set_other cells i k v d (λ z. omega arith)) (f k h)) (rw (get_or-set_same cells i v d l) e)
-
-pub fill_more : (xs places : List ℕ) (a i v : ℕ) → i < length places → v ≡ get_or xs (a + i) 0 → ((k : ℕ) → k < i → get_or places k 0 ≡ get_or xs (a + k) 0)
-    → (k : ℕ) → k < i + 1 → get_or (set places i v) k 0 ≡ get_or xs (a + k) 0
-fill_more xs places a i v = set_below (λ k x. x ≡ get_or xs (a + k) 0) places i v 0
-
--- one store more of a run
-pub sets_more : (xs cells : List ℕ) (a i : ℕ) → i < length cells → sets (set xs (a + i) (get_or cells i 0)) (a + (i + 1)) (drop (i + 1) cells) ≡ sets xs (a + i) (drop i cells)
-sets_more xs cells a i h =
-    let e : a + (i + 1) ≡ suc (a + i) = omega arith in
-    let f : i + 1 ≡ suc i = omega arith in
-    rw (e, f, drop-cons cells i 0 h)
-
-pub sets-done : (xs cells : List ℕ) (a i : ℕ) → length cells ≤ i → sets xs (a + i) (drop i cells) ≡ xs
-sets-done xs cells a i h = rw (drop_of_length-le cells h)
+-- a part that is read
+pub part-is : (xs : List ℕ) (a n k : ℕ) → k ≡ n → a + n ≤ length xs → take k (drop a xs) ≡ from 0 n (λ i. get_or xs (a + i) 0)
+part-is xs a n k e fits =
+    filled xs (take k (drop a xs)) a n (simp (length-take, length-drop) (omega arith))
+    (λ i h. get_or-take k (drop a xs) i 0 (omega arith) ∙ get_or-drop a xs i 0)

@@ -13,7 +13,7 @@ use Rattle.rules.specs.Update.{set_core, set_thread, set_tops, set_outcome}
 use Rattle.tables.specs.Cells.{from, two_at, four_at, Outside, pasted}
 use Rattle.tables.specs.Change.{set_units, set_count, set_top}
 use Rattle.tables.specs.Meaning.{outcome_in, units_in, queue_in, stacklets_in, meaning}
-use Rattle.tables.proofs.Runs.{pasted-in, pasted-out, sets-in, sets-out, filled}
+use Rattle.tables.proofs.Runs.{pasted-in, pasted-out, sets-in, sets-out, filled, part-is}
 use Rattle.tables.proofs.Meaning.{units-put, count-put, core-put, thread-put, thread-is, stacklets-put, outcome-put}
 
 -- the test of the outcome's first cell
@@ -177,14 +177,9 @@ module _ (xs : List ℕ) (a : ℕ) (q : Queue) (fits : a + 34 ≤ length xs) (lo
 
 -- the tops are read and stored by their part
 module _ (xs words memory : List ℕ) (l : length xs ≡ 904) where
-  part-tops : take 16 (drop 786 xs) ≡ from 0 16 (λ i. get_or xs (786 + i) 0)
-  part-tops =
-      filled xs (take 16 (drop 786 xs)) 786 16 (simp (length-take, length-drop) (omega arith))
-      (λ k h. get_or-take 16 (drop 786 xs) k 0 h ∙ get_or-drop 786 xs k 0)
-
   pub tops_are : tops_of (stacklets_of (take 16 (drop 786 xs))) ≡ (meaning xs words memory).store.tops
   unfolding meaning stacklets_in
-  tops_are = ap (λ (tops : List ℕ). tops_of (stacklets_of tops)) part-tops
+  tops_are = ap (λ (tops : List ℕ). tops_of (stacklets_of tops)) (part-is xs 786 16 16 refl (omega arith))
 
   pub top-store : (ys : List ℕ) (x top : ℕ) → length ys ≡ 16 → tops_of (stacklets_of ys) ≡ set (tops_of (stacklets_of (take 16 (drop 786 xs)))) x top
       → meaning (pasted xs 786 16 ys) words memory ≡ set_top x top (meaning xs words memory)
@@ -195,12 +190,12 @@ module _ (xs words memory : List ℕ) (l : length xs ≡ 904) where
       ∙ ap (λ (tops : List ℕ). set_tops tops (meaning xs words memory)) (e ∙ ap (λ (tops : List ℕ). set tops x top) tops_are)
 
 -- all tops are stored
-pub tops-store : (xs words memory : List ℕ) (s : Stacklets) → length xs ≡ 904 → length s.tops ≡ 16
-    → meaning (sets xs 786 s.tops) words memory ≡ set_tops (tops_of s) (meaning xs words memory)
+pub tops-store : (xs words memory ys : List ℕ) (s : Stacklets) → length xs ≡ 904 → length s.tops ≡ 16 → ys ≡ s.tops
+    → meaning (pasted xs 786 16 ys) words memory ≡ set_tops (tops_of s) (meaning xs words memory)
 unfolding stacklets_in
-tops-store xs words memory s l long =
-    stacklets-put xs (sets xs 786 s.tops) words memory s (λ i o. sets-out xs s.tops 786 (omega arith) i (⊎_elim (λ p. inl p) (λ p. inr (omega arith)) o))
-    (ap stacklets_of (sym (filled (sets xs 786 s.tops) s.tops 786 16 long (λ k h. sym (sets-in xs s.tops 786 k (omega arith) (omega arith))))))
+tops-store xs words memory ys s l long e =
+    stacklets-put xs (pasted xs 786 16 ys) words memory s (pasted-out xs ys 786 16 (omega arith) (ap length e ∙ long))
+    (ap stacklets_of (sym (filled (pasted xs 786 16 ys) s.tops 786 16 long (λ k h. sym (pasted-in xs ys 786 16 (omega arith) (ap length e ∙ long) k h ∙ ap (λ (l : List ℕ). get_or l k 0) e)))))
 
 -- the machine is finished
 pub finished-store : (xs words memory : List ℕ) (v : ℕ) → length xs ≡ 904

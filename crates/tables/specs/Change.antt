@@ -4,7 +4,9 @@ use Rattle.stacklets.specs.Tops.{pushed_tops, popped_tops}
 use Rattle.stacklets.specs.Frames.{pushed_words}
 use Rattle.thread.specs.Thread.{moved_to}
 use Rattle.rules.specs.State.{State, Outcome, going, finished, faulted, thread_at}
-use Rattle.rules.specs.Update.{set_thread, set_tops}
+use Rattle.rules.specs.Update.{set_thread, set_tops, set_free_threads, set_free_stacklets, set_ready}
+use Rattle.tables.specs.declared.lines.Line.{Line}
+use Rattle.tables.specs.declared.lines.Line.TheVariants.{FreeThreads, FreeStacklets, Ready}
 use Rattle.tables.specs.declared.Standing.{Standing}
 use Rattle.tables.specs.declared.Standing.TheVariants.{Going, Over, Failed}
 use Rattle.tables.specs.Meaning.{size, meaning}
@@ -25,6 +27,17 @@ pub record Clears (xs ys : List ℕ) : Type 0 where
   pub zeros : length xs ≡ size → ys ≡ replicate size 0
   pub sized : length ys ≡ length xs
   pub other : (length xs ≢ size) → ys ≡ xs
+
+-- each of the three queues of a state, and the state with another in its place
+abbrev pub queue_of : Line → State → List ℕ
+queue_of FreeThreads s = s.queues.free_threads
+queue_of FreeStacklets s = s.queues.free_stacklets
+queue_of Ready s = s.queues.ready
+
+abbrev pub set_queue : Line → List ℕ → State → State
+set_queue FreeThreads = set_free_threads
+set_queue FreeStacklets = set_free_stacklets
+set_queue Ready = set_ready
 
 -- thread t's next command is at p
 abbrev pub moves_on : ℕ → ℕ → State → State

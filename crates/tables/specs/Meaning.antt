@@ -11,6 +11,8 @@ use Rattle.stacklets.specs.Tops.{tops_of}
 use Rattle.thread.specs.declared.Thread.{Thread}
 use Rattle.cells.specs.Record.{record_at}
 use Rattle.rules.specs.State.{State, Outcome, going, finished, faulted}
+use Rattle.tables.specs.declared.lines.Line.{Line}
+use Rattle.tables.specs.declared.lines.Line.TheVariants.{FreeThreads, FreeStacklets, Ready}
 use Rattle.tables.specs.Cells.{from, two_at, four_at}
 
 -- how many bytes the tables have
@@ -37,6 +39,12 @@ stacklets_in xs = record { tops = from 0 16 (λ x. slice_index xs (786 + x)) }
 
 unfoldable pub queue_in : List ℕ → ℕ → Queue
 queue_in xs a = record { places = from 0 32 (λ i. slice_index xs (a + i)); head = slice_index xs (a + 32); len = slice_index xs (a + 33) }
+
+-- where each queue stands
+abbrev pub place_of : Line → ℕ
+place_of FreeThreads = 802
+place_of FreeStacklets = 836
+place_of Ready = 870
 
 -- what the tables mean, with the words that the machine is lent
 unfoldable pub meaning : List ℕ → List ℕ → List ℕ → State

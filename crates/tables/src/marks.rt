@@ -4,7 +4,7 @@ ghost use Rattle.rules.specs.State.{on_core, is_over, going, finished, faulted};
 ghost use Rattle.rules.specs.Update.{set_core, set_outcome};
 ghost use Rattle.tables.specs.Change.{Reads, Becomes, Clears, set_units, set_count, charges, outcome_by};
 
-use crate::numbers::{four_at, put_four, put_two, two_at};
+use crate::numbers::{four_at, put_four};
 use crate::{SIZE, Standing};
 use std::num::wrapping_add_u32;
 
@@ -32,11 +32,7 @@ pub fn clear(tables: &mut [u8])
     if tables.len() != SIZE {
         return;
     }
-    let mut i: usize = 0;
-    while i < SIZE {
-        tables[i] = 0;
-        i = i + 1;
-    }
+    tables.fill(0);
 }
 
 // The thread on core c; 32 where there is none.
@@ -100,7 +96,7 @@ pub fn charge(tables: &mut [u8], weight: u8)
     ensures { Becomes tables.old tables.new (charges weight) }
 {
     let so_far = units(tables);
-    put_units(tables, wrapping_add_u32(so_far, weight as u32));
+    put_units(tables, wrapping_add_u32(so_far, u32::from(weight)));
 }
 
 // Is the machine over?
@@ -120,17 +116,15 @@ pub fn standing(tables: &[u8]) -> Standing
     if tables.len() != SIZE {
         return Standing::Going;
     }
-    if tables[OVER] == 0 {
-        return Standing::Going;
+    match tables[OVER] {
+        0 => Standing::Going,
+        1 => Standing::Over(four_at(tables, RESULT)),
+        _ => Standing::Failed(
+            tables[FAULT],
+            tables[FAULT_THREAD],
+            u16::from_le_bytes([tables[FAULT_OFFSET], tables[FAULT_OFFSET + 1]]),
+        ),
     }
-    if tables[OVER] == 1 {
-        return Standing::Over(four_at(tables, RESULT));
-    }
-    Standing::Failed(
-        tables[FAULT],
-        tables[FAULT_THREAD],
-        two_at(tables, FAULT_OFFSET),
-    )
 }
 
 // The machine is finished, with a result.
@@ -154,5 +148,5 @@ pub fn fail(tables: &mut [u8], n: u8, t: u8, offset: u16)
     tables[OVER] = 2;
     tables[FAULT] = n;
     tables[FAULT_THREAD] = t;
-    put_two(tables, FAULT_OFFSET, offset);
+    [tables[FAULT_OFFSET], tables[FAULT_OFFSET + 1]] = offset.to_le_bytes();
 }

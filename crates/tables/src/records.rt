@@ -6,10 +6,8 @@ ghost use Rattle.rules.specs.Update.{set_thread};
 ghost use Rattle.tables.specs.Change.{Reads, Becomes, moves_on};
 
 use crate::SIZE;
-use crate::numbers::put_two;
 use cells::{WIDE, read_record, write_record};
 use thread::Thread;
-use thread::record::blank_thread;
 
 // The bytes of the thread table: it stands first in the tables, record after record.
 pub const THREADS: usize = 768;
@@ -26,11 +24,10 @@ pub fn thread_at(tables: &[u8], t: u8) -> Thread
     ensures { Reads tables.now result (λ s. thread_at s (t % 32)) blank_thread }
 {
     if tables.len() != SIZE {
-        return blank_thread();
+        return Thread::blank();
     }
     let a = place_of(t);
-    let e = a + WIDE;
-    read_record(&tables[a..e])
+    read_record(&tables[a..a + WIDE])
 }
 
 // Thread t's record becomes th.
@@ -41,8 +38,7 @@ pub fn put_thread(tables: &mut [u8], t: u8, th: Thread)
         return;
     }
     let a = place_of(t);
-    let e = a + WIDE;
-    write_record(&mut tables[a..e], th);
+    write_record(&mut tables[a..a + WIDE], th);
 }
 
 // Thread t's next command is at p.
@@ -52,5 +48,6 @@ pub fn put_position(tables: &mut [u8], t: u8, p: u16)
     if tables.len() != SIZE {
         return;
     }
-    put_two(tables, place_of(t), p);
+    let a = place_of(t);
+    [tables[a], tables[a + 1]] = p.to_le_bytes();
 }

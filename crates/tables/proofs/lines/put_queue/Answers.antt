@@ -1,19 +1,13 @@
 -- `tables::lines::put_queue` meets its contract. Assumes nothing.
-use Rattle.std.proofs.Common.{◌≡◌, length, arith, length-set, rules}
-use Rattle.tables.proofs.Stores.{queue-in, queue-out}
+use Rattle.tables.proofs.Changes.{changed, unchanged}
+use Rattle.tables.proofs.Meaning.{queue-put}
 use Rattle.tables.proofs.lines.put_queue.Goals as goal
 
-pub write_cells-requires : goal.write_cells-requires
-write_cells-requires c = let long : length c.args.q.places ≡ 32 = search rules in omega arith
-
-pub bounds-tables-at-2 : goal.bounds-tables-at-2
-bounds-tables-at-2 c = simp length-set (omega arith)
+pub returns-then-tables-ne-SIZE : goal.returns-then-tables-ne-SIZE
+returns-then-tables-ne-SIZE c = unchanged c.args.tables.now _ c.if-tables-ne-SIZE.true
 
 pub returns : goal.returns
 returns c =
     let args' = c.args in
-    let long : length args'.q.places ≡ 32 = search rules in
-    rw c.write_cells.ensures (
-      queue-in args'.tables.now args'.at args'.q (omega arith) long,
-      queue-out args'.tables.now args'.at args'.q (omega arith) long,
-    )
+    changed args'.tables.now _ _ c.if-tables-ne-SIZE.false c.put_queue_at.auto.tables
+    (λ words memory. queue-put args'.tables.now _ words memory args'.which _ (rw c.place.ensures.0 at c.put_queue_at.ensures.1) (rw c.place.ensures.0 at c.put_queue_at.ensures.0))
