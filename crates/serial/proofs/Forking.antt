@@ -10,18 +10,18 @@ use lib.ListN.{length, set, take, drop, length-take, length-drop}
 use Rattle.image.specs.Layout.{arguments_of}
 use Rattle.window.specs.declared.Window.{Window}
 use Rattle.window.specs.declared.Cut.{Cut}
-use Rattle.window.specs.declared.Cut.TheVariants.{Parts, BadCut}
-use Rattle.window.specs.Rights.{child_of, cut_at}
+use Rattle.std.specs.Prelude.{Option, Some, None}
+use Rattle.window.specs.Rights.{child_of, rest_of, cut_at}
 use Rattle.window.proofs.Laws.{Cutting, cut-means, cut-made}
 use Rattle.thread.specs.Thread.{with_pending}
 use Rattle.thread.specs.Job.{Job}
 use Rattle.thread.specs.Effect.{asked}
 use Rattle.serial.specs.declared.Routine.{Routine}
 use Rattle.serial.specs.declared.row.Fork.{Fork}
-use Rattle.serial.specs.declared.Ending.{Ending}
-use Rattle.serial.specs.declared.Ending.TheVariants.{ByNumber, ByReturn}
-use Rattle.serial.specs.Serial.{Ended, stopped, and_then, ended_by, assigned, advanced, forked, started_on, arguments_from, weight_at, next_effect, fork_called, call_from}
-use Rattle.serial.specs.Steps.{open_at, Far, IsFork, EndAs, serial_answer}
+use Rattle.serial.specs.declared.Returned.{Returned}
+use Rattle.serial.specs.declared.Halted.{Halted}
+use Rattle.serial.specs.Serial.{Ended, stopped, and_then, assigned, advanced, forked, started_on, arguments_from, weight_at, next_effect, fork_called, call_from}
+use Rattle.serial.specs.Steps.{open_at, Far, IsFork, HaltsAs, ReturnsAs}
 use Rattle.serial.proofs.CommandMet.{weighs, slots-few, next_small, next_of}
 use Rattle.serial.proofs.Turns.{Calls, turn-calls}
 
@@ -43,7 +43,7 @@ module _ {j : Job} {n : ℕ} {whole : Ended} {l : Routine} {m : List ℕ} {left 
   fork-fits = omega (arith, called.1.five, next_small j far.job l far.routine)
 
   -- the cut is in range
-  pub fork-cuts : cut_at l.window f.cut ≡ BadCut → ⊥
+  pub fork-cuts : cut_at l.window f.cut ≡ None → ⊥
   fork-cuts q =
       let x = cut-made l.window f.cut called.1.asks.low called.1.asks.high in
       let z : ◌≡◌ {A = ℕ} 0 1 = cc in
@@ -68,17 +68,23 @@ module _ {j : Job} {n : ℕ} {whole : Ended} {l : Routine} {m : List ℕ} {left 
   fork-deep h = led true (le-leb 32 n h)
 
   -- where it is carried out: the parts of the cut, and the child's arguments
-  module _ {o : Cut} (made : o ≡ cut_at l.window f.cut) {child rest : Window} (cut : o ≡ Parts child rest) {count : ℕ}
+  module _ {o : Option Cut} (made : o ≡ cut_at l.window f.cut) {child rest : Window} (cut : o ≡ Some (record { child = child; rest = rest })) {count : ℕ}
       (given : count ≡ arguments_of j.image f.routine) {arguments : List ℕ} (arguments-are : arguments ≡ take (f.first + count - f.first) (drop f.first l.slots))
       (shallow : n < 32) {deeper : ℕ} (deeper-is : deeper ≡ suc n) where
-    parts : Cutting l.window f.cut child rest
-    parts = cut-means l.window f.cut child rest (sym made ∙ cut)
+    parts : Cutting l.window f.cut (record { child = child; rest = rest })
+    parts = cut-means l.window f.cut _ (sym made ∙ cut)
+
+    is-child : child ≡ child_of l.window f.cut
+    is-child = ap (λ (c : Cut). c.child) parts.is
+
+    is-rest : rest ≡ rest_of l.window f.cut
+    is-rest = ap (λ (c : Cut). c.rest) parts.is
 
     same-arguments : arguments ≡ arguments_from j l f.routine f.first
     same-arguments = let z : f.first + count - f.first ≡ arguments_of j.image f.routine = omega (arith, given) in arguments-are ∙ ap (λ i. take i (drop f.first l.slots)) z
 
     same-child : started_on f.routine arguments child ≡ young
-    same-child = rw (same-arguments, parts.is-child)
+    same-child = rw (same-arguments, is-child)
 
     paid-units : j.allowance - (left - f.weight) ≡ u + weight_at j l
     paid-units = omega (arith, fork.weight, fork.paid, far.most)
@@ -99,30 +105,29 @@ module _ {j : Job} {n : ℕ} {whole : Ended} {l : Routine} {m : List ℕ} {left 
       is = refl;
     }
 
-    -- the child has ended
-    module _ {ending : Ending} {m' : List ℕ} (ends : EndAs j.allowance ran (left - f.weight) m' ending) where
-      continued : and_then (ended_by (serial_answer j.allowance ending) m') onward ≡ whole
-      continued =
-          ap (λ x. and_then x onward) (ends.is ∙ ap (λ x. call_from j deeper x m (j.allowance - (left - f.weight))) same-child
-          ∙ ap (λ x. call_from j x young m (j.allowance - (left - f.weight))) deeper-is ∙ ap (λ x. call_from j (suc n) young m x) paid-units)
-          ∙ led false (lt-leb 32 n shallow)
+    -- the run behind the child's
+    resumed : (ended : Ended) → ended ≡ ran → and_then ended onward ≡ whole
+    resumed ended is =
+        ap (λ x. and_then x onward) (is ∙ ap (λ x. call_from j deeper x m (j.allowance - (left - f.weight))) same-child
+        ∙ ap (λ x. call_from j x young m (j.allowance - (left - f.weight))) deeper-is ∙ ap (λ x. call_from j (suc n) young m x) paid-units)
+        ∙ led false (lt-leb 32 n shallow)
 
-      pub fork-stops : {x left' : ℕ} → ending ≡ ByNumber x left' → (left' ≤ left) × (stopped x m' (j.allowance - left') ≡ whole)
-      fork-stops q = (omega (arith, rw q at ends.less), rw q at continued)
+    -- the child's run ended by a number, and so does this one
+    pub fork-halts : {m' : List ℕ} {h : Halted} → HaltsAs j ran (left - f.weight) m' h → HaltsAs j whole left m' h
+    fork-halts ends = record { less = omega (arith, ends.less); is = resumed _ ends.is }
 
-      pub fork-returns : {v left' : ℕ} {slots : List ℕ} → ending ≡ ByReturn v left' → length m' ≡ 992 → slots ≡ set l.slots f.result v
-          → (left' < left) × (f.result < 16) × Far j n whole (open_at l.routine (l.position + 5) (with_pending l.pending f.result) rest slots) m' left'
-      fork-returns {v} {left'} q same is =
-          let less : left' ≤ left - f.weight = rw q at ends.less in
-          let some = weighs j far.job l far.routine in
-          let next : l.position + 5 ≡ next_of j l = omega (arith, called.1.five) in (
-            omega (arith, less, some, fork.weight, fork.paid),
-            fork-slot,
-            rw (is, parts.is-rest, next) (record {
-              job = far.job;
-              routine = called.1.parent v;
-              memory = same;
-              most = omega (arith, less, far.most);
-              is = rw q at continued;
-            }),
-          )
+    -- the child has returned
+    pub fork-returns : {m' slots : List ℕ} {r : Returned} → ReturnsAs j ran (left - f.weight) m' r → length m' ≡ 992 → slots ≡ set l.slots f.result r.value
+        → (r.left < left) × Far j n whole (open_at l.routine (l.position + 5) (with_pending l.pending f.result) rest slots) m' r.left
+    fork-returns {r = r} ends same is =
+        let some = weighs j far.job l far.routine in
+        let next : l.position + 5 ≡ next_of j l = omega (arith, called.1.five) in (
+          omega (arith, ends.less, some, fork.weight, fork.paid),
+          rw (is, is-rest, next) (record {
+            job = far.job;
+            routine = called.1.parent r.value;
+            memory = same;
+            most = omega (arith, ends.less, far.most);
+            is = resumed _ ends.is;
+          }),
+        )

@@ -7,3 +7,4 @@ pub mod Places
 pub mod Turns
 pub mod Unrolled
 pub mod Whole
+pub mod Zeros

@@ -10,8 +10,7 @@ use Rattle.command.specs.Weight.{weight_of}
 use Rattle.image.specs.Layout.{arguments_of}
 use Rattle.image.proofs.Accepted.{accepted}
 use Rattle.window.specs.declared.Window.{Window}
-use Rattle.window.specs.declared.Share.{Share as SharedWindow}
-use Rattle.window.specs.declared.Share.TheVariants.{Shared, BadShare}
+use Rattle.std.specs.Prelude.{Option, Some, None}
 use Rattle.window.specs.Rights.{share_at, rejoined}
 use Rattle.window.proofs.Laws.{share-made, share-means}
 use Rattle.stacklets.specs.Frames.{slot_of}
@@ -25,7 +24,10 @@ use Rattle.thread.specs.Job.{Job, GoodJob}
 use Rattle.thread.proofs.Widths.{bytes_below}
 use Rattle.serial.specs.declared.Routine.{Routine}
 use Rattle.serial.specs.declared.Ask.{Ask}
-use Rattle.serial.specs.declared.Ask.TheVariants.{GoOn, Join, Call, Stop, Return, Share}
+use Rattle.serial.specs.declared.Ask.TheVariants.{GoOn, Join, Call, Return, Share}
+use Rattle.serial.specs.declared.answer.Stop.{Stop}
+use Rattle.serial.specs.Answer.{number_of_stop}
+use Rattle.std.specs.Prelude.{Result, Ok, Err}
 use Rattle.serial.specs.Serial.{Ended, done, stopped, weight_at, next_effect, carried, call_from}
 use Rattle.serial.specs.Steps.{open_at, Padded, asked_of, slots_after, memory_after, GoodRoutine, InReach, Far, IsFork}
 use Rattle.serial.proofs.CommandMet.{met, weighs, byte-few, place_inside, next_small, next_of}
@@ -82,7 +84,7 @@ pub record Met (j : Job) (n : ℕ) (whole : Ended) (l : Routine) (m : List ℕ) 
   pub effect : e ≡ next_effect j l
 
 -- what the code has once the effect is carried out: what it leaves to the run, the slots and the memory words
-pub record Acted (j : Job) (n : ℕ) (whole : Ended) (l : Routine) (m : List ℕ) (left cost : ℕ) (e : Effect) (k : Ask) (slots' m' : List ℕ) : Type 0 where
+pub record Acted (j : Job) (n : ℕ) (whole : Ended) (l : Routine) (m : List ℕ) (left cost : ℕ) (e : Effect) (k : Result Ask Stop) (slots' m' : List ℕ) : Type 0 where
   pub met : Met j n whole l m left cost e
   pub asked : k ≡ asked_of e l.position
   pub slots : slots' ≡ slots_after j.parameters m l.slots e
@@ -102,7 +104,7 @@ module _ {j : Job} {n : ℕ} {whole : Ended} {l : Routine} {m : List ℕ} {left 
         bytes_below l.position _ 65536 e (wide-here j n l m (j.allowance - left) g w paid-weight e x.effect) (next_small j g l w),
       )
 
-module _ {j : Job} {n : ℕ} {whole : Ended} {l : Routine} {m : List ℕ} {left cost : ℕ} {e : Effect} {k : Ask} {slots m' : List ℕ}
+module _ {j : Job} {n : ℕ} {whole : Ended} {l : Routine} {m : List ℕ} {left cost : ℕ} {e : Effect} {k : Result Ask Stop} {slots m' : List ℕ}
     (t : Acted j n whole l m left cost e k slots m') where
   -- the units so far
   abbrev u : ℕ
@@ -137,25 +139,25 @@ module _ {j : Job} {n : ℕ} {whole : Ended} {l : Routine} {m : List ℕ} {left 
     is = rw (behind, t.memory) (x.0 ∙ far.is);
   }
 
-  pub goes-again : {p : ℕ} → k ≡ GoOn p → Far j n whole (open_at l.routine p l.pending l.window slots) m' (left - cost)
+  pub goes-again : {p : ℕ} → k ≡ Ok (GoOn p) → Far j n whole (open_at l.routine p l.pending l.window slots) m' (left - cost)
   goes-again {p} h = far-on _ (rw t.slots (turn-goes j n l m u good well paid e t.met.effect p (sym t.asked ∙ h)))
 
-  pub join-fits : k ≡ Join → l.position + 1 < 65536
+  pub join-fits : k ≡ Ok Join → l.position + 1 < 65536
   join-fits h = omega (arith, (turn-joins j n l m u good well paid e t.met.effect (sym t.asked ∙ h)).2, next_small j good l well)
 
-  pub joins-on : k ≡ Join → Far j n whole (open_at l.routine (l.position + 1) 0 (rejoined l.window) slots) m' (left - cost)
+  pub joins-on : k ≡ Ok Join → Far j n whole (open_at l.routine (l.position + 1) 0 (rejoined l.window) slots) m' (left - cost)
   joins-on h =
       let x = turn-joins j n l m u good well paid e t.met.effect (sym t.asked ∙ h) in
       far-on _ (rw t.slots (x.0, x.1))
 
-  pub stops-run : {x : ℕ} → k ≡ Stop x → stopped x m' u ≡ whole
-  stops-run {x} h = rw t.memory (turn-stops j n l m u good well paid e t.met.effect x (sym t.asked ∙ h) ∙ far.is)
+  pub stops-run : {by : Stop} → k ≡ Err by → stopped (number_of_stop by) m' u ≡ whole
+  stops-run {by} h = rw t.memory (turn-stops j n l m u good well paid e t.met.effect by (sym t.asked ∙ h) ∙ far.is)
 
-  pub returns-run : {v : ℕ} → k ≡ Return v → done v m' (j.allowance - (left - cost)) ≡ whole
+  pub returns-run : {v : ℕ} → k ≡ Ok (Return v) → done v m' (j.allowance - (left - cost)) ≡ whole
   returns-run {v} h = rw (t.memory, behind) (turn-returns j n l m u good well paid e t.met.effect v (sym t.asked ∙ h) ∙ far.is)
 
   -- the ceiling goes down
-  module _ {s : ℕ} (h : k ≡ Share s) where
+  module _ {s : ℕ} (h : k ≡ Ok (Share s)) where
     shared-turn : (call_from j n l m u ≡ carried j (call_from j) n l m u e) × Sharing j n l m u s e
     shared-turn = turn-shares j n l m u good well paid e t.met.effect s (sym t.asked ∙ h)
 
@@ -163,13 +165,13 @@ module _ {j : Job} {n : ℕ} {whole : Ended} {l : Routine} {m : List ℕ} {left 
     share-fits = omega (arith, shared-turn.1.two, next_small j good l well)
 
     -- s is in range
-    pub share-good : share_at l.window s ≡ BadShare → ⊥
+    pub share-good : share_at l.window s ≡ None → ⊥
     share-good q =
         let x = share-made l.window s shared-turn.1.asks.low shared-turn.1.asks.high in
         let z : ◌≡◌ {A = ℕ} 0 1 = cc in
         omega arith
 
-    pub shares-on : {o : SharedWindow} → o ≡ share_at l.window s → {w : Window} → o ≡ Shared w
+    pub shares-on : {o : Option Window} → o ≡ share_at l.window s → {w : Window} → o ≡ Some w
         → Far j n whole (open_at l.routine (l.position + 2) l.pending w slots) m' (left - cost)
     shares-on made is =
         let next : l.position + 2 ≡ next_of j l = omega (arith, shared-turn.1.two) in
@@ -177,8 +179,8 @@ module _ {j : Job} {n : ℕ} {whole : Ended} {l : Routine} {m : List ℕ} {left 
         (far-on _ (rw t.slots (sym (shared-turn.0 ∙ shared-turn.1.leads.is), shared-turn.1.leads.good)))
 
   -- a child runs first: slots and memory are as they were
-  module _ {c r d a : ℕ} (h : k ≡ Call c r d a) where
-    asks : asked_of e l.position ≡ Call c r d a
+  module _ {c r d a : ℕ} (h : k ≡ Ok (Call c r d a)) where
+    asks : asked_of e l.position ≡ Ok (Call c r d a)
     asks = sym t.asked ∙ h
 
     same-slots : slots ≡ l.slots

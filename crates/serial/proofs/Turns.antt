@@ -10,6 +10,7 @@ use Rattle.command.specs.Command.{width_of}
 use Rattle.image.specs.Layout.{slots_of}
 use Rattle.window.specs.Rights.{child_of, sharing_of, rejoined}
 use Rattle.thread.specs.declared.Effect.{Effect}
+use Rattle.thread.specs.Effect.{number_of_fault}
 use Rattle.thread.specs.declared.Effect.TheVariants.{Faults, Sets, Loads, Stores, Goes, Continues, Lforks, Forks, Joins, Suspends, Yields, Returns, Shares}
 use Rattle.thread.specs.Job.{Job, GoodJob, byte_at}
 use Rattle.met.proofs.CommandMet.{ForkMet, ShareMet}
@@ -17,41 +18,45 @@ use Rattle.thread.proofs.Widths.{Widened}
 use Rattle.thread.specs.Effect.{asked}
 use Rattle.serial.specs.declared.Routine.{Routine}
 use Rattle.serial.specs.declared.Ask.{Ask}
-use Rattle.serial.specs.declared.Ask.TheVariants.{GoOn, Join, Call, Stop, Return, Share}
+use Rattle.serial.specs.declared.Ask.TheVariants.{GoOn, Join, Call, Return, Share}
+use Rattle.serial.specs.declared.answer.Stop.{Stop}
+use Rattle.serial.specs.declared.answer.Stop.TheVariants.{Fault}
+use Rattle.serial.specs.Answer.{number_of_stop}
+use Rattle.std.specs.Prelude.{Result, Ok, Err}
 use Rattle.serial.specs.Serial.{done, stopped, assigned, advanced, forked, started_on, arguments_from, weight_at, next_effect, fork_called, carried, call_from}
 use Rattle.serial.specs.Steps.{open_at, asked_of, slots_after, memory_after, GoodRoutine}
 use Rattle.serial.proofs.CommandMet.{Next, next-met, met, Known, width-met}
 use Rattle.serial.proofs.Unrolled.{unrolled}
 
 -- a number for each case, by which two are told apart
-kind : Ask → ℕ
-kind (GoOn p) = 0
-kind Join = 1
-kind (Call c r d a) = 2
-kind (Stop x) = 3
-kind (Return v) = 4
-kind (Share x) = 5
+kind : Result Ask Stop → ℕ
+kind (Ok (GoOn p)) = 0
+kind (Ok Join) = 1
+kind (Ok (Call c r d a)) = 2
+kind (Ok (Return v)) = 3
+kind (Ok (Share x)) = 4
+kind (Err by) = 5
 
-unlike : {A : Type 0} (x y : Ask) → x ≡ y → (kind x ≡ kind y → ⊥) → A
+unlike : {A : Type 0} (x y : Result Ask Stop) → x ≡ y → (kind x ≡ kind y → ⊥) → A
 unlike x y e f = absurd (f (ap kind e))
 
-same-go : (p q : ℕ) → GoOn p ≡ GoOn q → p ≡ q
+same-go : (p q : ℕ) → ◌≡◌ {A = Result Ask Stop} (Ok (GoOn p)) (Ok (GoOn q)) → p ≡ q
 same-go p q h = cc
 
-same-call : (c r d a c' r' d' a' : ℕ) → Call c r d a ≡ Call c' r' d' a' → (c ≡ c') × (r ≡ r') × (d ≡ d') × (a ≡ a')
+same-call : (c r d a c' r' d' a' : ℕ) → ◌≡◌ {A = Result Ask Stop} (Ok (Call c r d a)) (Ok (Call c' r' d' a')) → (c ≡ c') × (r ≡ r') × (d ≡ d') × (a ≡ a')
 same-call c r d a c' r' d' a' h = (cc, cc, cc, cc)
 
-same_stop : (x y : ℕ) → Stop x ≡ Stop y → x ≡ y
+same_stop : (x y : Stop) → ◌≡◌ {A = Result Ask Stop} (Err x) (Err y) → x ≡ y
 same_stop x y h = cc
 
-same-return : (x y : ℕ) → Return x ≡ Return y → x ≡ y
+same-return : (x y : ℕ) → ◌≡◌ {A = Result Ask Stop} (Ok (Return x)) (Ok (Return y)) → x ≡ y
 same-return x y h = cc
 
-same-share : (x y : ℕ) → Share x ≡ Share y → x ≡ y
+same-share : (x y : ℕ) → ◌≡◌ {A = Result Ask Stop} (Ok (Share x)) (Ok (Share y)) → x ≡ y
 same-share x y h = cc
 
 -- the position that the code goes on at is the one behind the command
-behind : (p i width next : ℕ) → GoOn (p + i) ≡ GoOn next → width ≡ i → next ≡ p + width
+behind : (p i width next : ℕ) → ◌≡◌ {A = Result Ask Stop} (Ok (GoOn (p + i))) (Ok (GoOn next)) → width ≡ i → next ≡ p + width
 behind p i width next h e = sym (same-go (p + i) next h) ∙ ap (λ z. p + z) (sym e)
 
 module _ (j : Job) (n : ℕ) (l : Routine) (m : List ℕ) (u : ℕ) where
@@ -66,7 +71,7 @@ module _ (j : Job) (n : ℕ) (l : Routine) (m : List ℕ) (u : ℕ) where
     pub is : carried j (call_from j) n l m u e ≡ call_from j n l' (memory_after m e) (u + weight_at j l)
     pub good : GoodRoutine j l'
 
-  pub goes : (e : Effect) (next : ℕ) → asked_of e l.position ≡ GoOn next → Widened width e → Next j l e
+  pub goes : (e : Effect) (next : ℕ) → asked_of e l.position ≡ Ok (GoOn next) → Widened width e → Next j l e
       → Leads e (open_at l.routine next l.pending l.window (after e))
   unfolding asked_of carried slots_after memory_after kind
   goes (Faults x) next h k g = unlike _ _ h (λ z. omega arith)
@@ -83,7 +88,7 @@ module _ (j : Job) (n : ℕ) (l : Routine) (m : List ℕ) (u : ℕ) where
   goes (Returns v) next h k g = unlike _ _ h (λ z. omega arith)
   goes (Shares x) next h k g = unlike _ _ h (λ z. omega arith)
 
-  pub joins : (e : Effect) → asked_of e l.position ≡ Join → Widened width e → Next j l e
+  pub joins : (e : Effect) → asked_of e l.position ≡ Ok Join → Widened width e → Next j l e
       → (width ≡ 1) × (Leads e (open_at l.routine (l.position + width) 0 (rejoined l.window) (after e)))
   unfolding asked_of carried slots_after memory_after kind
   joins (Faults x) h k g = unlike _ _ h (λ z. omega arith)
@@ -100,9 +105,9 @@ module _ (j : Job) (n : ℕ) (l : Routine) (m : List ℕ) (u : ℕ) where
   joins (Returns v) h k g = unlike _ _ h (λ z. omega arith)
   joins (Shares x) h k g = unlike _ _ h (λ z. omega arith)
 
-  pub stops : (e : Effect) (x : ℕ) → asked_of e l.position ≡ Stop x → carried j (call_from j) n l m u e ≡ stopped x (memory_after m e) u
+  pub stops : (e : Effect) (by : Stop) → asked_of e l.position ≡ Err by → carried j (call_from j) n l m u e ≡ stopped (number_of_stop by) (memory_after m e) u
   unfolding asked_of carried memory_after kind
-  stops (Faults y) x h = ap (λ z. stopped z m u) (same_stop y x h)
+  stops (Faults y) x h = ap (λ z. stopped (number_of_stop z) m u) (same_stop (Fault y) x h)
   stops (Sets d v) x h = unlike _ _ h (λ z. omega arith)
   stops (Loads d a) x h = unlike _ _ h (λ z. omega arith)
   stops (Stores a v) x h = unlike _ _ h (λ z. omega arith)
@@ -116,7 +121,7 @@ module _ (j : Job) (n : ℕ) (l : Routine) (m : List ℕ) (u : ℕ) where
   stops (Returns v) x h = unlike _ _ h (λ z. omega arith)
   stops (Shares y) x h = unlike _ _ h (λ z. omega arith)
 
-  pub returns : (e : Effect) (v : ℕ) → asked_of e l.position ≡ Return v
+  pub returns : (e : Effect) (v : ℕ) → asked_of e l.position ≡ Ok (Return v)
       → carried j (call_from j) n l m u e ≡ done v (memory_after m e) (u + weight_at j l)
   unfolding asked_of carried memory_after kind
   returns (Faults y) v h = unlike _ _ h (λ z. omega arith)
@@ -153,7 +158,7 @@ module _ (j : Job) (n : ℕ) (l : Routine) (m : List ℕ) (u : ℕ) where
   by-fork e c' r' d' a' c r d a q x = rw (← q.0, ← q.1, ← q.2, ← q.3) x
 
   module _ (good : GoodJob j) (g : GoodRoutine j l) where
-    calls : (e : Effect) (c r d a : ℕ) → asked_of e l.position ≡ Call c r d a → Widened width e → Known j good l g e → Next j l e
+    calls : (e : Effect) (c r d a : ℕ) → asked_of e l.position ≡ Ok (Call c r d a) → Widened width e → Known j good l g e → Next j l e
         → Calls c r d a e
     unfolding asked_of carried slots_after memory_after kind
     calls (Faults y) c r d a h w k x = unlike _ _ h (λ z. omega arith)
@@ -172,7 +177,7 @@ module _ (j : Job) (n : ℕ) (l : Routine) (m : List ℕ) (u : ℕ) where
     calls (Returns v) c r d a h w k x = unlike _ _ h (λ z. omega arith)
     calls (Shares y) c r d a h w k x = unlike _ _ h (λ z. omega arith)
 
-    shares : (e : Effect) (x : ℕ) → asked_of e l.position ≡ Share x → Widened width e → Known j good l g e → Next j l e → Sharing x e
+    shares : (e : Effect) (x : ℕ) → asked_of e l.position ≡ Ok (Share x) → Widened width e → Known j good l g e → Next j l e → Sharing x e
     unfolding asked_of carried slots_after memory_after kind
     shares (Faults y) x h w k s = unlike _ _ h (λ z. omega arith)
     shares (Sets d v) x h w k s = unlike _ _ h (λ z. omega arith)
@@ -213,12 +218,12 @@ module _ (j : Job) (n : ℕ) (l : Routine) (m : List ℕ) (u : ℕ) where
         wide-here = rw is (width-met j good l g)
 
         -- the run, by what the effect leaves to it
-        pub turn-goes : (p : ℕ) → asked_of e l.position ≡ GoOn p
+        pub turn-goes : (p : ℕ) → asked_of e l.position ≡ Ok (GoOn p)
             → (call_from j n (open_at l.routine p l.pending l.window (after e)) (memory_after m e) (u + weight_at j l) ≡ call_from j n l m u)
             × GoodRoutine j (open_at l.routine p l.pending l.window (after e))
         turn-goes p q = let x = goes e p q wide-here next in (sym (turned ∙ x.is), x.good)
 
-        pub turn-joins : asked_of e l.position ≡ Join
+        pub turn-joins : asked_of e l.position ≡ Ok Join
             → (call_from j n (open_at l.routine (l.position + 1) 0 (rejoined l.window) (after e)) (memory_after m e) (u + weight_at j l) ≡ call_from j n l m u)
             × GoodRoutine j (open_at l.routine (l.position + 1) 0 (rejoined l.window) (after e)) × (width ≡ 1)
         turn-joins q =
@@ -227,16 +232,16 @@ module _ (j : Job) (n : ℕ) (l : Routine) (m : List ℕ) (u : ℕ) where
             × GoodRoutine j (open_at l.routine (l.position + i) 0 (rejoined l.window) (after e)) × (width ≡ i)) x.0
             (sym (turned ∙ x.1.is), x.1.good, refl)
 
-        pub turn-stops : (x : ℕ) → asked_of e l.position ≡ Stop x → stopped x (memory_after m e) u ≡ call_from j n l m u
+        pub turn-stops : (by : Stop) → asked_of e l.position ≡ Err by → stopped (number_of_stop by) (memory_after m e) u ≡ call_from j n l m u
         turn-stops x q = sym (turned ∙ stops e x q)
 
-        pub turn-returns : (v : ℕ) → asked_of e l.position ≡ Return v → done v (memory_after m e) (u + weight_at j l) ≡ call_from j n l m u
+        pub turn-returns : (v : ℕ) → asked_of e l.position ≡ Ok (Return v) → done v (memory_after m e) (u + weight_at j l) ≡ call_from j n l m u
         turn-returns v q = sym (turned ∙ returns e v q)
 
-        pub turn-calls : (c r d a : ℕ) → asked_of e l.position ≡ Call c r d a
+        pub turn-calls : (c r d a : ℕ) → asked_of e l.position ≡ Ok (Call c r d a)
             → (call_from j n l m u ≡ fork_called j (call_from j) n l (asked r d a c) m u) × Calls c r d a e
         turn-calls c r d a q = let x = calls e c r d a q wide-here known next in (turned ∙ x.is, x)
 
-        pub turn-shares : (x : ℕ) → asked_of e l.position ≡ Share x
+        pub turn-shares : (x : ℕ) → asked_of e l.position ≡ Ok (Share x)
             → (call_from j n l m u ≡ carried j (call_from j) n l m u e) × Sharing x e
         turn-shares x q = (turned, shares e x q wide-here known next)

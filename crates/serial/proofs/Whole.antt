@@ -1,16 +1,15 @@
 -- The whole-run tests of the serial run in their order, and what they give: a good job and a good first routine. Assumes nothing.
 use mathlib.Core.List.{List}
-use mathlib.Core.Path.{◌≡◌, sym, ◌∙◌, ap}
+use mathlib.Core.Path.{◌≡◌, sym, ◌∙◌}
 use Prim.Native.Nat.{ℕ, ◌-◌, ◌≤◌, ◌<◌}
 use native.Mathlib.Omega.{arith}
 use borrow.Author.Tests.{eq-eqb, ne_eqb}
 use lib.ListN.{get_or, length}
+use Rattle.std.specs.Prelude.{Ok, Err}
 use Rattle.command.proofs.Tables.{weight-least}
-use Rattle.image.specs.declared.Verdict.TheVariants.{Accepted, Rejected}
 use Rattle.image.specs.declared.Refusal.{Refusal}
-use Rattle.image.specs.declared.Checked.{Checked}
 use Rattle.image.specs.Layout.{arguments_of, program_of, starts_in}
-use Rattle.image.specs.Image.{image_verdict, image_answer, program_for, number_of_refusal}
+use Rattle.image.specs.Image.{image_verdict, number_of_refusal}
 use Rattle.image.proofs.Accepted.{accepted}
 use Rattle.image.proofs.Laws.{slots-most, arguments-most}
 use Rattle.image.proofs.Places.{starts-at}
@@ -18,21 +17,15 @@ use Rattle.window.specs.declared.Window.{Window}
 use Rattle.window.specs.Rights.{root_window}
 use Rattle.window.proofs.Laws.{root-fits}
 use Rattle.thread.specs.Job.{Job, job_of, GoodJob}
-use Rattle.serial.specs.Serial.{Ended, stopped, started_on, call_from, serial_from, serial_of}
-use Rattle.serial.specs.Steps.{Far}
+use Rattle.serial.specs.Serial.{Ended, stopped, ended_by, started_on, call_from, serial_from, serial_of}
+use Rattle.serial.specs.declared.Returned.{Returned}
+use Rattle.serial.specs.declared.Halted.{Halted}
+use Rattle.serial.specs.Steps.{Far, EndAs, left_of, serial_answer}
+use Rattle.std.specs.Prelude.{Result, Ok, Err}
 use Rattle.serial.proofs.CommandMet.{fresh}
 
-pub verdict-is : (s : List ℕ) (r : Checked) → r ≡ image_answer s → r.verdict ≡ image_verdict s
-unfolding image_answer
-verdict-is s r e = rw e
-
-pub program-is : (s : List ℕ) (r : Checked) → r ≡ image_answer s → r.verdict ≡ Accepted → r.program ≡ program_of s
-unfolding image_answer
-program-is s r e h =
-    ap (λ (x : Checked). x.program) e ∙ ap (λ v. program_for v s) (sym (verdict-is s r e) ∙ h)
-
 -- the job of an accepted image is good
-pub good-job : (image parameters : List ℕ) (allowance : ℕ) → image_verdict image ≡ Accepted → ((i : ℕ) → get_or image i 0 < 256) → length parameters ≡ 32
+pub good-job : (image parameters : List ℕ) (allowance : ℕ) → image_verdict image ≡ Ok tt → ((i : ℕ) → get_or image i 0 < 256) → length parameters ≡ 32
     → GoodJob (job_of image (starts_in (program_of image)) parameters allowance)
 good-job image parameters allowance h bytes many = record {
   image = h;
@@ -46,32 +39,32 @@ module _ (image parameters arguments memory : List ℕ) (allowance : ℕ) where
   abbrev j : Job
   j = job_of image (starts_in (program_of image)) parameters allowance
 
-  pub refused : (x : Refusal) → image_verdict image ≡ Rejected x → stopped (number_of_refusal x) memory 0 ≡ serial_of j arguments memory
+  pub refused : (x : Refusal) → image_verdict image ≡ Err x → stopped (number_of_refusal x) memory 0 ≡ serial_of j arguments memory
   unfolding serial_of
   refused x h = rw h
 
-  pub wrong-count : image_verdict image ≡ Accepted → (length arguments ≡ arguments_of image 0 → ⊥) → stopped 24 memory 0 ≡ serial_of j arguments memory
+  pub wrong-count : image_verdict image ≡ Ok tt → (length arguments ≡ arguments_of image 0 → ⊥) → stopped 24 memory 0 ≡ serial_of j arguments memory
   unfolding serial_of
   wrong-count h c = rw (h, ne_eqb (length arguments) (arguments_of image 0) c)
 
-  pub wrong-parameters : image_verdict image ≡ Accepted → length arguments ≡ arguments_of image 0 → (length parameters ≡ 32 → ⊥)
+  pub wrong-parameters : image_verdict image ≡ Ok tt → length arguments ≡ arguments_of image 0 → (length parameters ≡ 32 → ⊥)
       → stopped 25 memory 0 ≡ serial_of j arguments memory
   unfolding serial_of
   wrong-parameters h c q = rw (h, eq-eqb (length arguments) (arguments_of image 0) c, ne_eqb (length parameters) 32 q)
 
-  pub wrong-memory : image_verdict image ≡ Accepted → length arguments ≡ arguments_of image 0 → length parameters ≡ 32 → (length memory ≡ 992 → ⊥)
+  pub wrong-memory : image_verdict image ≡ Ok tt → length arguments ≡ arguments_of image 0 → length parameters ≡ 32 → (length memory ≡ 992 → ⊥)
       → stopped 25 memory 0 ≡ serial_of j arguments memory
   unfolding serial_of
   wrong-memory h c q w =
       rw (h, eq-eqb (length arguments) (arguments_of image 0) c, eq-eqb (length parameters) 32 q, ne_eqb (length memory) 992 w)
 
-  pub all_right : image_verdict image ≡ Accepted → length arguments ≡ arguments_of image 0 → length parameters ≡ 32 → length memory ≡ 992
+  pub all_right : image_verdict image ≡ Ok tt → length arguments ≡ arguments_of image 0 → length parameters ≡ 32 → length memory ≡ 992
       → serial_of j arguments memory ≡ serial_from j arguments memory
   unfolding serial_of
   all_right h c q w =
       rw (h, eq-eqb (length arguments) (arguments_of image 0) c, eq-eqb (length parameters) 32 q, eq-eqb (length memory) 992 w)
 
-  module _ (h : image_verdict image ≡ Accepted) where
+  module _ (h : image_verdict image ≡ Ok tt) where
     pub few-arguments : length arguments ≡ arguments_of image 0 → length arguments ≤ 16
     few-arguments c =
         let a = accepted image h in
@@ -97,3 +90,13 @@ module _ (image parameters arguments memory : List ℕ) (allowance : ℕ) where
       pub whole_run : (o : Ended) → length parameters ≡ 32 → length memory ≡ 992 → o ≡ run → o ≡ serial_of j arguments memory
       unfolding serial_from
       whole_run o q w e = rw (starts-are, root_is) at e ∙ sym (all_right h c q w)
+
+-- a run that has ended, as its answer
+pub ended-less : (j : Job) (whole : Ended) (most : ℕ) (m : List ℕ) (o : Result Returned Halted) → EndAs j whole most m o → left_of o ≤ most
+ended-less j whole most m (Ok r) e = e.less
+ended-less j whole most m (Err h) e = e.less
+
+pub ended-is : (j : Job) (whole : Ended) (most : ℕ) (m : List ℕ) (o : Result Returned Halted) → EndAs j whole most m o
+    → ended_by (serial_answer j.allowance o) m ≡ whole
+ended-is j whole most m (Ok r) e = e.is
+ended-is j whole most m (Err h) e = e.is

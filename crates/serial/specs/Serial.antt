@@ -1,24 +1,25 @@
 -- The serial run, document 01's "plain run": each fork is a call. "It holds memory, units, and per open routine slots, pending slots,
 -- window, mark and position"; T-04: "the plain run following these rules too", so a window has its ceiling and read span here as well.
-use Rattle.std.specs.Prelude.{cond, not, List, ◌++◌, ℕ, zero, suc, ◌+◌, ◌-◌, ltb, leb, eqb, set, take, drop, length, replicate}
+use Rattle.std.specs.Prelude.{cond, not, List, ◌++◌, ℕ, zero, suc, ◌+◌, ◌-◌, ltb, leb, eqb, set, take, drop, length, replicate, Result, Ok, Err}
 use Rattle.command.specs.Command.{decoded_at, width_of}
 use Rattle.command.specs.Weight.{weight_of}
-use Rattle.image.specs.declared.Verdict.{Verdict}
-use Rattle.image.specs.declared.Verdict.TheVariants.{Accepted, Rejected}
+use Rattle.image.specs.Code.{Verdict}
 use Rattle.image.specs.Layout.{arguments_of}
 use Rattle.image.specs.Image.{image_verdict, number_of_refusal}
 use Rattle.window.specs.declared.Window.{Window}
 use Rattle.window.specs.Rights.{root_window, child_of, rest_of, sharing_of, rejoined}
 use Rattle.stacklets.specs.Frames.{slot_of}
 use Rattle.thread.specs.declared.Effect.{Effect}
+use Rattle.thread.specs.Effect.{number_of_fault}
 use Rattle.thread.specs.declared.Effect.TheVariants.{Faults, Sets, Loads, Stores, Goes, Continues, Lforks, Forks, Joins, Suspends, Yields, Returns, Shares}
 use Rattle.thread.specs.Effect.{Asked, asked, effect_of}
 use Rattle.thread.specs.View.{context_of}
 use Rattle.thread.specs.Thread.{is_pending, with_pending}
 use Rattle.thread.specs.Job.{Job, offset_at, byte_at, word_at}
 use Rattle.serial.specs.declared.Routine.{Routine}
-use Rattle.serial.specs.declared.SerialAnswer.{SerialAnswer}
-use Rattle.serial.specs.declared.SerialAnswer.TheVariants.{Returned, Stopped}
+use Rattle.serial.specs.declared.answer.Finished.{Finished}
+use Rattle.serial.specs.declared.answer.Stopped.{Stopped}
+use Rattle.serial.specs.Answer.{number_of_stop}
 
 -- how a run or a call ends: "It gives result and units, or the number it ended by and the units so far", memory as it then is
 pub data Ended : Type 0 where
@@ -26,9 +27,9 @@ pub data Ended : Type 0 where
   stopped : ℕ → List ℕ → ℕ → Ended
 
 -- how the run ended, of an answer and the memory words: "It gives result and units, or the number it ended by and the units so far"
-abbrev pub ended_by : SerialAnswer → List ℕ → Ended
-ended_by (Returned result units) memory = done result memory units
-ended_by (Stopped number units) memory = stopped number memory units
+abbrev pub ended_by : Result Finished Stopped → List ℕ → Ended
+ended_by (Ok a) memory = done a.result memory a.units
+ended_by (Err a) memory = stopped (number_of_stop a.by) memory a.units
 
 -- an open routine, going on
 abbrev pub jumped_to : ℕ → Routine → Routine
@@ -96,7 +97,7 @@ module _ (j : Job) (call : Call) where
 
   -- a command by its effect: "01 to 07 act by the table"; "suspend and yield only cost"
   unfoldable pub carried : ℕ → Routine → List ℕ → ℕ → Effect → Ended
-  carried n l m u (Faults x) = stopped x m u
+  carried n l m u (Faults x) = stopped (number_of_fault x) m u
   carried n l m u (Sets d v) = call n (advanced j (assigned d v l)) m (u + weight_at j l)
   carried n l m u (Loads d a) = call n (advanced j (assigned d (word_at j m a) l)) m (u + weight_at j l)
   carried n l m u (Stores a v) = call n (advanced j l) (set m (a - 32) v) (u + weight_at j l)
@@ -128,8 +129,8 @@ serial_from j arguments memory = call_from j 1 (started_on 0 arguments root_wind
 
 -- an image's number, or what follows it
 abbrev pub by_verdict : Verdict → List ℕ → Ended → Ended
-by_verdict (Rejected n) memory run = stopped (number_of_refusal n) memory 0
-by_verdict Accepted memory run = run
+by_verdict (Err n) memory run = stopped (number_of_refusal n) memory 0
+by_verdict (Ok tt) memory run = run
 
 -- "Plain run: image, 24, 25", then the run; the number and nothing changed where one is met
 unfoldable pub serial_of : Job → List ℕ → List ℕ → Ended

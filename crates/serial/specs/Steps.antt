@@ -1,27 +1,30 @@
 -- What the private functions of the serial run give, part by part; and what they rely on.
-use Rattle.std.specs.Prelude.{true, List, ◌++◌, ◌≡◌, ℕ, ◌+◌, ◌-◌, ◌≤◌, ◌<◌, get_or, set, take, length, replicate}
+use Rattle.std.specs.Prelude.{true, List, ◌++◌, ◌≡◌, ℕ, ◌+◌, ◌-◌, ◌≤◌, ◌<◌, get_or, set, take, length, replicate, Result, Ok, Err}
 use Rattle.image.specs.Layout.{routine_count, code_of}
 use Rattle.image.specs.Code.{commands_of, is_start}
 use Rattle.window.specs.declared.Window.{Window}
-use Rattle.window.specs.Rights.{Fits, rejoined}
+use Rattle.window.specs.Rights.{Fits}
 use Rattle.thread.specs.declared.Effect.{Effect}
+use Rattle.thread.specs.Effect.{number_of_fault}
 use Rattle.thread.specs.declared.Effect.TheVariants.{Faults, Sets, Loads, Stores, Goes, Continues, Lforks, Forks, Joins, Suspends, Yields, Returns, Shares}
-use Rattle.thread.specs.Thread.{with_pending}
 use Rattle.thread.specs.Job.{Job, job_of, word_in, GoodJob}
 use Rattle.serial.specs.declared.Routine.{Routine}
 use Rattle.serial.specs.declared.place.Place.{Place}
 use Rattle.serial.specs.declared.Ask.{Ask}
-use Rattle.serial.specs.declared.Ask.TheVariants.{GoOn, Join, Call, Stop, Return, Share}
+use Rattle.serial.specs.declared.Ask.TheVariants.{GoOn, Join, Call, Return, Share}
 use Rattle.serial.specs.declared.row.Fork.{Fork}
 use Rattle.serial.specs.declared.row.Row.{Row}
-use Rattle.serial.specs.declared.row.Row.TheVariants.{AtJoin, AtFork, AtStop, AtReturn, AtShare}
+use Rattle.serial.specs.declared.row.Row.TheVariants as row
 use Rattle.serial.specs.declared.Turn.{Turn}
-use Rattle.serial.specs.declared.Turn.TheVariants.{AfterJoin, AfterFork, AfterStop, AfterReturn, AfterShare}
-use Rattle.serial.specs.declared.Ending.{Ending}
-use Rattle.serial.specs.declared.Ending.TheVariants.{ByNumber, ByReturn}
-use Rattle.serial.specs.declared.SerialAnswer.{SerialAnswer}
-use Rattle.serial.specs.declared.SerialAnswer.TheVariants.{Returned, Stopped}
-use Rattle.serial.specs.Serial.{Ended, done, stopped, ended_by, weight_at, next_effect, call_from}
+use Rattle.serial.specs.declared.Turn.TheVariants.{GoesOn, Returns as ReturnsWith}
+use Rattle.serial.specs.declared.Returned.{Returned}
+use Rattle.serial.specs.declared.Halted.{Halted}
+use Rattle.serial.specs.declared.answer.Stop.{Stop}
+use Rattle.serial.specs.declared.answer.Stop.TheVariants.{Fault}
+use Rattle.serial.specs.declared.answer.Finished.{Finished}
+use Rattle.serial.specs.declared.answer.Stopped.{Stopped}
+use Rattle.serial.specs.Answer.{number_of_stop}
+use Rattle.serial.specs.Serial.{Ended, done, stopped, weight_at, next_effect, call_from}
 
 -- an open routine of its parts, which the code holds one by one
 abbrev pub open_at : ℕ → ℕ → ℕ → Window → List ℕ → Routine
@@ -32,21 +35,21 @@ open_at routine position pending window slots =
 abbrev pub first_slots : List ℕ → List ℕ
 first_slots arguments = take 16 (arguments ++ replicate 16 0)
 
--- what an effect at a position leaves to the run
-unfoldable pub asked_of : Effect → ℕ → Ask
-asked_of (Faults x) p = Stop x
-asked_of (Sets d v) p = GoOn (p + 4)
-asked_of (Loads d a) p = GoOn (p + 3)
-asked_of (Stores a v) p = GoOn (p + 3)
-asked_of (Goes t) p = GoOn t
-asked_of Continues p = GoOn (p + 4)
-asked_of (Lforks r d a e) p = Call e r d a
-asked_of (Forks r d a e) p = Call e r d a
-asked_of Joins p = Join
-asked_of Suspends p = GoOn (p + 1)
-asked_of Yields p = GoOn (p + 1)
-asked_of (Returns v) p = Return v
-asked_of (Shares x) p = Share x
+-- what an effect at a position leaves to the run, or why it ends
+unfoldable pub asked_of : Effect → ℕ → Result Ask Stop
+asked_of (Faults x) p = Err (Fault x)
+asked_of (Sets d v) p = Ok (GoOn (p + 4))
+asked_of (Loads d a) p = Ok (GoOn (p + 3))
+asked_of (Stores a v) p = Ok (GoOn (p + 3))
+asked_of (Goes t) p = Ok (GoOn t)
+asked_of Continues p = Ok (GoOn (p + 4))
+asked_of (Lforks r d a e) p = Ok (Call e r d a)
+asked_of (Forks r d a e) p = Ok (Call e r d a)
+asked_of Joins p = Ok Join
+asked_of Suspends p = Ok (GoOn (p + 1))
+asked_of Yields p = Ok (GoOn (p + 1))
+asked_of (Returns v) p = Ok (Return v)
+asked_of (Shares x) p = Ok (Share x)
 
 -- the slots behind a command by which the routine goes on
 unfoldable pub slots_after : List ℕ → List ℕ → List ℕ → Effect → List ℕ
@@ -133,7 +136,7 @@ open_in at slots = open_at at.routine at.position at.pending at.window slots
 pub record IsFork (j : Job) (l : Routine) (left : ℕ) (f : Fork) : Type 0 where
   pub weight : f.weight ≡ weight_at j l
   pub paid : f.weight ≤ left
-  pub asked : asked_of (next_effect j l) l.position ≡ Call f.cut f.routine f.result f.first
+  pub asked : asked_of (next_effect j l) l.position ≡ Ok (Call f.cut f.routine f.result f.first)
 
 -- what a row relies on: some run has come to its place, in the code that starts there
 pub record RowReady (image parameters : List ℕ) (code : ℕ) (at : Place) (slots m : List ℕ) : Type 0 where
@@ -142,37 +145,50 @@ pub record RowReady (image parameters : List ℕ) (code : ℕ) (at : Place) (slo
   pub there : code ≡ get_or starts at.routine 0
   pub come : Come image starts parameters depth (open_in at slots) m at.left
 
+-- a run that had come to a place goes on from another one of the same routine, with less of the allowance left
+pub record OnAs (j : Job) (n : ℕ) (whole : Ended) (at : Place) (slots m : List ℕ) (next : Place) : Type 0 where
+  pub less : next.left < at.left
+  pub same : next.routine ≡ at.routine
+  pub far : Far j n whole (open_in next slots) m next.left
+
+-- it ends by a number
+pub record HaltsAs (j : Job) (whole : Ended) (most : ℕ) (m : List ℕ) (h : Halted) : Type 0 where
+  pub less : h.left ≤ most
+  pub is : stopped (number_of_stop h.by) m (j.allowance - h.left) ≡ whole
+
+-- it ends with a value
+pub record ReturnsAs (j : Job) (whole : Ended) (most : ℕ) (m : List ℕ) (r : Returned) : Type 0 where
+  pub less : r.left ≤ most
+  pub is : done r.value m (j.allowance - r.left) ≡ whole
+
+-- it meets a fork
+pub record ForksAs (j : Job) (n : ℕ) (whole : Ended) (at : Place) (slots m : List ℕ) (f : Fork) (here : Place) : Type 0 where
+  pub less : here.left ≤ at.left
+  pub same : here.routine ≡ at.routine
+  pub far : Far j n whole (open_in here slots) m here.left
+  pub fork : IsFork j (open_in here slots) here.left f
+
 -- a run that had come to a row's place, once the row has ended
-abbrev pub RowAs : Job → ℕ → Ended → Place → List ℕ → List ℕ → Row → Type 0
-RowAs j n whole at slots m (AtJoin p left) =
-    (left < at.left) × Far j n whole (open_at at.routine p 0 (rejoined at.window) slots) m left
-RowAs j n whole at slots m (AtFork f p left) =
-    (left ≤ at.left) × Far j n whole (open_at at.routine p at.pending at.window slots) m left
-    × IsFork j (open_at at.routine p at.pending at.window slots) left f
-RowAs j n whole at slots m (AtStop x left) = (left ≤ at.left) × (stopped x m (j.allowance - left) ≡ whole)
-RowAs j n whole at slots m (AtReturn v left) = (left ≤ at.left) × (done v m (j.allowance - left) ≡ whole)
-RowAs j n whole at slots m (AtShare p left w) =
-    (left < at.left) × Far j n whole (open_at at.routine p at.pending w slots) m left
+abbrev pub RowAs : Job → ℕ → Ended → Place → List ℕ → List ℕ → Result Row Halted → Type 0
+RowAs j n whole at slots m (Ok (row.GoesOn next)) = OnAs j n whole at slots m next
+RowAs j n whole at slots m (Ok (row.Forks f here)) = ForksAs j n whole at slots m f here
+RowAs j n whole at slots m (Ok (row.Returns r)) = ReturnsAs j whole at.left m r
+RowAs j n whole at slots m (Err h) = HaltsAs j whole at.left m h
 
 -- what a row gives to every run that had come to its place
-abbrev pub RowFrom : List ℕ → List ℕ → ℕ → Place → List ℕ → List ℕ → List ℕ → List ℕ → Row → Type 0
+abbrev pub RowFrom : List ℕ → List ℕ → ℕ → Place → List ℕ → List ℕ → List ℕ → List ℕ → Result Row Halted → Type 0
 RowFrom image parameters code at slots m slots' m' r =
     (x : RowReady image parameters code at slots m)
     → RowAs (job_of image x.starts parameters x.come.allowance) x.depth x.come.whole at slots' m' r
 
 -- a run that had come to a turn's place, once the turn is over
-abbrev pub TurnAs : Job → ℕ → Ended → Place → List ℕ → List ℕ → Turn → Type 0
-TurnAs j n whole at slots m (AfterJoin p left) =
-    (left < at.left) × Far j n whole (open_at at.routine p 0 (rejoined at.window) slots) m left
-TurnAs j n whole at slots m (AfterFork p left w d) =
-    (left < at.left) × (d < 16) × Far j n whole (open_at at.routine p (with_pending at.pending d) w slots) m left
-TurnAs j n whole at slots m (AfterStop x left) = (left ≤ at.left) × (stopped x m (j.allowance - left) ≡ whole)
-TurnAs j n whole at slots m (AfterReturn v left) = (left ≤ at.left) × (done v m (j.allowance - left) ≡ whole)
-TurnAs j n whole at slots m (AfterShare p left w) =
-    (left < at.left) × Far j n whole (open_at at.routine p at.pending w slots) m left
+abbrev pub TurnAs : Job → ℕ → Ended → Place → List ℕ → List ℕ → Result Turn Halted → Type 0
+TurnAs j n whole at slots m (Ok (GoesOn next)) = OnAs j n whole at slots m next
+TurnAs j n whole at slots m (Ok (ReturnsWith r)) = ReturnsAs j whole at.left m r
+TurnAs j n whole at slots m (Err h) = HaltsAs j whole at.left m h
 
 -- what a turn gives to every run that had come to its place
-abbrev pub TurnFrom : List ℕ → List ℕ → List ℕ → ℕ → Place → List ℕ → List ℕ → List ℕ → List ℕ → Turn → Type 0
+abbrev pub TurnFrom : List ℕ → List ℕ → List ℕ → ℕ → Place → List ℕ → List ℕ → List ℕ → List ℕ → Result Turn Halted → Type 0
 TurnFrom image starts parameters n at slots m slots' m' o =
     (x : Come image starts parameters n (open_in at slots) m at.left)
     → TurnAs (job_of image starts parameters x.allowance) n x.whole at slots' m' o
@@ -182,27 +198,36 @@ pub record ForkReady (image starts parameters : List ℕ) (n : ℕ) (at : Place)
   pub come : Come image starts parameters n (open_in at slots) m at.left
   pub fork : IsFork (job_of image starts parameters come.allowance) (open_in at slots) at.left f
 
+-- a run that had come to a fork, once it is carried out
+abbrev pub ForkAs : Job → ℕ → Ended → Place → List ℕ → List ℕ → Result Place Halted → Type 0
+ForkAs j n whole at slots m (Ok next) = OnAs j n whole at slots m next
+ForkAs j n whole at slots m (Err h) = HaltsAs j whole at.left m h
+
 -- what it gives to every run that had come to the fork
-abbrev pub ForkFrom : List ℕ → List ℕ → List ℕ → ℕ → Place → List ℕ → List ℕ → Fork → List ℕ → List ℕ → Turn → Type 0
+abbrev pub ForkFrom : List ℕ → List ℕ → List ℕ → ℕ → Place → List ℕ → List ℕ → Fork → List ℕ → List ℕ → Result Place Halted → Type 0
 ForkFrom image starts parameters n at slots m f slots' m' o =
     (x : ForkReady image starts parameters n at slots m f)
-    → TurnAs (job_of image starts parameters x.come.allowance) n x.come.whole at slots' m' o
+    → ForkAs (job_of image starts parameters x.come.allowance) n x.come.whole at slots' m' o
 
 -- what is left of the allowance where a routine has ended
-abbrev pub left_of : Ending → ℕ
-left_of (ByNumber x left) = left
-left_of (ByReturn v left) = left
+abbrev pub left_of : Result Returned Halted → ℕ
+left_of (Ok r) = r.left
+left_of (Err h) = h.left
 
 -- the answer of an allowance
-abbrev pub serial_answer : ℕ → Ending → SerialAnswer
-serial_answer allowance (ByNumber x left) = Stopped x (allowance - left)
-serial_answer allowance (ByReturn v left) = Returned v (allowance - left)
+abbrev pub serial_answer : ℕ → Result Returned Halted → Result Finished Stopped
+serial_answer allowance (Ok r) = Ok (record { result = r.value; units = allowance - r.left })
+serial_answer allowance (Err h) = Err (record { by = h.by; units = allowance - h.left })
+
+-- the answer where a test is met before the first command
+abbrev pub refused_by : Stop → Result Finished Stopped
+refused_by by = Err (record { by = by; units = 0 })
 
 -- what a routine's run gives to every run that had come to it
-pub record EndAs (allowance : ℕ) (whole : Ended) (most : ℕ) (m : List ℕ) (o : Ending) : Type 0 where
-  pub less : left_of o ≤ most
-  pub is : ended_by (serial_answer allowance o) m ≡ whole
+abbrev pub EndAs : Job → Ended → ℕ → List ℕ → Result Returned Halted → Type 0
+EndAs j whole most m (Ok r) = ReturnsAs j whole most m r
+EndAs j whole most m (Err h) = HaltsAs j whole most m h
 
-abbrev pub RunFrom : List ℕ → List ℕ → List ℕ → ℕ → Routine → List ℕ → ℕ → List ℕ → Ending → Type 0
+abbrev pub RunFrom : List ℕ → List ℕ → List ℕ → ℕ → Routine → List ℕ → ℕ → List ℕ → Result Returned Halted → Type 0
 RunFrom image starts parameters n l m most m' o =
-    (x : Come image starts parameters n l m most) → EndAs x.allowance x.whole most m' o
+    (x : Come image starts parameters n l m most) → EndAs (job_of image starts parameters x.allowance) x.whole most m' o

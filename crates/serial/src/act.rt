@@ -6,6 +6,7 @@ ghost use Rattle.thread.specs.Job.{word_in};
 ghost use Rattle.serial.specs.Steps.{slots_after, memory_after, asked_of, InReach};
 
 use crate::Ask;
+use crate::answer::Stop;
 use crate::frame::put;
 use image::routines::place_in_image;
 use thread::Effect;
@@ -17,20 +18,12 @@ pub fn code_start(starts: &[u16; 32], routine: u8) -> usize
     place_in_image(starts, routine, 0)
 }
 
-// A byte of the table of weights, as units.
-fn units_of(x: u8) -> u32
-    ensures { result ≡ x }
-{
-    x as u32
-}
-
 // The weight, in a table, of the command with this first byte.
 pub fn cost_of(weights: &[u8; 15], byte: u8) -> u32
     requires { byte < 15 }
     ensures { result ≡ weight_of weights.now byte }
 {
-    let k = byte as usize;
-    units_of(weights[k])
+    u32::from(weights[byte as usize])
 }
 
 // The word at an address.
@@ -54,11 +47,11 @@ pub fn carry_out(
     parameters: &[u32],
     memory: &mut [u32],
     position: u16,
-) -> Ask
+) -> Result<Ask, Stop>
     requires { (length parameters.now ≡ 32) × (length memory.old ≡ 992) × InReach effect × (position + bytes_by effect < 65536) }
     ensures { (slots.new ≡ slots_after parameters.now memory.old slots.old effect) × (memory.new ≡ memory_after memory.old effect) × (result ≡ asked_of effect position) }
 {
-    match effect {
+    let ask = match effect {
         Effect::Sets(d, value) => {
             put(slots, d, value);
             Ask::GoOn(position + 4)
@@ -68,8 +61,7 @@ pub fn carry_out(
             Ask::GoOn(position + 3)
         }
         Effect::Stores(address, value) => {
-            let k = (address as usize) - 32;
-            memory[k] = value;
+            memory[(address as usize) - 32] = value;
             Ask::GoOn(position + 3)
         }
         Effect::Goes(target) => Ask::GoOn(target),
@@ -79,8 +71,9 @@ pub fn carry_out(
         Effect::Joins => Ask::Join,
         Effect::Suspends => Ask::GoOn(position + 1),
         Effect::Yields => Ask::GoOn(position + 1),
-        Effect::Faults(number) => Ask::Stop(number),
+        Effect::Faults(fault) => return Err(Stop::Fault(fault)),
         Effect::Returns(value) => Ask::Return(value),
         Effect::Shares(s) => Ask::Share(s),
-    }
+    };
+    Ok(ask)
 }

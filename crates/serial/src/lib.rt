@@ -2,6 +2,7 @@
 #![tactic(auto)]
 
 mod act;
+pub mod answer;
 mod frame;
 mod padded;
 mod place;
@@ -12,17 +13,17 @@ ghost use Rattle.command.specs.Weight.{standard_weights};
 ghost use Rattle.image.specs.Layout.{program_of, starts_in};
 ghost use Rattle.thread.specs.Job.{job_of};
 ghost use Rattle.serial.specs.Serial.{ended_by, started_on, serial_of};
-ghost use Rattle.serial.specs.Steps.{Padded, Come, ForkReady, ForkFrom, TurnFrom, RunFrom, open_in, left_of, serial_answer};
+ghost use Rattle.serial.specs.Steps.{Padded, Come, ForkReady, ForkFrom, TurnFrom, RunFrom, open_in, left_of, serial_answer, refused_by};
 
 use crate::act::code_start;
-use crate::frame::{lay, put, wide_byte};
+use crate::answer::{Finished, SerialAnswer, Stop, Stopped};
+use crate::frame::{lay, put};
 use crate::padded::pad;
 use crate::place::Place;
 use crate::row::{Fork, Row, run_row};
 use command::weights;
-use image::Verdict;
-use image::number::number_of;
 use image::routines::arguments_of;
+use thread::Fault;
 use window::{Cut, Window};
 
 // An open routine, as the definition of the run has it. The code holds its parts.
@@ -36,13 +37,6 @@ pub struct Routine {
     pub slots: [u32; 16],
 }
 
-// How the run ended, with its units: finished with a result, or by a number.
-#[derive(Clone, Copy)]
-pub enum SerialAnswer {
-    Returned(u32, u32),
-    Stopped(u8, u32),
-}
-
 // What an effect leaves to the run once its slot or its word is written.
 #[derive(Clone, Copy)]
 enum Ask {
@@ -52,34 +46,33 @@ enum Ask {
     Join,
     // a child runs first: cut, routine, result slot, first argument's slot; the cut first, so that no single byte lies where GoOn has its position
     Call(u32, u8, u8, u8),
-    // the run ends by a number
-    Stop(u8),
     // the routine ends with a value
     Return(u32),
     // the routine goes on behind a share of its words from an address on
     Share(u32),
 }
 
-// How a routine ended, with what is left of the allowance: by a number, or with a value.
+// A routine's value, with what is left of the allowance.
 #[derive(Clone, Copy)]
-enum Ending {
-    ByNumber(u8, u32),
-    ByReturn(u32, u32),
+struct Returned {
+    value: u32,
+    left: u32,
 }
 
-// Where a turn led, with what is left of the allowance.
+// Why the run ended before a routine returned, with what is left of the allowance.
+#[derive(Clone, Copy)]
+struct Halted {
+    by: Stop,
+    left: u32,
+}
+
+// Where a turn led.
 #[derive(Clone, Copy)]
 enum Turn {
-    // behind a join: the position
-    AfterJoin(u16, u32),
-    // behind a fork: the position, the rest of the window and the result slot
-    AfterFork(u16, u32, Window, u8),
-    // to the run's end by a number
-    AfterStop(u8, u32),
-    // to the routine's end with a value
-    AfterReturn(u32, u32),
-    // behind a share: the position, and the window with its new ceiling
-    AfterShare(u16, u32, Window),
+    // behind a join, a fork or a share
+    GoesOn(Place),
+    // to the routine's end
+    Returns(Returned),
 }
 
 // Carries out a fork: the child starts on its arguments, the parent's slots from the first on, in its part of the parent's window, and runs
@@ -95,21 +88,27 @@ fn carry_fork(
     at: Place,
     fork: Fork,
     depth: u8,
-) -> Turn
+) -> Result<Place, Halted>
     requires { ForkReady image.now starts.now parameters.now (33 - depth) at slots.old memory.old fork × (depth ≤ 32) × Padded image.now padded.now }
     ensures { ForkFrom image.now starts.now parameters.now (33 - depth) at slots.old memory.old fork slots.new memory.new result }
 {
-    let Cut::Parts { child, rest } = at.window.cut(fork.cut) else {
+    let Some(Cut { child, rest }) = at.window.cut(fork.cut) else {
         // not met: the effect is a fork only where the cut is in range
-        return Turn::AfterStop(11, at.left);
+        return Err(Halted {
+            by: Stop::Fault(Fault::CutOutOfRange),
+            left: at.left,
+        });
     };
     if depth <= 1 {
-        return Turn::AfterStop(26, at.left);
+        return Err(Halted {
+            by: Stop::Depth,
+            left: at.left,
+        });
     }
     let from = fork.first as usize;
-    let end = from + wide_byte(arguments_of(image, fork.routine));
+    let end = from + usize::from(arguments_of(image, fork.routine));
     let all = &slots[..];
-    let ending = run_routine(
+    let returned = run_routine(
         image,
         padded,
         starts,
@@ -120,16 +119,9 @@ fn carry_fork(
         child,
         at.left - fork.weight,
         depth - 1,
-    );
-    match ending {
-        Ending::ByReturn(value, less) => {
-            put(slots, fork.result, value);
-            return Turn::AfterFork(at.position + 5, less, rest, fork.result);
-        }
-        Ending::ByNumber(number, less) => {
-            return Turn::AfterStop(number, less);
-        }
-    }
+    )?;
+    put(slots, fork.result, returned.value);
+    Ok(at.forked(at.position + 5, returned.left, rest, fork.result))
 }
 
 // Runs a row and carries out the fork that may have ended it. `depth` routines may be open from this one on, itself included.
@@ -145,30 +137,19 @@ fn run_turn(
     slots: &mut [u32; 16],
     at: Place,
     depth: u8,
-) -> Turn
+) -> Result<Turn, Halted>
     requires { Come image.now starts.now parameters.now (33 - depth) (open_in at slots.old) memory.old at.left × (depth ≤ 32) × (code ≡ get_or starts.now at.routine 0) × (weights.now ≡ standard_weights) × Padded image.now padded.now }
     ensures { TurnFrom image.now starts.now parameters.now (33 - depth) at slots.old memory.old slots.new memory.new result }
 {
-    let row = run_row(image, padded, weights, code, slots, parameters, memory, at);
-    match row {
-        Row::AtJoin(position, left) => {
-            return Turn::AfterJoin(position, left);
-        }
-        Row::AtFork(fork, position, left) => {
-            let here = at.moved(position, left);
-            return carry_fork(
+    match run_row(image, padded, weights, code, slots, parameters, memory, at)? {
+        Row::GoesOn(next) => Ok(Turn::GoesOn(next)),
+        Row::Forks(fork, here) => {
+            let next = carry_fork(
                 image, padded, starts, parameters, memory, slots, here, fork, depth,
-            );
+            )?;
+            Ok(Turn::GoesOn(next))
         }
-        Row::AtStop(number, left) => {
-            return Turn::AfterStop(number, left);
-        }
-        Row::AtReturn(value, left) => {
-            return Turn::AfterReturn(value, left);
-        }
-        Row::AtShare(position, left, window) => {
-            return Turn::AfterShare(position, left, window);
-        }
+        Row::Returns(returned) => Ok(Turn::Returns(returned)),
     }
 }
 
@@ -185,7 +166,7 @@ fn run_routine(
     start: Window,
     most: u32,
     depth: u8,
-) -> Ending
+) -> Result<Returned, Halted>
     requires { Come image.now starts.now parameters.now (33 - depth) (started_on routine arguments.now start) memory.old most × (depth ≤ 32) × (length arguments.now ≤ 16) × Padded image.now padded.now }
     ensures { RunFrom image.now starts.now parameters.now (33 - depth) (started_on routine arguments.now start) memory.old most memory.new result }
 {
@@ -198,36 +179,36 @@ fn run_routine(
     loop {
         let turn = run_turn(
             image, padded, starts, parameters, memory, &weights, code, &mut slots, at, depth,
-        );
+        )?;
         match turn {
-            Turn::AfterJoin(position, left) => {
-                at = at.joined(position, left);
-            }
-            Turn::AfterFork(position, left, rest, d) => {
-                at = at.forked(position, left, rest, d);
-            }
-            Turn::AfterStop(number, left) => {
-                return Ending::ByNumber(number, left);
-            }
-            Turn::AfterReturn(value, left) => {
-                return Ending::ByReturn(value, left);
-            }
-            Turn::AfterShare(position, left, window) => {
-                at = at.shared(position, left, window);
-            }
+            Turn::GoesOn(next) => at = next,
+            Turn::Returns(returned) => return Ok(returned),
         }
     }
 }
 
 // The answer, with the units of an allowance that are not left.
-fn with_units(ending: Ending, allowance: u32) -> SerialAnswer
+fn with_units(ending: Result<Returned, Halted>, allowance: u32) -> SerialAnswer
     requires { left_of ending ≤ allowance }
     ensures { result ≡ serial_answer allowance ending }
 {
     match ending {
-        Ending::ByReturn(value, left) => SerialAnswer::Returned(value, allowance - left),
-        Ending::ByNumber(number, left) => SerialAnswer::Stopped(number, allowance - left),
+        Ok(returned) => Ok(Finished {
+            result: returned.value,
+            units: allowance - returned.left,
+        }),
+        Err(halted) => Err(Stopped {
+            by: halted.by,
+            units: allowance - halted.left,
+        }),
     }
+}
+
+// The answer of a run that meets one of the tests before its first command.
+fn refused(by: Stop) -> SerialAnswer
+    ensures { result ≡ refused_by by }
+{
+    Err(Stopped { by, units: 0 })
 }
 
 // The serial run of an image on its arguments. It takes any bytes and words.
@@ -240,24 +221,13 @@ pub fn serial(
 ) -> SerialAnswer
     ensures { ended_by result memory.new ≡ serial_of (job_of image.now (starts_in (program_of image.now)) parameters.now allowance) arguments.now memory.old }
 {
-    let checked = image::check(image);
-    let verdict = checked.verdict;
-    match verdict {
-        Verdict::Rejected(refusal) => {
-            return SerialAnswer::Stopped(number_of(refusal), 0);
-        }
-        Verdict::Accepted => {}
+    let program = image::check(image)?;
+    if arguments.len() != usize::from(arguments_of(image, 0)) {
+        return refused(Stop::ArgumentCount);
     }
-    if arguments.len() != (arguments_of(image, 0) as usize) {
-        return SerialAnswer::Stopped(24, 0);
+    if parameters.len() != 32 || memory.len() != 992 {
+        return refused(Stop::BufferLength);
     }
-    if parameters.len() != 32 {
-        return SerialAnswer::Stopped(25, 0);
-    }
-    if memory.len() != 992 {
-        return SerialAnswer::Stopped(25, 0);
-    }
-    let program = checked.program;
     let starts = program.starts();
     let padded = pad(image);
     let ending = run_routine(

@@ -9,12 +9,7 @@ pub fn pad(image: &[u8]) -> [u8; 4104]
     ensures { Padded image.now result }
 {
     let mut padded = [0u8; 4104];
-    let n = image.len();
-    let mut k: usize = 0;
-    while k < n {
-        padded[k] = image[k];
-        k = k + 1;
-    }
+    padded[..image.len()].copy_from_slice(image);
     padded
 }
 

@@ -1,9 +1,13 @@
 // Where an open routine stands. Its slots are held apart.
 ghost use Rattle.std.specs.Prelude.{◌≡◌, ◌<◌};
 ghost use Rattle.window.specs.Rights.{rejoined};
-ghost use Rattle.thread.specs.Thread.{with_pending};
+ghost use Rattle.stacklets.specs.Frames.{slot_of};
+ghost use Rattle.thread.specs.Thread.{is_pending, with_pending};
+ghost use Rattle.thread.specs.View.{context_of};
+ghost use Rattle.effects.specs.View.{seen_by};
 ghost use Rattle.serial.specs.Steps.{place_at};
 
+use effects::View;
 use thread::pending::with_pending;
 use window::Window;
 
@@ -18,6 +22,23 @@ pub struct Place {
 }
 
 impl Place {
+    // What the routine's next command may look at, in its own slots.
+    pub fn view<'a>(self, slots: &'a [u32]) -> View<'a>
+        ensures { seen_by result ≡ context_of (slot_of slots.now 0) (is_pending self.pending) self.window }
+    {
+        let Place {
+            pending,
+            window,
+            ..
+        } = self;
+        View {
+            words: slots,
+            base: 0,
+            pending,
+            window,
+        }
+    }
+
     // A routine's start.
     pub fn first(routine: u8, window: Window, left: u32) -> Place
         ensures { result ≡ place_at routine 0 0 window left }
@@ -35,13 +56,10 @@ impl Place {
     pub fn moved(self, position: u16, left: u32) -> Place
         ensures { result ≡ place_at self.routine position self.pending self.window left }
     {
-        let window = self.window;
         Place {
-            routine: self.routine,
             position,
-            pending: self.pending,
-            window,
             left,
+            ..self
         }
     }
 
@@ -49,13 +67,12 @@ impl Place {
     pub fn joined(self, position: u16, left: u32) -> Place
         ensures { result ≡ place_at self.routine position 0 (rejoined self.window) left }
     {
-        let window = self.window.rejoin();
         Place {
-            routine: self.routine,
             position,
             pending: 0,
-            window,
+            window: self.window.rejoin(),
             left,
+            ..self
         }
     }
 
@@ -64,13 +81,12 @@ impl Place {
         requires { d < 16 }
         ensures { result ≡ place_at self.routine position (with_pending self.pending d) rest left }
     {
-        let pending = with_pending(self.pending, d);
         Place {
-            routine: self.routine,
             position,
-            pending,
+            pending: with_pending(self.pending, d),
             window: rest,
             left,
+            ..self
         }
     }
 
@@ -78,13 +94,11 @@ impl Place {
     pub fn shared(self, position: u16, left: u32, window: Window) -> Place
         ensures { result ≡ place_at self.routine position self.pending window left }
     {
-        let pending = self.pending;
         Place {
-            routine: self.routine,
             position,
-            pending,
             window,
             left,
+            ..self
         }
     }
 }

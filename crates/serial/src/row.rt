@@ -3,13 +3,13 @@ ghost use Rattle.std.specs.Prelude.{◌≡◌};
 ghost use Rattle.command.specs.Weight.{standard_weights};
 ghost use Rattle.serial.specs.Steps.{Padded, RowReady, RowFrom};
 
-use crate::Ask;
 use crate::act::{carry_out, cost_of};
+use crate::answer::Stop;
 use crate::padded::five_of;
 use crate::place::Place;
+use crate::{Ask, Halted, Returned};
 use command::command_of;
-use effects::effect;
-use window::{Share, Window};
+use thread::Fault;
 
 // A fork: where it cuts the window, the child's routine, the slot for its result, the first argument's slot, and its weight.
 #[derive(Clone, Copy)]
@@ -21,19 +21,15 @@ pub struct Fork {
     pub weight: u32,
 }
 
-// What ended a row, with what is left of the allowance.
+// What ended a row.
 #[derive(Clone, Copy)]
 pub enum Row {
-    // a join: the position behind it, and what is left then
-    AtJoin(u16, u32),
-    // a fork, its position, and what is left before it
-    AtFork(Fork, u16, u32),
-    // a test: its number
-    AtStop(u8, u32),
-    // a return: its value
-    AtReturn(u32, u32),
-    // a share: the position behind it, what is left then, and the window with its new ceiling
-    AtShare(u16, u32, Window),
+    // a join or a share, and the routine goes on behind it
+    GoesOn(Place),
+    // a fork, and its place
+    Forks(Fork, Place),
+    // a return
+    Returns(Returned),
 }
 
 // Runs a row from a place on. `code` is where the routine's code starts.
@@ -46,7 +42,7 @@ pub fn run_row(
     parameters: &[u32],
     memory: &mut [u32],
     at: Place,
-) -> Row
+) -> Result<Row, Halted>
     requires { RowReady image.now parameters.now code at slots.old memory.old × (weights.now ≡ standard_weights) × Padded image.now padded.now }
     ensures { RowFrom image.now parameters.now code at slots.old memory.old slots.new memory.new result }
 {
@@ -56,17 +52,19 @@ pub fn run_row(
         let five = five_of(padded, code, position);
         let cost = cost_of(weights, five[0]);
         if left < cost {
-            return Row::AtStop(22, left);
+            return Err(Halted {
+                by: Stop::Allowance,
+                left,
+            });
         }
-        let effect = effect(command_of(five), image, slots, 0, at.pending, at.window);
-        let ask = carry_out(effect, slots, parameters, memory, position);
-        match ask {
-            Ask::GoOn(next) => {
+        let effect = at.view(slots).effect(command_of(five), image);
+        match carry_out(effect, slots, parameters, memory, position) {
+            Ok(Ask::GoOn(next)) => {
                 position = next;
-                left = left - cost;
+                left -= cost;
             }
-            Ask::Join => return Row::AtJoin(position + 1, left - cost),
-            Ask::Call(cut, routine, result, first) => {
+            Ok(Ask::Join) => return Ok(Row::GoesOn(at.joined(position + 1, left - cost))),
+            Ok(Ask::Call(cut, routine, result, first)) => {
                 let fork = Fork {
                     cut,
                     routine,
@@ -74,17 +72,25 @@ pub fn run_row(
                     first,
                     weight: cost,
                 };
-                return Row::AtFork(fork, position, left);
+                return Ok(Row::Forks(fork, at.moved(position, left)));
             }
-            Ask::Stop(number) => return Row::AtStop(number, left),
-            Ask::Return(value) => return Row::AtReturn(value, left - cost),
-            Ask::Share(s) => {
-                let Share::Shared(window) = at.window.share(s) else {
+            Ok(Ask::Return(value)) => {
+                return Ok(Row::Returns(Returned {
+                    value,
+                    left: left - cost,
+                }));
+            }
+            Ok(Ask::Share(s)) => {
+                let Some(window) = at.window.share(s) else {
                     // not met: the effect is a share only where s is in range
-                    return Row::AtStop(31, left);
+                    return Err(Halted {
+                        by: Stop::Fault(Fault::ShareOutOfRange),
+                        left,
+                    });
                 };
-                return Row::AtShare(position + 2, left - cost, window);
+                return Ok(Row::GoesOn(at.shared(position + 2, left - cost, window)));
             }
+            Err(by) => return Err(Halted { by, left }),
         }
     }
 }

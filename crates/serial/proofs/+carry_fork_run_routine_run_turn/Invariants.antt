@@ -16,10 +16,10 @@ decreases-run_routine l = l.depth + l.depth + l.depth + 2
 abbrev pub decreases-run_turn : goal.decreases-run_turn
 decreases-run_turn l = l.depth + l.depth + l.depth + 1
 
-abbrev pub invariant-run_routine-loop-position : goal.invariant-run_routine-loop-position
-invariant-run_routine-loop-position l =
+abbrev pub invariant-run_routine-loop-turn : goal.invariant-run_routine-loop-turn
+invariant-run_routine-loop-turn l =
     (l.at.routine ≡ l.routine) × ((x : Come l.image l.starts l.parameters (33 - l.depth) (started_on l.routine l.arguments l.fn.start) l.fn.memory l.most)
     → (l.at.left ≤ l.most) × Far (job_of l.image l.starts l.parameters x.allowance) (33 - l.depth) x.whole (open_in l.at l.slots) l.memory l.at.left)
 
-abbrev pub decreases-run_routine-loop-position : goal.decreases-run_routine-loop-position
-decreases-run_routine-loop-position l = l.at.left
+abbrev pub decreases-run_routine-loop-turn : goal.decreases-run_routine-loop-turn
+decreases-run_routine-loop-turn l = l.at.left

@@ -2,25 +2,27 @@
 use mathlib.Core.Path.{◌≡◌, sym, ◌∙◌, ap}
 use native.Mathlib.Omega.{arith}
 use lib.ListN.{length}
-use Rattle.image.specs.declared.Verdict.TheVariants.{Accepted}
+use Rattle.std.specs.Prelude.{Ok}
 use Rattle.image.specs.Layout.{arguments_of, program_of, starts_in}
 use Rattle.image.specs.Image.{image_verdict}
 use Rattle.image.proofs.Accepted.{accepted}
-use Rattle.serial.specs.Serial.{stopped, started_on, ended_by}
-use Rattle.serial.proofs.Whole.{verdict-is, program-is, refused, wrong-count, wrong-parameters, wrong-memory, few-arguments, whole-far, whole_run}
+use Rattle.std.proofs.lemmas.Result.{err_from_is_err_and}
+use Rattle.image.proofs.Answer.{answer-accepts, answer-refuses}
+use Rattle.serial.specs.Serial.{started_on, ended_by}
+use Rattle.serial.proofs.Whole.{refused, wrong-count, wrong-parameters, wrong-memory, few-arguments, whole-far, whole_run, ended-less, ended-is}
 use Rattle.serial.proofs.serial.Goals as goal
-use Rattle.serial.proofs.serial.Goals.{After-root}
+use Rattle.serial.proofs.serial.Goals.{After-root, then-parameters-ne32-via-then-parameters-ne32, then-parameters-ne32-via-else-parameters-ne32+then-memory-ne992}
 use Rattle.serial.specs.Steps.{Come}
 
 -- all tests are passed, and the run is to start
-checked : (c : After-root) → image_verdict c.args.image.now ≡ Accepted
-checked c = sym (verdict-is _ _ c.check-checked.ensures) ∙ c.in-Accepted.is
+checked : (c : After-root) → image_verdict c.args.image.now ≡ Ok tt
+checked c = (answer-accepts _ _ (sym c.check.ensures ∙ c.in_ok-program.was)).0
 
 starts-are : (c : After-root) → c.starts-starts.result ≡ starts_in (program_of c.args.image.now)
-starts-are c = c.starts-starts.ensures ∙ ap starts_in (program-is _ _ c.check-checked.ensures c.in-Accepted.is)
+starts-are c = c.starts-starts.ensures ∙ ap starts_in (answer-accepts _ _ (sym c.check.ensures ∙ c.in_ok-program.was)).1
 
 count-is : (c : After-root) → length c.args.arguments.now ≡ arguments_of c.args.image.now 0
-count-is c = c.if-arguments-arguments_of.false ∙ c.arguments_of.ensures
+count-is c = c.if-arguments-from.false ∙ c.from.ensures ∙ c.arguments_of.ensures
 
 -- the run as it starts
 abbrev come : (c : After-root)
@@ -32,24 +34,29 @@ come c = let a = c.args in record {
       (λ i. omega (arith, c.type_inv.image i)) c.if-parameters-ne32.false c.if-memory-ne992.false;
 }
 
-pub returns-in-Rejected : goal.returns-in-Rejected
-returns-in-Rejected c =
+pub returns-in_err-program : goal.returns-in_err-program
+returns-in_err-program c =
     let a = c.args in
-    let checked = c.check-checked.ensures in
-    let verdict = c.in-Rejected.is in
-    ap (λ x. stopped x a.memory.now 0) c.number_of.ensures ∙ refused a.image.now a.parameters.now a.arguments.now a.memory.now a.allowance _ (sym (verdict-is _ _ checked) ∙ verdict)
+    let e = err_from_is_err_and c.from_residual.result c.from_residual.ensures.1 in
+    rw (e.1, e.2) (refused a.image.now a.parameters.now a.arguments.now a.memory.now a.allowance _ (answer-refuses _ _ (sym c.check.ensures ∙ c.in_err-program.was)))
 
-pub returns-then-arguments-arguments_of : goal.returns-then-arguments-arguments_of
-returns-then-arguments-arguments_of c = wrong-count _ _ _ _ _ (sym (verdict-is _ _ c.check-checked.ensures) ∙ c.in-Accepted.is) (λ e. c.if-arguments-arguments_of.true (e ∙ sym c.arguments_of.ensures))
+pub returns-then-arguments-from : goal.returns-then-arguments-from
+returns-then-arguments-from c =
+    ap (λ r. ended_by r c.args.memory.now) c.refused.ensures
+    ∙ wrong-count _ _ _ _ _ (answer-accepts _ _ (sym c.check.ensures ∙ c.in_ok-program.was)).0 (λ e. c.if-arguments-from.true (e ∙ sym (c.from.ensures ∙ c.arguments_of.ensures)))
 
 pub returns-then-parameters-ne32 : goal.returns-then-parameters-ne32
-returns-then-parameters-ne32 c = wrong-parameters _ _ _ _ _ (sym (verdict-is _ _ c.check-checked.ensures) ∙ c.in-Accepted.is) (c.if-arguments-arguments_of.false ∙ c.arguments_of.ensures) c.if-parameters-ne32.true
-
-pub returns-then-memory-ne992 : goal.returns-then-memory-ne992
-returns-then-memory-ne992 c = wrong-memory _ _ _ _ _ (sym (verdict-is _ _ c.check-checked.ensures) ∙ c.in-Accepted.is) (c.if-arguments-arguments_of.false ∙ c.arguments_of.ensures) c.if-parameters-ne32.false c.if-memory-ne992.true
+returns-then-parameters-ne32 c =
+    let accepted = (answer-accepts _ _ (sym c.check.ensures ∙ c.in_ok-program.was)).0 in
+    let count = c.if-arguments-from.false ∙ c.from.ensures ∙ c.arguments_of.ensures in
+    ap (λ r. ended_by r c.args.memory.now) c.refused-then-parameters-ne32.ensures
+    ∙ elim c.then-parameters-ne32.branch [
+      | then-parameters-ne32-via-then-parameters-ne32 w ↦ wrong-parameters _ _ _ _ _ accepted count w.if-parameters-ne32.true
+      | then-parameters-ne32-via-else-parameters-ne32+then-memory-ne992 w ↦ wrong-memory _ _ _ _ _ accepted count w.if-parameters-ne32.false w.if-memory-ne992.true
+    ]
 
 pub pad-padded-requires : goal.pad-padded-requires
-pad-padded-requires c = (accepted _ (sym (verdict-is _ _ c.check-checked.ensures) ∙ c.in-Accepted.is)).size
+pad-padded-requires c = (accepted _ (answer-accepts _ _ (sym c.check.ensures ∙ c.in_ok-program.was)).0).size
 
 pub run_routine-ending-requires : goal.run_routine-ending-requires
 run_routine-ending-requires c =
@@ -58,7 +65,7 @@ run_routine-ending-requires c =
     (come c, omega arith, few, c.pad-padded.ensures)
 
 pub with_units-requires : goal.with_units-requires
-with_units-requires c = (c.run_routine-ending.ensures (come (goal.at.with_units-requires c).After-root)).less
+with_units-requires c = ended-less _ _ _ _ _ (c.run_routine-ending.ensures (come (goal.at.with_units-requires c).After-root))
 
 pub returns : goal.returns
 returns c =
@@ -66,4 +73,4 @@ returns c =
     let d = (goal.at.returns c).After-root in
     whole_run a.image.now a.parameters.now a.arguments.now a.memory.now a.allowance (checked d) _ (starts-are d) _ c.root.ensures (count-is d) _
     c.if-parameters-ne32.false c.if-memory-ne992.false
-    (ap (λ r. ended_by r c.run_routine-ending.new.memory) c.with_units.ensures ∙ (c.run_routine-ending.ensures (come d)).is)
+    (ap (λ r. ended_by r c.run_routine-ending.new.memory) c.with_units.ensures ∙ ended-is _ _ _ _ _ (c.run_routine-ending.ensures (come d)))

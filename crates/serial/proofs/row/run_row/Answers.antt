@@ -1,12 +1,14 @@
 -- `serial::row::run_row` meets its contract. Assumes nothing.
-use mathlib.Core.Path.{sym, ◌∙◌}
+use mathlib.Core.Path.{refl, sym, ◌∙◌, ap}
 use native.Mathlib.Omega.{arith}
+use Rattle.std.specs.Prelude.{Ok}
 use Rattle.thread.specs.Job.{Job, job_of}
 use Rattle.serial.specs.declared.Routine.{Routine}
 use Rattle.serial.specs.Steps.{open_at, RowReady}
 use Rattle.serial.proofs.Loop.{Met, Acted, place-met, byte-met, cost-met, effect-met, some-cost, unpaid, reach, goes-again, join-fits, joins-on, stops-run, returns-run, share-fits, share-good, shares-on, at_fork}
+use Rattle.serial.proofs.Places.{goes-on}
 use Rattle.serial.proofs.row.run_row.Goals as goal
-use Rattle.serial.proofs.row.run_row.Goals.{At-loop-left, After-effect-effect, After-carry_out-ask}
+use Rattle.serial.proofs.row.run_row.Goals.{At-loop-left, After-effect-effect, After-carry_out}
 
 -- a run that had come to the row's place
 abbrev Had : At-loop-left → Type 0
@@ -27,18 +29,18 @@ met c x = let j = job_of c.args.image.now x.starts c.args.parameters.now x.come.
       far = (c.loop-left.invariant x).1;
       weight = cost-met j l x.there c.requires.2 c.five_of-five.ensures c.requires.1 c.cost_of-cost.ensures;
       paid = c.if-left-cost.false;
-      effect = effect-met j l x.there c.requires.2 c.five_of-five.ensures c.command_of.ensures c.effect-effect.ensures;
+      effect = effect-met j l x.there c.requires.2 c.five_of-five.ensures c.command_of.ensures (rw c.view.ensures at c.effect-effect.ensures);
     }
 
 -- carried out
-acted : (c : After-carry_out-ask) (x : RowReady c.args.image.now c.args.parameters.now c.args.code c.args.at c.args.slots.now c.args.memory.now)
+acted : (c : After-carry_out) (x : RowReady c.args.image.now c.args.parameters.now c.args.code c.args.at c.args.slots.now c.args.memory.now)
     → Met (job_of c.args.image.now x.starts c.args.parameters.now x.come.allowance) x.depth x.come.whole
     (open_at c.args.at.routine c.loop-left.position c.args.at.pending c.args.at.window c.loop-left.slots) c.loop-left.memory c.loop-left.left
     c.cost_of-cost.result c.effect-effect.result
     → Acted (job_of c.args.image.now x.starts c.args.parameters.now x.come.allowance) x.depth x.come.whole
     (open_at c.args.at.routine c.loop-left.position c.args.at.pending c.args.at.window c.loop-left.slots) c.loop-left.memory c.loop-left.left
-    c.cost_of-cost.result c.effect-effect.result c.carry_out-ask.result c.carry_out-ask.new.slots c.carry_out-ask.new.memory
-acted c x m = record { met = m; asked = c.carry_out-ask.ensures.2; slots = c.carry_out-ask.ensures.0; memory = c.carry_out-ask.ensures.1 }
+    c.cost_of-cost.result c.effect-effect.result c.carry_out.result c.carry_out.new.slots c.carry_out.new.memory
+acted c x m = record { met = m; asked = c.carry_out.ensures.2; slots = c.carry_out.ensures.0; memory = c.carry_out.ensures.1 }
 
 pub loop-left-init : goal.loop-left-init
 loop-left-init c x = (omega arith, x.come.far)
@@ -59,14 +61,14 @@ cost_of-cost-requires c =
 pub returns-then-left-cost : goal.returns-then-left-cost
 returns-then-left-cost c x =
     let h = (goal.at.returns-then-left-cost c).At-loop-left in
-    let far = (c.loop-left.invariant x).1 in (
-      (c.loop-left.invariant x).0,
-      unpaid far (cost-met (job h x) (opened h) x.there c.requires.2 c.five_of-five.ensures c.requires.1 c.cost_of-cost.ensures)
-          c.if-left-cost.true,
-    )
+    let far = (c.loop-left.invariant x).1 in record {
+      less = (c.loop-left.invariant x).0;
+      is = unpaid far (cost-met (job h x) (opened h) x.there c.requires.2 c.five_of-five.ensures c.requires.1 c.cost_of-cost.ensures)
+          c.if-left-cost.true;
+    }
 
-pub carry_out-ask-requires : goal.carry_out-ask-requires
-carry_out-ask-requires c = reach (met (goal.at.carry_out-ask-requires c).After-effect-effect c.requires.0)
+pub carry_out-requires : goal.carry_out-requires
+carry_out-requires c = reach (met (goal.at.carry_out-requires c).After-effect-effect c.requires.0)
 
 -- the routine goes on
 pub loop-left-smaller : goal.loop-left-smaller
@@ -76,46 +78,48 @@ loop-left-smaller c =
 
 pub loop-left-preserved : goal.loop-left-preserved
 loop-left-preserved c x =
-    (omega (arith, (c.loop-left.invariant x).0), goes-again (acted (goal.at.loop-left-preserved c).After-carry_out-ask x (met (goal.at.loop-left-preserved c).After-effect-effect x)) c.in-GoOn.is)
+    (omega (arith, (c.loop-left.invariant x).0), goes-again (acted (goal.at.loop-left-preserved c).After-carry_out x (met (goal.at.loop-left-preserved c).After-effect-effect x)) (c.in-Ok-GoOn.is ∙ ap Ok c.in-Ok-GoOn.field-0-is))
 
 -- a join
-pub overflow_add-result : goal.overflow_add-result
-overflow_add-result c = omega (arith, join-fits (acted (goal.at.overflow_add-result c).After-carry_out-ask c.requires.0 (met (goal.at.overflow_add-result c).After-effect-effect c.requires.0)) c.in-Join.is)
+pub overflow_add-position : goal.overflow_add-position
+overflow_add-position c = omega (arith, join-fits (acted (goal.at.overflow_add-position c).After-carry_out c.requires.0 (met (goal.at.overflow_add-position c).After-effect-effect c.requires.0)) (c.in-Ok-Join.is ∙ ap Ok c.in-Ok-Join.field-0-is))
 
-pub returns-in-Join : goal.returns-in-Join
-returns-in-Join c x =
-    let d = acted (goal.at.returns-in-Join c).After-carry_out-ask x (met (goal.at.returns-in-Join c).After-effect-effect x) in
+pub returns-in-Ok-Join : goal.returns-in-Ok-Join
+returns-in-Ok-Join c x =
+    let d = acted (goal.at.returns-in-Ok-Join c).After-carry_out x (met (goal.at.returns-in-Ok-Join c).After-effect-effect x) in
     let m = d.met in
-    (omega (arith, (c.loop-left.invariant x).0, some-cost m.far m.weight, m.paid), joins-on d c.in-Join.is)
+    goes-on c.joined.ensures (omega (arith, (c.loop-left.invariant x).0, some-cost m.far m.weight, m.paid)) (joins-on d (c.in-Ok-Join.is ∙ ap Ok c.in-Ok-Join.field-0-is))
 
 -- a fork
-pub returns-in-Call : goal.returns-in-Call
-returns-in-Call c x =
-    let f = at_fork (acted (goal.at.returns-in-Call c).After-carry_out-ask x (met (goal.at.returns-in-Call c).After-effect-effect x)) c.in-Call.is in
-    ((c.loop-left.invariant x).0, f.0, f.1)
+pub returns-in-Ok-Call : goal.returns-in-Ok-Call
+returns-in-Ok-Call c x =
+    let f = at_fork (acted (goal.at.returns-in-Ok-Call c).After-carry_out x (met (goal.at.returns-in-Ok-Call c).After-effect-effect x)) (c.in-Ok-Call.is ∙ ap Ok c.in-Ok-Call.field-0-is) in
+    let least = (c.loop-left.invariant x).0 in
+    rw c.moved.ensures (record { less = least; same = refl; far = f.0; fork = f.1 })
 
 -- a number
-pub returns-in-Stop : goal.returns-in-Stop
-returns-in-Stop c x = ((c.loop-left.invariant x).0, stops-run (acted (goal.at.returns-in-Stop c).After-carry_out-ask x (met (goal.at.returns-in-Stop c).After-effect-effect x)) c.in-Stop.is)
+pub returns-in-Err : goal.returns-in-Err
+returns-in-Err c x =
+    let d = acted (goal.at.returns-in-Err c).After-carry_out x (met (goal.at.returns-in-Err c).After-effect-effect x) in
+    record { less = (c.loop-left.invariant x).0; is = stops-run d c.in-Err.is }
 
 -- a return
-pub returns-in-Return : goal.returns-in-Return
-returns-in-Return c x =
-    (omega (arith, (c.loop-left.invariant x).0), returns-run (acted (goal.at.returns-in-Return c).After-carry_out-ask x (met (goal.at.returns-in-Return c).After-effect-effect x)) c.in-Return.is)
+pub returns-in-Ok-Return : goal.returns-in-Ok-Return
+returns-in-Ok-Return c x =
+    let d = acted (goal.at.returns-in-Ok-Return c).After-carry_out x (met (goal.at.returns-in-Ok-Return c).After-effect-effect x) in
+    record { less = omega (arith, (c.loop-left.invariant x).0); is = returns-run d (c.in-Ok-Return.is ∙ ap Ok c.in-Ok-Return.field-0-is) }
 
 -- a share; where it gives nothing it is not met: the effect is a share only where s is in range
 pub returns-in_default : goal.returns-in_default
 returns-in_default c x =
-    absurd (share-good (acted (goal.at.returns-in_default c).After-carry_out-ask x (met (goal.at.returns-in_default c).After-effect-effect x)) c.in-Share.is (sym c.share.ensures.is ∙ c.in_default.is))
+    absurd (share-good (acted (goal.at.returns-in_default c).After-carry_out x (met (goal.at.returns-in_default c).After-effect-effect x)) (c.in-Ok-Share.is ∙ ap Ok c.in-Ok-Share.field-0-is) (sym c.share.ensures.is ∙ c.in_default.is))
 
-pub overflow_add-result-in-Share : goal.overflow_add-result-in-Share
-overflow_add-result-in-Share c =
-    omega (arith, share-fits (acted (goal.at.overflow_add-result-in-Share c).After-carry_out-ask c.requires.0 (met (goal.at.overflow_add-result-in-Share c).After-effect-effect c.requires.0)) c.in-Share.is)
+pub overflow_add-position-in-Ok-Share : goal.overflow_add-position-in-Ok-Share
+overflow_add-position-in-Ok-Share c =
+    omega (arith, share-fits (acted (goal.at.overflow_add-position-in-Ok-Share c).After-carry_out c.requires.0 (met (goal.at.overflow_add-position-in-Ok-Share c).After-effect-effect c.requires.0)) (c.in-Ok-Share.is ∙ ap Ok c.in-Ok-Share.field-0-is))
 
-pub returns-in-Share : goal.returns-in-Share
-returns-in-Share c x =
-    let d = acted (goal.at.returns-in-Share c).After-carry_out-ask x (met (goal.at.returns-in-Share c).After-effect-effect x) in
-    let m = d.met in (
-      omega (arith, (c.loop-left.invariant x).0, some-cost m.far m.weight, m.paid),
-      shares-on d c.in-Share.is c.share.ensures.is c.in-Shared.is,
-    )
+pub returns-in-Ok-Share : goal.returns-in-Ok-Share
+returns-in-Ok-Share c x =
+    let d = acted (goal.at.returns-in-Ok-Share c).After-carry_out x (met (goal.at.returns-in-Ok-Share c).After-effect-effect x) in
+    let m = d.met in
+    goes-on c.shared.ensures (omega (arith, (c.loop-left.invariant x).0, some-cost m.far m.weight, m.paid)) (shares-on d (c.in-Ok-Share.is ∙ ap Ok c.in-Ok-Share.field-0-is) c.share.ensures.is c.in-Some.is)
