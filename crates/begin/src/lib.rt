@@ -8,21 +8,12 @@ ghost use Rattle.start.specs.Start.{Starts};
 ghost use Rattle.demands.specs.Input.{input_of};
 ghost use Rattle.begin.specs.Begins.{Begins};
 
-use crate::refusal::refusal;
-use image::number::image_number;
+use crate::refusal::tested;
+use demands::RunRefusal;
 use start::start;
 
-// A run at its beginning.
-#[derive(Clone, Copy)]
-pub struct Begun {
-    // the number of the first whole-run test that is met, or 0
-    pub number: u8,
-    // where each routine's code starts, if no test is met
-    pub starts: [u16; 32],
-}
-
-// Tests a run's input, and brings the machine's tables and the stacklets' words to Start. It takes any input. The image is checked once, for the
-// tests and for the starts. A run by a schedule and the scheduler's run both begin here, so that neither has the other's loop in it.
+// Tests a run's input, brings the machine's tables and the stacklets' words to Start, and gives where each routine's code starts. It takes any
+// input. A run by a schedule and the scheduler's run both begin here, so that neither has the other's loop in it.
 pub fn begin(
     image: &[u8],
     cores: u8,
@@ -33,24 +24,10 @@ pub fn begin(
     log: &[u8],
     tables: &mut [u8],
     words: &mut [u32],
-) -> Begun
+) -> Result<[u16; 32], RunRefusal>
     ensures tests { (allowance : ℕ) → Begins (input_of image.now cores arguments.now parameters.now memory.now allowance) schedule.now log.now result }
     ensures start { Starts image.now arguments.now cores tables.old tables.new words.old words.new }
 {
     start(image, cores, arguments, tables, words);
-    let checked = image::check(image);
-    let verdict = checked.verdict;
-    let number = refusal(
-        image_number(verdict),
-        image,
-        cores,
-        arguments,
-        parameters,
-        memory,
-        schedule,
-        log,
-    );
-    let program = checked.program;
-    let starts = program.starts();
-    Begun { number, starts }
+    tested(image, cores, arguments, parameters, memory, schedule, log)
 }

@@ -3,25 +3,24 @@
 use borrow.Author.Tests.{eqb-true, eqb-false, ltb-false, not-false}
 use mathlib.Core.Bool.{Bool, true, false, cond, ◌||◌, not}
 use mathlib.Core.List.{List}
-use mathlib.Core.Path.{◌≡◌, refl}
+use mathlib.Core.Path.{◌≡◌, refl, sym, ◌∙◌}
 use Prim.Native.Nat.{ℕ, ◌≤◌, ◌<◌}
 use native.Mathlib.Omega.{arith}
 use lib.Dec.{ltb, eqb}
 use lib.ListN.{length, get_or}
+use Rattle.std.specs.Prelude.{Ok, Err}
 use Rattle.command.proofs.Bools.{neither}
 use Rattle.command.proofs.Tables.{weight-least}
-use Rattle.image.specs.declared.Verdict.{Verdict}
-use Rattle.image.specs.declared.Verdict.TheVariants.{Accepted, Rejected}
-use Rattle.image.specs.declared.Refusal.{Refusal}
-use Rattle.image.specs.declared.Refusal.TheVariants.{BadLength, BadCount, BadRow, UnknownByte, OperandsCutOff, OutOfRange, BadEnd, BadTarget}
-use Rattle.image.specs.Image.{image_verdict, number_in, number_of_refusal}
+use Rattle.image.specs.Code.{Verdict}
+use Rattle.image.specs.Image.{image_verdict, number_in}
 use Rattle.image.proofs.Accepted.{accepted}
 use Rattle.image.proofs.Places.{starts-at}
 use Rattle.schedule.specs.declared.Entry.{Entry}
-use Rattle.schedule.specs.Meaning.{Schedule, entries, malformed, schedule_of, number_of_schedule}
+use Rattle.schedule.specs.Meaning.{Schedule, schedule_of, number_of_schedule}
 use Rattle.rules.specs.Sound.{GoodJob}
 use Rattle.demands.specs.Input.{Input, job_in, bad_cores, bad_arguments, bad_words, entry_count, refusal_of}
 use Rattle.demands.specs.Demands.{Takes}
+use Rattle.demands.proofs.Tests.{refusal-range, by_numbers}
 
 -- a test that is not met, and what follows it
 passed : (b : Bool) (n rest : ℕ) → 1 ≤ n → cond b n rest ≡ 0 → (b ≡ false) × (rest ≡ 0)
@@ -39,19 +38,9 @@ passed-number n rest e = go (eqb n 0) refl e
 same : (a b : ℕ) → not (eqb a b) ≡ false → a ≡ b
 same a b e = eqb-true a b (not-false (eqb a b) e)
 
-refusal-some : (r : Refusal) → 1 ≤ number_of_refusal r
-refusal-some BadLength = omega arith
-refusal-some BadCount = omega arith
-refusal-some BadRow = omega arith
-refusal-some UnknownByte = omega arith
-refusal-some OperandsCutOff = omega arith
-refusal-some OutOfRange = omega arith
-refusal-some BadEnd = omega arith
-refusal-some BadTarget = omega arith
-
-no_number : (v : Verdict) → number_in v ≡ 0 → v ≡ Accepted
-no_number Accepted e = refl
-no_number (Rejected r) e = absurd (omega (arith, refusal-some r, e))
+no_number : (v : Verdict) → number_in v ≡ 0 → v ≡ Ok tt
+no_number (Ok tt) e = refl
+no_number (Err r) e = absurd (omega (arith, (refusal-range r).0, e))
 
 -- the job of an input that a run takes
 pub good : (i : Input) → Takes i → GoodJob (job_in i)
@@ -66,12 +55,12 @@ good i k = record {
 -- an accepted schedule, with room in a log for its entries
 pub record Room (schedule log : List ℕ) : Type 0 where
   pub all : List Entry
-  pub means : schedule_of schedule ≡ entries all
+  pub means : schedule_of schedule ≡ Ok all
   pub room : length all ≤ length log
 
 room_by : (schedule log : List ℕ) (x : Schedule) → schedule_of schedule ≡ x → number_of_schedule x ≡ 0 → ltb (length log) (entry_count x) ≡ false → Room schedule log
-room_by schedule log (entries es) h e l = record { all = es; means = h; room = ltb-false (length log) (length es) l }
-room_by schedule log malformed h e l = absurd (omega (arith, e))
+room_by schedule log (Ok es) h e l = record { all = es; means = h; room = ltb-false (length log) (length es) l }
+room_by schedule log (Err _) h e l = absurd (omega (arith, e))
 
 module _ (i : Input) (schedule log : List ℕ) (passes : refusal_of i schedule log ≡ 0) where
   abbrev image_number : ℕ
@@ -87,8 +76,7 @@ module _ (i : Input) (schedule log : List ℕ) (passes : refusal_of i schedule l
   third = cond (not (eqb (number_of_schedule (schedule_of schedule)) 0)) 13 fourth
 
   first : (bad_cores i ≡ false) × (cond (not (eqb image_number 0)) image_number (cond (bad_arguments i) 24 third) ≡ 0)
-  unfolding refusal_of
-  first = passed (bad_cores i) 23 _ (omega arith) passes
+  first = passed (bad_cores i) 23 _ (omega arith) (sym (by_numbers i schedule log) ∙ passes)
 
   second : (image_number ≡ 0) × (cond (bad_arguments i) 24 third ≡ 0)
   second = passed-number image_number _ first.1

@@ -8,32 +8,34 @@ use native.Mathlib.Decide.{ℕ_discrete}
 use native.Mathlib.Omega.{arith}
 use lib.Dec.{ltb, leb, eqb}
 use lib.ListN.{length, set}
+use Rattle.std.specs.Prelude.{Ok, Err}
 use Rattle.command.specs.Command.{decoded_at}
 use Rattle.command.specs.declared.Command.{Command}
 use Rattle.command.specs.declared.Command.TheVariants.{Set, Add, Subtract, Load, Store, JumpIfZero, Jump, Lfork, Fork, Join, Suspend, Yield, Return, Share}
-use Rattle.image.specs.declared.Verdict.{Verdict}
-use Rattle.image.specs.declared.Verdict.TheVariants.{Accepted, Rejected}
+use Rattle.image.specs.Code.{Verdict}
 use Rattle.image.specs.Layout.{arguments_of}
 use Rattle.image.specs.Image.{image_verdict, number_in, number_of_refusal}
 use Rattle.window.specs.Rights.{root_window, child_of}
 use Rattle.stacklets.specs.Frames.{slot_of}
 use Rattle.thread.specs.declared.Effect.{Effect}
+use Rattle.thread.specs.declared.Fault.{Fault}
 use Rattle.thread.specs.declared.Effect.TheVariants.{Faults, Sets, Loads, Stores, Goes, Continues, Lforks, Forks, Joins, Suspends, Yields, Returns, Shares}
-use Rattle.thread.specs.Effect.{IsFault, Context, any_pending, unless_pending, provided, forking, effect_of, asked}
+use Rattle.thread.specs.Effect.{IsFault, number_of_fault, Context, any_pending, unless_pending, provided, forking, effect_of, asked}
 use Rattle.thread.specs.Thread.{is_pending}
+use Rattle.thread.proofs.FaultNumbers.{is_fault}
 use Rattle.thread.specs.View.{context_of}
 use Rattle.thread.specs.Job.{Job, offset_at, word_at}
 use Rattle.serial.specs.declared.Routine.{Routine}
 use Rattle.serial.specs.Serial.{Ended, done, stopped, and_then, Call, jumped_to, assigned, advanced, joined, shared, forked, started_on, arguments_from, weight_at, next_effect, fork_called, carried, call_within, call_from, serial_from}
 use Rattle.serial.proofs.Whole.{refused, wrong-count, wrong-parameters, wrong-memory, all_right}
-use Rattle.demands.proofs.WholeRun.{refusal-range}
+use Rattle.demands.proofs.Tests.{refusal-range}
 use Rattle.demands.specs.Input.{Input, job_in}
 use Rattle.demands.specs.Demands.{serial_in}
 use Rattle.demands.specs.WholeRun.{GoodImage, GoodArguments, RightWords, WrongWords, SerialNumbers}
 
 -- A COMMAND'S FAULT is 9 to 12, or 31
 abbrev Low : Effect → Type 0
-Low (Faults n) = IsFault n
+Low (Faults f) = IsFault (number_of_fault f)
 Low (Sets d v) = Unit {0}
 Low (Loads d a) = Unit {0}
 Low (Stores a v) = Unit {0}
@@ -51,18 +53,18 @@ Low (Shares x) = Unit {0}
 record FaultLow (e : Effect) : Type 0 where
   low : Low e
 
-fault-unless : (n : ℕ) → IsFault n → (p : ℕ → Bool) (ks : List ℕ) (e : Effect) → FaultLow e → FaultLow (unless_pending n p ks e)
+fault-unless : (n : Fault) (p : ℕ → Bool) (ks : List ℕ) (e : Effect) → FaultLow e → FaultLow (unless_pending n p ks e)
 unfolding unless_pending
-fault-unless n l p ks e f = go (any_pending p ks)
+fault-unless n p ks e f = go (any_pending p ks)
   where
     go : (t : Bool) → FaultLow (cond t (Faults n) e)
-    go true = record { low = l }
+    go true = record { low = is_fault n }
     go false = f
 
-fault-provided : (t : Bool) (n : ℕ) → IsFault n → (e : Effect) → FaultLow e → FaultLow (provided t n e)
+fault-provided : (t : Bool) (n : Fault) (e : Effect) → FaultLow e → FaultLow (provided t n e)
 unfolding provided
-fault-provided true n l e f = f
-fault-provided false n l e f = record { low = l }
+fault-provided true n e f = f
+fault-provided false n e f = record { low = is_fault n }
 
 fault-choice : (t : Bool) (x y : Effect) → FaultLow x → FaultLow y → FaultLow (cond t x y)
 fault-choice true x y f g = f
@@ -71,25 +73,25 @@ fault-choice false x y f g = g
 module _ (arguments : ℕ → ℕ) (own : Context) where
   fault-fork : (r d a w : ℕ) (e : Effect) → FaultLow e → FaultLow (forking arguments own r d a w e)
   unfolding forking
-  fault-fork r d a w e f = fault-unless 9 (inl (omega arith, omega arith)) _ _ _ (fault-provided _ 11 (inl (omega arith, omega arith)) _ f)
+  fault-fork r d a w e f = fault-unless _ _ _ _ (fault-provided _ _ _ f)
 
   fault-low : (c : Command) → FaultLow (effect_of arguments own c)
   unfolding effect_of
-  fault-low (Set d v) = fault-unless 9 (inl (omega arith, omega arith)) _ _ _ (record { low = tt })
-  fault-low (Add d a b) = fault-unless 9 (inl (omega arith, omega arith)) _ _ _ (record { low = tt })
-  fault-low (Subtract d a b) = fault-unless 9 (inl (omega arith, omega arith)) _ _ _ (record { low = tt })
-  fault-low (Load d a) = fault-unless 9 (inl (omega arith, omega arith)) _ _ _ (fault-provided _ 10 (inl (omega arith, omega arith)) _ (record { low = tt }))
-  fault-low (Store a b) = fault-unless 9 (inl (omega arith, omega arith)) _ _ _ (fault-provided _ 10 (inl (omega arith, omega arith)) _ (record { low = tt }))
+  fault-low (Set d v) = fault-unless _ _ _ _ (record { low = tt })
+  fault-low (Add d a b) = fault-unless _ _ _ _ (record { low = tt })
+  fault-low (Subtract d a b) = fault-unless _ _ _ _ (record { low = tt })
+  fault-low (Load d a) = fault-unless _ _ _ _ (fault-provided _ _ _ (record { low = tt }))
+  fault-low (Store a b) = fault-unless _ _ _ _ (fault-provided _ _ _ (record { low = tt }))
   fault-low (JumpIfZero a t) =
-      fault-unless 9 (inl (omega arith, omega arith)) _ _ _ (fault-choice (eqb (own.slot a) 0) (Goes t) Continues (record { low = tt }) (record { low = tt }))
+      fault-unless _ _ _ _ (fault-choice (eqb (own.slot a) 0) (Goes t) Continues (record { low = tt }) (record { low = tt }))
   fault-low (Jump t) = record { low = tt }
   fault-low (Lfork r d a w) = fault-fork r d a w _ (record { low = tt })
   fault-low (Fork r d a w) = fault-fork r d a w _ (record { low = tt })
   fault-low Join = record { low = tt }
   fault-low Suspend = record { low = tt }
   fault-low Yield = record { low = tt }
-  fault-low (Return a) = fault-unless 12 (inl (omega arith, omega arith)) _ _ _ (record { low = tt })
-  fault-low (Share a) = fault-unless 9 (inl (omega arith, omega arith)) _ _ _ (fault-provided _ 31 (inr refl) _ (record { low = tt }))
+  fault-low (Return a) = fault-unless _ _ _ _ (record { low = tt })
+  fault-low (Share a) = fault-unless _ _ _ _ (fault-provided _ _ _ (record { low = tt }))
 
 -- A ROUTINE ends by a command's number: "22, 12, 9, 10 or 11, 26", or 31
 abbrev OfCommand : ℕ → Type 0
@@ -174,8 +176,8 @@ module _ (i : Input) where
   stops-image n low h = go (image_verdict i.image) refl
     where
       go : (v : Verdict) → image_verdict i.image ≡ v → serial_in i ≡ stopped n i.memory 0
-      go Accepted e = let z : n ≡ 0 = sym h ∙ ap number_in e in absurd (omega arith)
-      go (Rejected x) e =
+      go (Ok tt) e = let z : n ≡ 0 = sym h ∙ ap number_in e in absurd (omega arith)
+      go (Err x) e =
           sym (refused i.image i.parameters i.arguments i.memory i.allowance x e)
           ∙ ap (λ (k : ℕ). stopped k i.memory 0) (sym (ap number_in e) ∙ h)
 
@@ -216,8 +218,8 @@ module _ (i : Input) where
     met-arguments a (no q) = by24 (is 24 (stops-24 a q)) a q
 
     met-image : (v : Verdict) → image_verdict i.image ≡ v → Met n
-    met-image Accepted h = met-arguments h (ℕ_discrete (length i.arguments) (arguments_of i.image 0))
-    met-image (Rejected x) h =
+    met-image (Ok tt) h = met-arguments h (ℕ_discrete (length i.arguments) (arguments_of i.image 0))
+    met-image (Err x) h =
         let z = refusal-range x in
         let k : n ≡ number_of_refusal x = is (number_of_refusal x) (stops-image (number_of_refusal x) z.0 (ap number_in h)) in
         by_image (omega (arith, z.0)) (omega (arith, z.1)) (ap number_in h ∙ sym k)

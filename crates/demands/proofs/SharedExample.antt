@@ -25,7 +25,7 @@ use Rattle.rules.specs.Rules.{carried_of, turn_of, step_of, take_into, take_of, 
 use Rattle.rules.specs.Start.{start_state}
 use Rattle.rules.specs.Runs.{run_from, logs_from}
 use Rattle.rules.specs.Sound.{status_at, parent_at, window_held}
-use Rattle.demands.specs.Input.{Input, refusal_of}
+use Rattle.demands.specs.Input.{Input, tests_of, refusal_of}
 use Rattle.demands.specs.Demands.{state_after}
 use Rattle.demands.specs.Shared.{Shares, Reads, Ancestor, parent, further}
 use Rattle.demands.specs.Cases.{given}
@@ -49,7 +49,7 @@ record Stands : Type 0 where
   statuses : (status_at there 0 ≡ 5) × (status_at there 1 ≡ 5) × (status_at there 2 ≡ 1)
 
 stands : Stands
-unfolding command_at decoded start_of rows_of starts_up_to commands_from commands_of verdict_from last_ends is_start targets_good routine_verdict rows_good in_range routines_verdict image_verdict appended schedule_of entries_of fits_on pushed_tops arguments_at framed pushed_words run any_pending unless_pending provided forking effect_of is_pending with_pending may_store may_load cut_at share_at effect_at leaves goes_above place_of born fork_on fork_with fork_of stacklets_without wakes status_after ready_after return_to_parent return_of carried_of turn_of step_of take_into take_of is_seed stolen_of steal_of enable_of entry_of start_state refusal_of run_from logs_from
+unfolding command_at decoded start_of rows_of starts_up_to commands_from commands_of verdict_from last_ends is_start targets_good routine_verdict rows_good in_range routines_verdict image_verdict appended schedule_of entries_of fits_on pushed_tops arguments_at framed pushed_words run any_pending unless_pending provided forking effect_of is_pending with_pending may_store may_load cut_at share_at effect_at leaves goes_above place_of born fork_on fork_with fork_of stacklets_without wakes status_after ready_after return_to_parent return_of carried_of turn_of step_of take_into take_of is_seed stolen_of steal_of enable_of entry_of start_state tests_of refusal_of run_from logs_from
 stands = record { root = refl; child = refl; grandchild = refl; parents = (refl, refl); statuses = (refl, refl, refl) }
 
 -- the root's ceiling and end

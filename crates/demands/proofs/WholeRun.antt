@@ -9,30 +9,18 @@ use Prim.Native.Nat.{ℕ, ◌≤◌, ◌<◌}
 use native.Mathlib.Omega.{arith}
 use lib.Dec.{ltb, eqb}
 use lib.ListN.{length}
-use Rattle.image.specs.declared.Verdict.{Verdict}
-use Rattle.image.specs.declared.Verdict.TheVariants.{Accepted, Rejected}
-use Rattle.image.specs.declared.Refusal.{Refusal}
-use Rattle.image.specs.declared.Refusal.TheVariants.{BadLength, BadCount, BadRow, UnknownByte, OperandsCutOff, OutOfRange, BadEnd, BadTarget}
+use Rattle.image.specs.Code.{Verdict}
 use Rattle.image.specs.Layout.{arguments_of}
 use Rattle.image.specs.Image.{image_verdict, number_in, number_of_refusal}
 use Rattle.schedule.specs.declared.Entry.{Entry}
 use Rattle.schedule.specs.Format.{bytes_of_entries}
-use Rattle.schedule.specs.Meaning.{Schedule, entries, malformed, schedule_of, number_of_schedule, IsSchedule, WellFormed}
+use Rattle.schedule.specs.Meaning.{Schedule, schedule_of, number_of_schedule, IsSchedule, WellFormed}
 use Rattle.schedule.proofs.Forming.{means as schedule-means, malforms as schedule-malforms}
 use Rattle.rules.specs.State.{Outcome, going, finished, faulted}
+use Rattle.demands.proofs.Tests.{refusal-range, given, by_numbers}
 use Rattle.demands.specs.Input.{Input, bad_cores, entry_count, refusal_of, answer_of, Numbered}
 use Rattle.demands.specs.WholeRun.{GoodCores, GoodImage, GoodArguments, RightWords, WrongWords, RunNumbers, SchedulerNumbers}
-
--- the image's author's numbers
-pub refusal-range : (r : Refusal) → (1 ≤ number_of_refusal r) × (number_of_refusal r ≤ 8)
-refusal-range BadLength = (omega arith, omega arith)
-refusal-range BadCount = (omega arith, omega arith)
-refusal-range BadRow = (omega arith, omega arith)
-refusal-range UnknownByte = (omega arith, omega arith)
-refusal-range OperandsCutOff = (omega arith, omega arith)
-refusal-range OutOfRange = (omega arith, omega arith)
-refusal-range BadEnd = (omega arith, omega arith)
-refusal-range BadTarget = (omega arith, omega arith)
+use Rattle.std.proofs.Common.{Ok, Err}
 
 -- the empty schedule
 no_bytes : bytes_of_entries [] ≡ []
@@ -54,10 +42,6 @@ last-log : (p m : Bool) → last p m true ≡ 25
 last-log true true = refl
 last-log true false = refl
 last-log false m = refl
-
--- an image's number that is not 0
-given : (k rest : ℕ) → 1 ≤ k → cond (not (eqb k 0)) k rest ≡ k
-given k rest h = ap (λ (t : Bool). cond (not t) k rest) (ne_eqb k 0 (λ e. omega arith))
 
 module _ (i : Input) (schedule log : List ℕ) where
   abbrev image_number : ℕ
@@ -86,8 +70,7 @@ module _ (i : Input) (schedule log : List ℕ) where
   from_cores c n a x p m = cond c 23 (from_image n a x p m)
 
   is_row : refusal_of i schedule log ≡ from_cores (bad_cores i) image_number arguments_right (schedule_of schedule) parameters_right memory_right
-  unfolding refusal_of
-  is_row = refl
+  is_row = by_numbers i schedule log
 
   -- the row where its tests are known
   row : (c : Bool) (n : ℕ) (a : Bool) (x : Schedule) (p m : Bool) → bad_cores i ≡ c → image_number ≡ n → arguments_right ≡ a → schedule_of schedule ≡ x
@@ -112,8 +95,8 @@ module _ (i : Input) (schedule log : List ℕ) where
       by_none refl g a r es w (eqb-true (length i.parameters) 32 e, eqb-true (length i.memory) 992 f) (ltb-false (length log) (length es) h)
 
   met-schedule : GoodCores i → GoodImage i → GoodArguments i → (x : Schedule) → schedule_of schedule ≡ x → Met (from_schedule x parameters_right memory_right)
-  met-schedule g a r (entries es) h = met-last g a r es ((schedule-means schedule es).0 h) parameters_right refl memory_right refl (ltb (length log) (length es)) refl
-  met-schedule g a r malformed h = by13 refl g a r ((schedule-malforms schedule).0 h)
+  met-schedule g a r (Ok es) h = met-last g a r es ((schedule-means schedule es).0 h) parameters_right refl memory_right refl (ltb (length log) (length es)) refl
+  met-schedule g a r (Err _) h = by13 refl g a r ((schedule-malforms schedule).0 h)
 
   met-arguments : GoodCores i → GoodImage i → (b : Bool) → arguments_right ≡ b → Met (from_arguments b (schedule_of schedule) parameters_right memory_right)
   met-arguments g a true e = met-schedule g a (eqb-true (length i.arguments) (arguments_of i.image 0) e) (schedule_of schedule) refl
@@ -121,8 +104,8 @@ module _ (i : Input) (schedule log : List ℕ) where
 
   met-image : GoodCores i → (v : Verdict) → image_verdict i.image ≡ v
       → Met (from_image (number_in v) arguments_right (schedule_of schedule) parameters_right memory_right)
-  met-image g Accepted h = met-arguments g h arguments_right refl
-  met-image g (Rejected r) h =
+  met-image g (Ok tt) h = met-arguments g h arguments_right refl
+  met-image g (Err r) h =
       let z = refusal-range r in
       subst Met (sym (given (number_of_refusal r) (from_arguments arguments_right (schedule_of schedule) parameters_right memory_right) z.0))
       (by_image z.0 z.1 g (ap number_in h))
@@ -241,11 +224,11 @@ module _ (i : Input) (schedule log : List ℕ) where
 
       gives-13 : ¬ (WellFormed schedule) → refusal_of i schedule log ≡ 13
       gives-13 n =
-          row false 0 true malformed parameters_right memory_right (good-cores g) (ap number_in a) same-arguments ((schedule-malforms schedule).1 n) refl refl
+          row false 0 true (Err (record {})) parameters_right memory_right (good-cores g) (ap number_in a) same-arguments ((schedule-malforms schedule).1 n) refl refl
 
       module _ (es : List Entry) (w : IsSchedule schedule es) where
         at_last : (p m : Bool) → parameters_right ≡ p → memory_right ≡ m → refusal_of i schedule log ≡ last p m (ltb (length log) (length es))
-        at_last p m e f = row false 0 true (entries es) p m (good-cores g) (ap number_in a) same-arguments ((schedule-means schedule es).1 w) e f
+        at_last p m e f = row false 0 true (Ok es) p m (good-cores g) (ap number_in a) same-arguments ((schedule-means schedule es).1 w) e f
 
         gives-25 : WrongWords i ⊎ (length log < length es) → refusal_of i schedule log ≡ 25
         gives-25 (inl (inl n)) = at_last false memory_right (ne_eqb (length i.parameters) 32 n) refl

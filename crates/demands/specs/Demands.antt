@@ -1,10 +1,7 @@
 -- The three demands, each as a record that can be laid beside the user's words line by line.
-use Rattle.std.specs.Prelude.{true, List, [], ◌∷◌, ◌++◌, ◌⊎◌, ◌≡◌, ℕ, ◌≤◌, ◌<◌, length, get_or, take, drop, replicate}
+use Rattle.std.specs.Prelude.{true, List, [], ◌∷◌, ◌++◌, ◌⊎◌, ◌≡◌, ℕ, ◌≤◌, ◌<◌, length, get_or, take, drop, replicate, Ok}
 use Rattle.command.specs.declared.Command.{Command}
-use Rattle.command.specs.declared.CommandRead.TheVariants.{Found}
-use Rattle.command.specs.Command.{command_at, bytes_of_command}
-use Rattle.command.specs.Encoded.{OperandsFit}
-use Rattle.image.specs.declared.Verdict.TheVariants.{Accepted}
+use Rattle.command.specs.Command.{command_at, bytes_of_command, OperandsFit}
 use Rattle.image.specs.Layout.{arguments_of}
 use Rattle.image.specs.Image.{image_verdict}
 use Rattle.schedule.specs.declared.Entry.{Entry}
@@ -19,13 +16,14 @@ use Rattle.rules.specs.Runs.{run_from}
 use Rattle.rules.specs.Sound.{FreeWords}
 use Rattle.serial.specs.Serial.{Ended, done, stopped, serial_of}
 use Rattle.soundness.specs.Numbers.{Numbers}
+use Rattle.demands.specs.declared.RunRefusal.{RunRefusal}
 use Rattle.demands.specs.declared.RunAnswer.{RunAnswer}
 use Rattle.demands.specs.declared.RunAnswer.TheVariants.{Refused}
-use Rattle.demands.specs.Input.{Input, job_in, start_in, refusal_of}
+use Rattle.demands.specs.Input.{Input, job_in, start_in, refusal_of, TellsRefusal}
 
 -- "every image, core count, argument list, parameters, starting memory and allowance that a run takes"
 pub record Takes (i : Input) : Type 0 where
-  pub image : image_verdict i.image ≡ Accepted
+  pub image : image_verdict i.image ≡ Ok tt
   -- an image's bytes are bytes
   pub bytes : (k : ℕ) → get_or i.image k 0 < 256
   pub some : 1 ≤ i.cores
@@ -46,10 +44,10 @@ IsRefusal n = (14 ≤ n) × (n ≤ 22)
 pub record Demand1 (i : Input) (schedule log : List ℕ) (answer : RunAnswer) (memory_after logAfter : List ℕ) : Type 0 where
   -- "If an image, core count, schedule, argument list or lent buffer is bad, the run gives its number from document 01 and every buffer
   -- stays untouched"
-  pub bad : ¬ (refusal_of i schedule log ≡ 0) → (answer ≡ Refused (refusal_of i schedule log)) × (memory_after ≡ i.memory) × (logAfter ≡ log)
+  pub bad : ¬ (refusal_of i schedule log ≡ 0) → TellsRefusal i schedule log answer × (memory_after ≡ i.memory) × (logAfter ≡ log)
   -- "Where they are good, the run ends, within its buffers"
   pub good : refusal_of i schedule log ≡ 0
-      → (¬ ((n : ℕ) × (answer ≡ Refused n))) × (length memory_after ≡ length i.memory) × (length logAfter ≡ length log)
+      → (¬ ((why : RunRefusal) × (answer ≡ Refused why))) × (length memory_after ≡ length i.memory) × (length logAfter ≡ length log)
   -- "and a refused entry changes only its own log byte": the state, and the memory in it, stays
   pub untouched : (before : List Entry) (e : Entry) → IsRefusal (entry_of (job_in i) (state_after i before) e).log
       → state_after i (before ++ (e ∷ [])) ≡ state_after i before
@@ -64,9 +62,9 @@ pub record Demand2 (i : Input) (es : List Entry) (logs : List ℕ) : Type 0 wher
   pub numbers : (before after : List Entry) → es ≡ before ++ after → Numbers (job_in i) (state_after i before)
   -- "A written command reads back as itself", whatever follows it
   pub back : (command : Command) (rest : List ℕ) → OperandsFit command
-      → command_at (bytes_of_command command ++ rest) 0 ≡ Found command (length (bytes_of_command command))
+      → command_at (bytes_of_command command ++ rest) 0 ≡ Ok (command, length (bytes_of_command command))
   -- "and an accepted command's bytes are written again unchanged"
-  pub again : (bytes : List ℕ) → ((k : ℕ) → get_or bytes k 0 < 256) → (at : ℕ) (command : Command) (n : ℕ) → command_at bytes at ≡ Found command n
+  pub again : (bytes : List ℕ) → ((k : ℕ) → get_or bytes k 0 < 256) → (at : ℕ) (command : Command) (n : ℕ) → command_at bytes at ≡ Ok (command, n)
       → bytes_of_command command ≡ take n (drop at bytes)
 
 -- "the plain run of document 01, fed the same but for core count and schedule"

@@ -1,12 +1,11 @@
 -- Each number of a whole run, exactly under its condition: document 01, "The caller", "The image's author", and 13. The tests stand in the
 -- order "23, image, 24, 13, 25", so a condition also says that none before it is met. No condition cites the row of tests, so good input is
 -- not refused.
-use Rattle.std.specs.Prelude.{List, [], ◌⊎◌, ◌↔◌, ◌≡◌, ℕ, ◌≤◌, ◌<◌, length}
-use Rattle.image.specs.declared.Verdict.TheVariants.{Accepted}
+use Rattle.std.specs.Prelude.{List, [], ◌⊎◌, ◌↔◌, ◌≡◌, ℕ, ◌≤◌, ◌<◌, length, Ok, Err}
 use Rattle.image.specs.Layout.{arguments_of}
 use Rattle.image.specs.Image.{image_verdict, number_in}
 use Rattle.schedule.specs.declared.Entry.{Entry}
-use Rattle.schedule.specs.Meaning.{entries, malformed, schedule_of, IsSchedule, WellFormed}
+use Rattle.schedule.specs.Meaning.{schedule_of, IsSchedule, WellFormed}
 use Rattle.thread.specs.Effect.{IsFault}
 use Rattle.serial.specs.Serial.{stopped, serial_from}
 use Rattle.demands.specs.Input.{Input, job_in, refusal_of}
@@ -18,7 +17,7 @@ GoodCores i = (1 ≤ i.cores) × (i.cores ≤ 4)
 
 -- the image meets no number of its author's
 abbrev pub GoodImage : Input → Type 0
-GoodImage i = image_verdict i.image ≡ Accepted
+GoodImage i = image_verdict i.image ≡ Ok tt
 
 -- as many arguments as routine 0 has
 abbrev pub GoodArguments : Input → Type 0
@@ -51,8 +50,8 @@ pub record RunNumbers (i : Input) (schedule log : List ℕ) : Type 0 where
   pub others : (refusal_of i schedule log ≡ 0) ⊎ (((1 ≤ refusal_of i schedule log) × (refusal_of i schedule log ≤ 8))
       ⊎ ((refusal_of i schedule log ≡ 13) ⊎ ((23 ≤ refusal_of i schedule log) × (refusal_of i schedule log ≤ 25))))
   -- a schedule's entries, as the run reads them, are those whose bytes it is
-  pub means : (es : List Entry) → ((schedule_of schedule ≡ entries es) ↔ (IsSchedule schedule es))
-  pub malforms : (schedule_of schedule ≡ malformed) ↔ (¬ (WellFormed schedule))
+  pub means : (es : List Entry) → ((schedule_of schedule ≡ Ok es) ↔ (IsSchedule schedule es))
+  pub malforms : (schedule_of schedule ≡ Err (record {})) ↔ (¬ (WellFormed schedule))
   -- "every image, core count, argument list, parameters, starting memory and allowance that a run takes" is run
   pub taken : Takes i → (es : List Entry) → IsSchedule schedule es → length es ≤ length log → refusal_of i schedule log ≡ 0
 
