@@ -1,13 +1,15 @@
 -- The counts of the first records of a table, and of one record more. Assumes nothing.
 use borrow.Author.Count.{below_more}
+use borrow.Author.Tests.{eqb-true, eqb-false}
+use mathlib.Core.Bool.{Bool, true, false}
 use mathlib.Core.List.{List, [], ◌∷◌, ◌++◌}
 use mathlib.Core.Path.{◌≡◌, refl, sym, ap, ◌∙◌}
-use Prim.Native.Nat.{ℕ, zero, suc, ◌+◌, ◌-◌, ◌*◌, ◌/◌, ◌≤◌, ◌<◌}
-use native.Mathlib.Nat.{zero-add}
-use native.Mathlib.Numerals.{add-one}
+use Prim.Native.Nat.{ℕ, zero, suc, ◌+◌, ◌*◌, ◌/◌, ◌≤◌, ◌<◌}
+use native.Mathlib.Nat.{add-zero}
 use native.Mathlib.Omega.{arith}
-use lib.ListN.{length, get_or, set, take, drop, length-take, length-drop, length-append, get_or-append}
-use lib.Seq.{get_or-take, get_or-drop, get_or-append-add}
+use lib.Dec.{eqb}
+use lib.ListN.{length, get_or, set, length-set, drop, length-append, get_or-append}
+use lib.Seq.{get_or-set_same, get_or-set_other, get_or-drop, get_or-append-add, drop-append_seam}
 use Rattle.thread.specs.declared.Status.{Status}
 use Rattle.thread.specs.declared.Status.TheVariants.{Free, Running, Ready, Suspended, Waiting, Lent}
 use Rattle.thread.specs.declared.Thread.{Thread}
@@ -18,96 +20,7 @@ use Rattle.census.specs.Counted.{one_if, is_in, records_in, census_of}
 use Rattle.census.specs.Table.{records_up_to, records_of}
 use Rattle.census.proofs.Totals.{total}
 
-pub at-most-5 : (status : Status) → status_number status ≤ 5
-at-most-5 Free = omega arith
-at-most-5 Running = omega arith
-at-most-5 Ready = omega arith
-at-most-5 Suspended = omega arith
-at-most-5 Waiting = omega arith
-at-most-5 Lent = omega arith
-
--- the counts of the states that are not free, each at its state's number
-abbrev pub others_of : List Thread → List ℕ
-others_of threads =
-    0 ∷ records_in Running threads ∷ records_in Ready threads ∷ records_in Suspended threads ∷ records_in Waiting threads ∷ records_in Lent threads ∷ []
-
--- one record more at the end
-in-more : (status : Status) (threads : List Thread) (thread : Thread)
-    → records_in status (threads ++ (thread ∷ [])) ≡ records_in status threads + is_in status thread
-unfolding records_in
-in-more status [] thread = omega arith
-in-more status (h ∷ threads) thread = omega (arith, in-more status threads thread)
-
-module _ (threads : List Thread) (thread : Thread) where
-  abbrev more : List Thread
-  more = threads ++ (thread ∷ [])
-
-  module _ (own : Status) (e : thread.status ≡ own) where
-    -- the count of its own state grows, and that of another stays
-    grown : one_if (own is own) ≡ 1 → records_in own more ≡ records_in own threads + 1
-    grown z = omega (arith, in-more own threads thread, ap (λ (s : Status). one_if (s is own)) e, z)
-
-    same : (other : Status) → one_if (own is other) ≡ 0 → records_in other more ≡ records_in other threads
-    same other z = omega (arith, in-more other threads thread, ap (λ (s : Status). one_if (s is other)) e, z)
-
-  free_more : (own : Status) → thread.status ≡ own → status_number own ≡ 0
-      → (records_in Free threads + 1 ≡ records_in Free more) × (others_of threads ≡ others_of more)
-  free_more Free e z = (
-    sym (grown Free e refl),
-    rw (same Free e Running refl, same Free e Ready refl, same Free e Suspended refl, same Free e Waiting refl, same Free e Lent refl),
-  )
-  free_more Running e z = absurd (omega arith)
-  free_more Ready e z = absurd (omega arith)
-  free_more Suspended e z = absurd (omega arith)
-  free_more Waiting e z = absurd (omega arith)
-  free_more Lent e z = absurd (omega arith)
-
-  abbrev counted : Status → List ℕ
-  counted own = set (others_of threads) (status_number own) (get_or (others_of threads) (status_number own) 0 + 1)
-
-  others-more : (own : Status) → thread.status ≡ own → (status_number own ≡ 0 → ⊥)
-      → (records_in Free threads ≡ records_in Free more) × (counted own ≡ others_of more)
-  others-more Free e n = absurd (n refl)
-  others-more Running e n = (
-    sym (same Running e Free refl),
-    rw (grown Running e refl, same Running e Ready refl, same Running e Suspended refl, same Running e Waiting refl, same Running e Lent refl),
-  )
-  others-more Ready e n = (
-    sym (same Ready e Free refl),
-    rw (same Ready e Running refl, grown Ready e refl, same Ready e Suspended refl, same Ready e Waiting refl, same Ready e Lent refl),
-  )
-  others-more Suspended e n = (
-    sym (same Suspended e Free refl),
-    rw (same Suspended e Running refl, same Suspended e Ready refl, grown Suspended e refl, same Suspended e Waiting refl, same Suspended e Lent refl),
-  )
-  others-more Waiting e n = (
-    sym (same Waiting e Free refl),
-    rw (same Waiting e Running refl, same Waiting e Ready refl, same Waiting e Suspended refl, grown Waiting e refl, same Waiting e Lent refl),
-  )
-  others-more Lent e n = (
-    sym (same Lent e Free refl),
-    rw (same Lent e Running refl, same Lent e Ready refl, same Lent e Suspended refl, same Lent e Waiting refl, grown Lent e refl),
-  )
-
--- no count passes the records
-few-others : (threads : List Thread) (own : Status) → get_or (others_of threads) (status_number own) 0 ≤ length threads
-few-others threads Free = omega arith
-few-others threads Running = omega (arith, total threads)
-few-others threads Ready = omega (arith, total threads)
-few-others threads Suspended = omega (arith, total threads)
-few-others threads Waiting = omega (arith, total threads)
-few-others threads Lent = omega (arith, total threads)
-
 module _ (bytes : List ℕ) where
-  -- the counts of the first n records
-  pub record Sofar (n f : ℕ) (xs : List ℕ) : Type 0 where
-    pub free : f ≡ records_in Free (records_up_to bytes n)
-    pub others : xs ≡ others_of (records_up_to bytes n)
-
-  pub none : Sofar 0 0 (0 ∷ 0 ∷ 0 ∷ 0 ∷ 0 ∷ 0 ∷ [])
-  unfolding records_up_to records_in
-  none = record { free = refl; others = refl }
-
   pub long : (n : ℕ) → length (records_up_to bytes n) ≡ n
   unfolding records_up_to
   long zero = refl
@@ -124,48 +37,104 @@ module _ (bytes : List ℕ) where
       ∙ get_or-append-add (records_up_to bytes n) (record_at bytes (24 * n) ∷ []) 0 blank_thread)
       t (omega arith)
 
-  -- a record in its part of the bytes
-  pub part-long : (a : ℕ) → a + 24 ≤ length bytes → length (take (a + 24 - a) (drop a bytes)) ≡ 24
-  part-long a fits = simp (length-take, length-drop) (omega arith)
+  -- the first record, and those behind it
+  front : (n : ℕ) → records_up_to bytes (suc n) ≡ record_at bytes 0 ∷ records_up_to (drop 24 bytes) n
+  unfolding records_up_to
+  front zero = refl
+  front (suc n) =
+      let last : record_at (drop 24 bytes) (24 * n) ≡ record_at bytes (24 * suc n) =
+      record_same bytes (drop 24 bytes) (24 * suc n) (24 * n) (λ k h. get_or-drop 24 bytes (24 * n + k) 0 ∙ ap (λ (j : ℕ). get_or bytes j 0) (omega arith)) in
+      rw (front n, last) refl
 
-  part-record : (a k : ℕ) → k ≡ 24 → record_at (take k (drop a bytes)) 0 ≡ record_at bytes a
-  part-record a k e =
-      record_same bytes (take k (drop a bytes)) a 0
-      (λ i h. ap (λ (j : ℕ). get_or (take k (drop a bytes)) j 0) (zero-add i) ∙ get_or-take k (drop a bytes) i 0 (omega arith) ∙ get_or-drop a bytes i 0)
+-- the records of some bytes behind the 24 of one
+next : (x rest : List ℕ) → length x ≡ 24 → records_of (x ++ rest) ≡ record_at x 0 ∷ records_of rest
+next x rest e =
+    let many : length (x ++ rest) / 24 ≡ suc (length rest / 24) = omega (arith, length-append x rest) in
+    let first : record_at (x ++ rest) 0 ≡ record_at x 0 = record_same x (x ++ rest) 0 0 (λ k h. get_or-append x rest 0 (0 + k) (omega arith)) in
+    let behind : drop 24 (x ++ rest) ≡ rest = ap (λ (n : ℕ). drop n (x ++ rest)) (sym e) ∙ drop-append_seam x rest in
+    rw (many, front (x ++ rest) (length rest / 24), first, behind) refl
 
-  module _ (n f : ℕ) (xs : List ℕ) (s : Sofar n f xs) where
-    pub few : (f ≤ n) × ((own : Status) → get_or xs (status_number own) 0 ≤ n)
-    few = (
-      omega (arith, s.free, total (records_up_to bytes n), long n),
-      λ own. rw s.others (omega (arith, few-others (records_up_to bytes n) own, long n)),
-    )
+few-of : (status : Status) (threads : List Thread) → records_in status threads ≤ length threads
+few-of Free threads = omega (arith, total threads)
+few-of Running threads = omega (arith, total threads)
+few-of Ready threads = omega (arith, total threads)
+few-of Suspended threads = omega (arith, total threads)
+few-of Waiting threads = omega (arith, total threads)
+few-of Lent threads = omega (arith, total threads)
 
-    -- all records are counted
-    pub census : n ≡ length bytes / 24
-        → record { free = f; running = get_or xs 1 0; ready = get_or xs 2 0; suspended = get_or xs 3 0; waiting = get_or xs 4 0; lent = get_or xs 5 0 } ≡ census_of (records_of bytes)
-    census e = rw (s.free, s.others, e)
+-- the counts so far, each at its state's number, and those of the bytes left make those of all
+pub record Sofar (all left counts : List ℕ) : Type 0 where
+  pub six : length counts ≡ 6
+  pub each : (status : Status) → get_or counts (status_number status) 0 + records_in status (records_of left) ≡ records_in status (records_of all)
 
-    -- one record more: it was read in its part, and its state is k
-    module _ (a : ℕ) (at : a ≡ 24 * n) (h : Thread) (read : h ≡ record_at (take (a + 24 - a) (drop a bytes)) 0) (k : ℕ) (state : k ≡ status_number h.status) where
-      here : h ≡ record_at bytes (24 * n)
-      here = read ∙ part-record a (a + 24 - a) (omega arith) ∙ ap (record_at bytes) at
+pub none : (all : List ℕ) → Sofar all all (0 ∷ 0 ∷ 0 ∷ 0 ∷ 0 ∷ 0 ∷ [])
+none all = record { six = refl; each = go }
+  where
+    go : (status : Status) → get_or (0 ∷ 0 ∷ 0 ∷ 0 ∷ 0 ∷ 0 ∷ []) (status_number status) 0 + records_in status (records_of all) ≡ records_in status (records_of all)
+    go Free = omega arith
+    go Running = omega arith
+    go Ready = omega arith
+    go Suspended = omega arith
+    go Waiting = omega arith
+    go Lent = omega arith
 
-      next : records_up_to bytes n ++ (h ∷ []) ≡ records_up_to bytes (n + 1)
-      unfolding records_up_to
-      next = rw (add-one n, here)
+-- all records are counted
+pub whole : (all left counts : List ℕ) → length left < 24 → Sofar all left counts
+    → record { free = get_or counts 0 0; running = get_or counts 1 0; ready = get_or counts 2 0; suspended = get_or counts 3 0; waiting = get_or counts 4 0; lent = get_or counts 5 0 } ≡ census_of (records_of all)
+unfolding records_up_to records_in
+whole all left counts few sofar =
+    let none : length left / 24 ≡ 0 = omega arith in
+    let so = rw none at sofar.each in
+    rw (← so Free, ← so Running, ← so Ready, ← so Suspended, ← so Waiting, ← so Lent) (simp add-zero)
 
-      pub one_free : k ≡ 0 → Sofar (n + 1) (f + 1) xs
-      one_free z =
-          let (p, q) = free_more (records_up_to bytes n) h h.status refl (sym state ∙ z) in
-          record {
-            free = ap (λ (m : ℕ). m + 1) s.free ∙ p ∙ ap (records_in Free) next;
-            others = s.others ∙ q ∙ ap others_of next;
-          }
+-- one more at a place
+bumped : (counts : List ℕ) (i j : ℕ) → i < length counts → get_or (set counts i (get_or counts i 0 + 1)) j 0 ≡ get_or counts j 0 + one_if (eqb i j)
+bumped counts i j l = go (eqb i j) refl
+  where
+    go : (b : Bool) → eqb i j ≡ b → get_or (set counts i (get_or counts i 0 + 1)) j 0 ≡ get_or counts j 0 + one_if b
+    go true e = let same : i ≡ j = eqb-true _ _ e in rw (← same) (get_or-set_same counts i _ 0 l)
+    go false e = get_or-set_other counts i j _ 0 (λ s. eqb-false _ _ e (sym s)) ∙ omega arith
 
-      pub one-other : (k ≡ 0 → ⊥) → Sofar (n + 1) f (set xs k (get_or xs k 0 + 1))
-      one-other z =
-          let (p, q) = others-more (records_up_to bytes n) h h.status refl (λ e. z (state ∙ e)) in
-          record {
-            free = s.free ∙ p ∙ ap (records_in Free) next;
-            others = rw (state, s.others) (q ∙ ap others_of next);
-          }
+pub small : (status : Status) → status_number status < 6
+small Free = omega arith
+small Running = omega arith
+small Ready = omega arith
+small Suspended = omega arith
+small Waiting = omega arith
+small Lent = omega arith
+
+-- `next` gives the first of the bytes left, of which a record is read
+module _ (all : List ℕ) {size size' : ℕ} {left : List ℕ} (counts : List ℕ) (invariant : (size ≡ 24) × Sofar all left counts) (x rest : List ℕ)
+    (sized : size' ≡ size) (cut : left ≡ x ++ rest) (long' : length x ≡ size) (thread : Thread) (read : length x ≡ 24 → thread ≡ record_at x 0)
+    (k : ℕ) (state : k ≡ status_number thread.status) where
+  long24 : length x ≡ 24
+  long24 = omega arith
+
+  parted : (status : Status) → records_in status (records_of left) ≡ is_in status thread + records_in status (records_of rest)
+  unfolding records_in
+  parted status = rw (cut, next x rest long24, ← read long24) refl
+
+  -- it is counted
+  pub kept : (size' ≡ 24) × Sofar all rest (set counts k (get_or counts k 0 + 1))
+  kept = (
+    omega arith,
+    record {
+      six = length-set counts k (get_or counts k 0 + 1) ∙ invariant.1.six;
+      each = λ status. rw state (omega (arith, bumped counts (status_number thread.status) (status_number status) (rw (← state, invariant.1.six) below), invariant.1.each status, parted status));
+    },
+  )
+    where
+      below : k < 6
+      below = rw state (small thread.status)
+
+  -- there is room for the count
+  pub few : get_or counts k 0 + 1 ≤ length all
+  few = rw state (omega (arith, invariant.1.each thread.status, parted thread.status, itself thread.status, total (records_of all), long all (length all / 24), few-of thread.status (records_of all)))
+    where
+      itself : (status : Status) → one_if (status is status) ≡ 1
+      itself Free = refl
+      itself Running = refl
+      itself Ready = refl
+      itself Suspended = refl
+      itself Waiting = refl
+      itself Lent = refl

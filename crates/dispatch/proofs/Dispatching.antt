@@ -3,8 +3,8 @@ use mathlib.Core.Bool.{Bool, true, false}
 use mathlib.Core.Path.{◌≡◌, sym, ◌∙◌}
 use Prim.Native.Nat.{ℕ, ◌≤◌, ◌<◌}
 use borrow.Author.Tests.{lt-ltb, le-ltb, le-leb, lt-leb}
-use Rattle.queue.specs.declared.Front.{Front}
-use Rattle.queue.specs.declared.Front.TheVariants.{Number, Nothing}
+use Rattle.std.proofs.Common.{None, Some}
+use Rattle.std.specs.declared.option.Option.{Option}
 use Rattle.queue.specs.Contents.{front_of, tail_of}
 use Rattle.queue.proofs.Laws.{nothing-empty, number-first}
 use Rattle.thread.specs.declared.Thread.{Thread}
@@ -30,12 +30,12 @@ module _ (s : State) (c : ℕ) (b : Bool) (e : b ≡ is_over s.outcome) where
       unfolding take_of
       take-busy l = rw (← e, going, ← count, lt-leb _ _ core, ← on, lt-ltb _ _ l)
 
-      module _ (idle : 32 ≤ k) (first : Front) (hf : first ≡ front_of s.queues.ready) where
-        pub take_none : first ≡ Nothing → refused 16 s ≡ take_of s c
+      module _ (idle : 32 ≤ k) (first : Option ℕ) (hf : first ≡ front_of s.queues.ready) where
+        pub take_none : first ≡ None → refused 16 s ≡ take_of s c
         unfolding take_of take_into
         take_none f = rw (← e, going, ← count, lt-leb _ _ core, ← on, le-ltb _ _ idle, nothing-empty s.queues.ready (sym hf ∙ f))
 
-        pub took : (t : ℕ) (s1 s2 s3 : State) (th a : Thread) → first ≡ Number t → s1 ≡ set_ready (tail_of s.queues.ready) s
+        pub took : (t : ℕ) (s1 s2 s3 : State) (th a : Thread) → first ≡ Some t → s1 ≡ set_ready (tail_of s.queues.ready) s
             → th ≡ thread_at s1 t → a ≡ with_status Running th → s2 ≡ set_thread t a s1 → s3 ≡ set_core c t s2 → accepted s3 ≡ take_of s c
         unfolding take_of take_into
         took t s1 s2 s3 th a f g1 ht ha g2 g3 =

@@ -3,61 +3,62 @@
 #![tactic(auto)]
 
 ghost use Rattle.std.specs.Prelude.{List, ◌≡◌, ℕ, length};
+ghost use Rattle.rules.specs.Denial.{log_of};
 ghost use Rattle.rules.specs.Rules.{take_of, enable_of};
 ghost use Rattle.tables.specs.Meaning.{size, meaning};
 ghost use Rattle.dispatch.specs.Orderly.{after, Orderly};
 
-use queue::Front;
-use tables::lines::{put_ready, ready};
+use rules::Denial;
+use tables::lines::{Line, put_queue, queue_of};
 use tables::marks::{core_at, count, is_over, put_core};
 use tables::records::{put_thread, thread_at};
 use thread::Status;
-use thread::record::{same_status, with_status};
 
-// Core c takes the ready queue's head; the log byte is given.
-pub fn take(tables: &mut [u8], c: u8) -> u8
+// Core c takes the ready queue's head, or it tells why not.
+pub fn take(tables: &mut [u8], c: u8) -> Result<(), Denial>
     requires { Orderly tables.old }
-    ensures { (words memory : List ℕ) → after result tables.new words memory ≡ take_of (meaning tables.old words memory) c }
+    ensures { (words memory : List ℕ) → after (log_of result) tables.new words memory ≡ take_of (meaning tables.old words memory) c }
 {
     if is_over(tables) {
-        return 19;
+        return Err(Denial::Over);
     }
     if count(tables) <= c {
-        return 14;
+        return Err(Denial::NoCore);
     }
     if core_at(tables, c) < 32 {
-        return 15;
+        return Err(Denial::WrongCore);
     }
-    let taken = ready(tables).dequeue();
-    let first = taken.first;
-    let Front::Number(t) = first else {
-        return 16;
+    let (first, rest) = queue_of(tables, Line::Ready).dequeue();
+    let Some(t) = first else {
+        return Err(Denial::NothingReady);
     };
-    let rest = taken.queue;
-    put_ready(tables, rest);
+    put_queue(tables, Line::Ready, rest);
     let th = thread_at(tables, t);
-    put_thread(tables, t, with_status(th, Status::Running));
+    put_thread(tables, t, th.with_status(Status::Running));
     put_core(tables, c, t);
-    0
+    Ok(())
 }
 
-// Thread t is enabled; the log byte is given.
-pub fn enable(tables: &mut [u8], t: u8) -> u8
+// Thread t is enabled, or it tells why not.
+pub fn enable(tables: &mut [u8], t: u8) -> Result<(), Denial>
     requires { length tables.old ≡ size }
-    ensures { (words memory : List ℕ) → after result tables.new words memory ≡ enable_of (meaning tables.old words memory) t }
+    ensures { (words memory : List ℕ) → after (log_of result) tables.new words memory ≡ enable_of (meaning tables.old words memory) t }
 {
     if is_over(tables) {
-        return 19;
+        return Err(Denial::Over);
     }
     if 32 <= t {
-        return 17;
+        return Err(Denial::NotSuspended);
     }
     let th = thread_at(tables, t);
-    let status = th.status;
-    if !same_status(status, Status::Suspended) {
-        return 17;
+    if th.status != Status::Suspended {
+        return Err(Denial::NotSuspended);
     }
-    put_thread(tables, t, with_status(th, Status::Ready));
-    put_ready(tables, ready(tables).enqueue(t));
-    0
+    put_thread(tables, t, th.with_status(Status::Ready));
+    put_queue(
+        tables,
+        Line::Ready,
+        queue_of(tables, Line::Ready).enqueue(t),
+    );
+    Ok(())
 }

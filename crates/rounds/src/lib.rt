@@ -14,44 +14,26 @@ const LEAST: usize = 3;
 pub fn may_try(over: bool, left: usize) -> bool
     ensures { result ≡ (not over && leb 3 left) }
 {
-    if over {
-        return false;
-    }
-    LEAST <= left
+    !over && LEAST <= left
 }
 
 // Is an entry with this log byte accepted, or does it fault?
 pub fn is_written(log: u8) -> bool
     ensures { result ≡ is_written log }
 {
-    if log == 0 {
-        return true;
-    }
-    if log == 31 {
-        return true;
-    }
-    if log < 9 {
-        return false;
-    }
-    log <= 12
+    matches!(log, 0 | 9..=12 | 31)
 }
 
 // Was an entry of this round accepted, the last one with this log byte?
 pub fn is_moved(moved: bool, log: u8) -> bool
     ensures { result ≡ (moved || eqb log 0) }
 {
-    if moved {
-        return true;
-    }
-    log == 0
+    moved || log == 0
 }
 
 // How many bytes of a buffer are used.
 pub fn usable_of(length: usize) -> usize
     ensures { result ≡ usable length }
 {
-    if length < MOST {
-        return length;
-    }
-    MOST
+    length.min(MOST)
 }

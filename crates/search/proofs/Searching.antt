@@ -3,8 +3,8 @@ use borrow.Author.Tests.{lt-ltb, le-ltb, eqb-true}
 use mathlib.Core.Bool.{Bool, true, false, cond, ◌&&◌, ◌||◌}
 use mathlib.Core.List.{List}
 use mathlib.Core.Path.{◌≡◌, refl, ap, sym, ◌∙◌}
-use Prim.Native.Nat.{ℕ, zero, suc, ◌+◌, ◌-◌, ◌≤◌, ◌<◌}
-use native.Mathlib.Numerals.{add-one, sub-one}
+use Prim.Native.Nat.{ℕ, zero, suc, ◌+◌, ◌≤◌, ◌<◌}
+use native.Mathlib.Numerals.{add-one}
 use native.Mathlib.Omega.{arith}
 use lib.Dec.{eqb}
 use lib.ListN.{get_or, length}
@@ -59,10 +59,9 @@ module _ (j : Job) (s : State) where
     meets zero l e = absurd (omega arith)
     meets (suc n) l e = rw (lt-ltb t 32 low, seed-is ∙ e)
 
-    pub goes : (n p : ℕ) → 0 < n → b ≡ false → p ≡ lent_parent h → seed_above (n - 1) j s p ≡ seed_above n j s t
+    pub goes : (n m p : ℕ) → n ≡ suc m → b ≡ false → p ≡ lent_parent h → seed_above m j s p ≡ seed_above n j s t
     unfolding seed_above
-    goes zero p l e q = absurd (omega arith)
-    goes (suc n) p l e q = rw (lt-ltb t 32 low, seed-is ∙ e, sub-one, q, met)
+    goes n m p l e q = rw (l, lt-ltb t 32 low, seed-is ∙ e, q, met)
 
   -- core by core
   pub found : (n c t : ℕ) → 0 < n → t ≡ seed_on j s c → t < 32 → seed_from n j s c ≡ t

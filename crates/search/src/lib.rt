@@ -11,12 +11,11 @@ ghost use Rattle.tables.specs.Change.{Reads};
 ghost use Rattle.search.specs.Search.{lent_parent, first_seed, idle_choice, choice_of, is_nothing, lowest_suspended};
 
 use command::byte_at;
-use image::routines::place_in_image;
+use rules::Job;
 use schedule::Entry;
-use tables::lines::ready;
+use tables::lines::{Line, queue_of};
 use tables::marks::{core_at, count};
 use tables::records::thread_at;
-use thread::record::same_status;
 use thread::{Status, Thread};
 
 // No thread.
@@ -26,25 +25,18 @@ const NONE: u8 = 32;
 fn lent_parent(h: Thread) -> u8
     ensures { result ≡ lent_parent h }
 {
-    if h.connected {
-        return h.origin.parent;
-    }
-    NONE
+    if h.connected { h.origin.parent } else { NONE }
 }
 
 // Is a thread with this record lent, its next command an 08 or 09?
-fn is_seed(h: Thread, image: &[u8], starts: &[u16]) -> bool
-    ensures { result ≡ (h.status is Lent && (eqb (get_or image.now (get_or starts.now h.origin.routine 0 + h.position) 0) 8 || eqb (get_or image.now (get_or starts.now h.origin.routine 0 + h.position) 0) 9)) }
+fn is_seed(h: Thread, job: &Job<'_>) -> bool
+    ensures { result ≡ (h.status is Lent && (eqb (get_or job.now.image.now (get_or job.now.starts.now h.origin.routine 0 + h.position) 0) 8 || eqb (get_or job.now.image.now (get_or job.now.starts.now h.origin.routine 0 + h.position) 0) 9)) }
 {
-    let status = h.status;
-    if !same_status(status, Status::Lent) {
-        return false;
-    }
-    let byte = byte_at(image, place_in_image(starts, h.origin.routine, h.position));
-    if byte == 8 {
-        return true;
-    }
-    byte == 9
+    h.status == Status::Lent
+        && matches!(
+            byte_at(job.image, job.place_of(h.origin.routine, h.position)),
+            8 | 9
+        )
 }
 
 // The thread on core c; from core 4 on, where the tables have none, it is 0, as the rules have it.
@@ -58,78 +50,67 @@ fn on_core(tables: &[u8], c: u8) -> u8
 }
 
 // The first seed on the cores' chains of lent parents, from core 0 on.
-fn find_seed(tables: &[u8], image: &[u8], starts: &[u16]) -> u8
-    ensures { (parameters : List ℕ) (allowance : ℕ) → Reads tables.now result (λ s. first_seed (job_of image.now starts.now parameters allowance) s) 32 }
+fn find_seed(tables: &[u8], job: &Job<'_>) -> u8
+    ensures { (parameters : List ℕ) (allowance : ℕ) → Reads tables.now result (λ s. first_seed (job_of job.now.image.now job.now.starts.now parameters allowance) s) 32 }
 {
     let cores = count(tables);
     let mut c: u8 = 0;
-    let found = 'search: loop {
+    // Document 01 has a found thread leave both loops as the break's value, which a `for` can't have.
+    'search: loop {
         if cores <= c {
             break NONE;
         }
         let mut t = on_core(tables, c);
-        let mut links: u8 = 32;
-        while 0 < links {
+        for _ in 0..32u8 {
             if NONE <= t {
                 break;
             }
             let h = thread_at(tables, t);
-            if is_seed(h, image, starts) {
+            if is_seed(h, job) {
                 break 'search t;
             }
             t = lent_parent(h);
-            links = links - 1;
         }
-        c = c + 1;
-    };
-    found
+        c += 1;
+    }
 }
 
 // What an idle core c tries.
-fn idle_choice(c: u8, tables: &[u8], image: &[u8], starts: &[u16]) -> Entry
-    ensures { (parameters : List ℕ) (allowance : ℕ) → Reads tables.now result (λ s. idle_choice (job_of image.now starts.now parameters allowance) s c) (Steal c 32) }
+fn idle_choice(c: u8, tables: &[u8], job: &Job<'_>) -> Entry
+    ensures { (parameters : List ℕ) (allowance : ℕ) → Reads tables.now result (λ s. idle_choice (job_of job.now.image.now job.now.starts.now parameters allowance) s c) (Steal c 32) }
 {
-    let q = ready(tables);
+    let q = queue_of(tables, Line::Ready);
     if 0 < q.len() {
         return Entry::Take(c);
     }
-    Entry::Steal(c, find_seed(tables, image, starts))
+    Entry::Steal(c, find_seed(tables, job))
 }
 
 // What core c tries.
-pub fn choice(c: u8, tables: &[u8], image: &[u8], starts: &[u16]) -> Entry
-    ensures { (parameters : List ℕ) (allowance : ℕ) → Reads tables.now result (λ s. choice_of (job_of image.now starts.now parameters allowance) s c) (Step c) }
+pub fn choice(c: u8, tables: &[u8], job: &Job<'_>) -> Entry
+    ensures { (parameters : List ℕ) (allowance : ℕ) → Reads tables.now result (λ s. choice_of (job_of job.now.image.now job.now.starts.now parameters allowance) s c) (Step c) }
 {
     if on_core(tables, c) < NONE {
         return Entry::Step(c);
     }
-    idle_choice(c, tables, image, starts)
+    idle_choice(c, tables, job)
 }
 
 // Is this the steal of no thread, which is no try?
 pub fn is_nothing(entry: Entry) -> bool
     ensures { result ≡ is_nothing entry }
 {
-    match entry {
-        Entry::Step(_) => false,
-        Entry::Take(_) => false,
-        Entry::Steal(_, t) => NONE <= t,
-        Entry::Enable(_) => false,
-    }
+    matches!(entry, Entry::Steal(_, t) if NONE <= t)
 }
 
 // The lowest suspended thread.
 pub fn lowest_suspended(tables: &[u8]) -> u8
     ensures { Reads tables.now result lowest_suspended 32 }
 {
-    let mut t: u8 = 0;
-    while t < NONE {
-        let h = thread_at(tables, t);
-        let status = h.status;
-        if same_status(status, Status::Suspended) {
+    for t in 0..NONE {
+        if thread_at(tables, t).status == Status::Suspended {
             return t;
         }
-        t = t + 1;
     }
     NONE
 }

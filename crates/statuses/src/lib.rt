@@ -7,7 +7,6 @@ ghost use Rattle.rules.specs.Fork.{child_status, parent_status, is_connected};
 ghost use Rattle.rules.specs.Return.{wakes, status_after};
 
 use rules::ForkKind;
-use thread::record::same_status;
 use thread::{Status, Thread};
 
 // What an idle core has in place of a thread.
@@ -18,9 +17,8 @@ pub fn child_status(kind: ForkKind) -> Status
     ensures { result ≡ child_status kind }
 {
     match kind {
-        ForkKind::Called => Status::Running,
+        ForkKind::Called | ForkKind::Stolen => Status::Running,
         ForkKind::Queued => Status::Ready,
-        ForkKind::Stolen => Status::Running,
     }
 }
 
@@ -29,9 +27,8 @@ pub fn parent_status(kind: ForkKind) -> Status
     ensures { result ≡ parent_status kind }
 {
     match kind {
-        ForkKind::Called => Status::Lent,
+        ForkKind::Called | ForkKind::Stolen => Status::Lent,
         ForkKind::Queued => Status::Running,
-        ForkKind::Stolen => Status::Lent,
     }
 }
 
@@ -39,11 +36,7 @@ pub fn parent_status(kind: ForkKind) -> Status
 pub fn is_connected(kind: ForkKind) -> bool
     ensures { result ≡ is_connected kind }
 {
-    match kind {
-        ForkKind::Called => true,
-        ForkKind::Queued => false,
-        ForkKind::Stolen => false,
-    }
+    matches!(kind, ForkKind::Called)
 }
 
 // Does a parent, whose record is q, become ready when a child of its ends?
@@ -51,14 +44,7 @@ pub fn is_connected(kind: ForkKind) -> bool
 pub fn does_wake(connected: bool, q: Thread) -> bool
     ensures { result ≡ wakes connected q }
 {
-    if connected {
-        return false;
-    }
-    let status = q.status;
-    if !same_status(status, Status::Waiting) {
-        return false;
-    }
-    q.family.children == 1
+    !connected && q.status == Status::Waiting && q.family.children == 1
 }
 
 // A parent's status, whose record was q, once a child of its has ended.
@@ -67,22 +53,19 @@ pub fn status_after(connected: bool, q: Thread) -> Status
     ensures { result ≡ status_after connected q }
 {
     if connected {
-        return Status::Running;
+        Status::Running
+    } else if does_wake(connected, q) {
+        Status::Ready
+    } else {
+        q.status
     }
-    if does_wake(connected, q) {
-        return Status::Ready;
-    }
-    q.status
 }
 
 // The number on a core once its thread has ended: the parent of a connected one, or none.
 pub fn core_after(connected: bool, p: u8) -> u8
     ensures { result ≡ cond connected p none }
 {
-    if connected {
-        return p;
-    }
-    NONE
+    if connected { p } else { NONE }
 }
 
 // A stacklet is free once the frame at its first word has gone.
@@ -96,25 +79,19 @@ pub fn is_lowest(base: u16) -> bool
 pub fn must_wait(byte: u8, children: u8) -> bool
     ensures { result ≡ (eqb byte 10 && ltb 0 children) }
 {
-    if byte != 10 {
-        return false;
-    }
-    0 < children
+    byte == 10 && 0 < children
 }
 
 // Is this the first byte of an 08 or 09?
 pub fn is_fork(byte: u8) -> bool
     ensures { result ≡ (eqb byte 8 || eqb byte 9) }
 {
-    if byte == 8 {
-        return true;
-    }
-    byte == 9
+    byte == 8 || byte == 9
 }
 
 // Is a weight more than what is left of the allowance?
 pub fn falls_short(left: u32, weight: u8) -> bool
     ensures { result ≡ ltb left weight }
 {
-    left < (weight as u32)
+    left < u32::from(weight)
 }

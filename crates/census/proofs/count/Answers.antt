@@ -1,37 +1,18 @@
--- `census::count` meets its contract. The loop's invariant: what is counted are the first t records. Assumes nothing.
-use mathlib.Core.Path.{refl}
-use Prim.Native.Nat.{◌*◌, ◌≤◌}
+-- `census::count` meets its contract. Assumes nothing.
+use mathlib.Core.Path.{refl, ◌∙◌}
 use native.Mathlib.Omega.{arith}
-use lib.ListN.{get_or}
-use Rattle.census.proofs.Counting.{none, few, part-long, census, one_free, one-other}
+use Rattle.census.proofs.Counting.{kept, few, none, whole}
 use Rattle.census.proofs.count.Goals as goal
-use Rattle.census.proofs.count.Goals.{then-state-eq0, else-state-eq0}
 
-pub loop-t-init : goal.loop-t-init
-loop-t-init c = (omega arith, none _)
+pub loop-cells-init : goal.loop-cells-init
+loop-cells-init c =
+    rw (c.into_iter-cells-iterator.ensures.into_iter_gives, c.chunks_exact-cells-items.ensures.size, c.chunks_exact-cells-items.ensures.rest) (refl, none _)
 
-pub overflow_add-free : goal.overflow_add-free
-overflow_add-free c = let loop' = c.loop-t in omega (arith, (few _ _ _ _ loop'.invariant.1).0)
+pub overflow_add-counts : goal.overflow_add-counts
+overflow_add-counts c = omega (arith, few _ c.loop-cells.counts c.loop-cells.invariant _ _ c.in-Some.ensures.steps.0 c.in-Some.ensures.steps.1.0 c.in-Some.ensures.steps.1.1 c.read_record.result c.read_record.ensures.0 _ (c.from.ensures ∙ c.number.ensures))
 
-pub overflow_add-others : goal.overflow_add-others
-overflow_add-others c =
-    let loop' = c.loop-t in
-    let state' = c.state_of-state in
-    let most : get_or loop'.others state'.result 0 ≤ loop'.t = rw state'.ensures.0 ((few _ _ _ _ loop'.invariant.1).1 c.read_record-thread.result.status) in
-    omega (arith, most)
-
-pub loop-t-preserved : goal.loop-t-preserved
-loop-t-preserved c =
-    let loop' = c.loop-t in
-    let bytes = c.args.records.now in
-    let read = c.read_record-thread.ensures.0 (part-long bytes (24 * loop'.t) (omega arith)) in
-    let state = c.state_of-state.ensures.0 in (
-      omega arith,
-      elim c.if-state-eq0.branch [
-        | then-state-eq0 w ↦ rw (w.free-is, w.others-is) (one_free _ _ _ _ loop'.invariant.1 _ refl _ read _ state w.if-state-eq0.true)
-        | else-state-eq0 w ↦ rw (w.free-is, w.others-is) (one-other _ _ _ _ loop'.invariant.1 _ refl _ read _ state w.if-state-eq0.false)
-      ],
-    )
+pub loop-cells-preserved : goal.loop-cells-preserved
+loop-cells-preserved c = kept _ c.loop-cells.counts c.loop-cells.invariant _ _ c.in-Some.ensures.steps.0 c.in-Some.ensures.steps.1.0 c.in-Some.ensures.steps.1.1 c.read_record.result c.read_record.ensures.0 _ (c.from.ensures ∙ c.number.ensures)
 
 pub returns : goal.returns
-returns c = census _ _ _ _ c.loop-t.invariant.1 (omega (arith, c.loop-t.invariant.0, c.loop-t-test.false))
+returns c = whole _ _ _ (omega (arith, c.in-None.ensures.steps, c.loop-cells.invariant.0)) c.loop-cells.invariant.1

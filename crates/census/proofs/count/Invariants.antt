@@ -1,11 +1,8 @@
--- `census::count` meets its contract. The loop's invariant: what is counted are the first t records. Assumes nothing.
-use Prim.Native.Nat.{◌-◌, ◌/◌, ◌≤◌}
-use lib.ListN.{length}
+-- `census::count` meets its contract. The loop's invariant: what is counted so far and the records left make all. Assumes nothing.
+use mathlib.Core.Path.{◌≡◌}
+use Rattle.std.specs.Slice.Iter.{chunks_exact_rest, chunks_exact_size}
 use Rattle.census.proofs.Counting.{Sofar}
 use Rattle.census.proofs.count.Given as goal
 
-abbrev pub invariant-loop-t : goal.invariant-loop-t
-invariant-loop-t l = (l.t ≤ length l.records / 24) × Sofar l.records l.t l.free l.others
-
-abbrev pub decreases-loop-t : goal.decreases-loop-t
-decreases-loop-t l = length l.records / 24 - l.t
+abbrev pub invariant-loop-cells : goal.invariant-loop-cells
+invariant-loop-cells l = (chunks_exact_size l.cells-iterator ≡ 24) × Sofar l.records (chunks_exact_rest l.cells-iterator) l.counts

@@ -42,7 +42,7 @@ returns-in_default c =
     let if2' = c.if-count-c in
     let core-at' = c.core_at in
     let low : args'.c < 4 = (omega (arith, if2'.false, count'.ensures.means pre'.sized pre'.words pre'.memory, pre'.sound.sized.most)) in
-    λ words memory. take_none (meaning args'.tables.now words memory) args'.c is-over'.result (is-over'.ensures.means pre'.sized words memory) count'.result c.if-is_over.false (count'.ensures.means pre'.sized words memory) core-at'.result if2'.false (core-seen pre'.sized words memory args'.c core-at'.result low core-at'.ensures) c.if-core_at-lt32.false c.dequeue-taken.result.first (first-of _ _ _ (c.ready.ensures.means pre'.sized words memory) c.dequeue-taken.ensures) c.in_default.is
+    λ words memory. take_none (meaning args'.tables.now words memory) args'.c is-over'.result (is-over'.ensures.means pre'.sized words memory) count'.result c.if-is_over.false (count'.ensures.means pre'.sized words memory) core-at'.result if2'.false (core-seen pre'.sized words memory args'.c core-at'.result low core-at'.ensures) c.if-core_at-lt32.false c.dequeue-first.result.0 (first-of _ _ _ (c.queue_of.ensures.means pre'.sized words memory) c.dequeue-first.ensures) c.in_default.is
 
 pub returns : goal.returns
 returns c =
@@ -52,10 +52,10 @@ returns c =
     let count' = c.count in
     let if2' = c.if-count-c in
     let core-at' = c.core_at in
-    let ready' = c.ready in
-    let dequeue' = c.dequeue-taken in
-    let first' = c.in-Number in
-    let put-ready' = c.put_ready in
+    let ready' = c.queue_of in
+    let dequeue' = c.dequeue-first in
+    let first' = c.in-Some in
+    let put-ready' = c.put_queue in
     let thread-at' = c.thread_at-th in
     let with-status' = c.with_status in
     let put-thread' = c.put_thread in
@@ -66,7 +66,7 @@ returns c =
     let l = pre'.sized in
     let l1 = put-ready'.ensures.sized ∙ l in
     let l2 = put-thread'.ensures.sized ∙ l1 in
-    took (meaning args'.tables.now words memory) args'.c is-over'.result (is-over'.ensures.means pre'.sized words memory) count'.result c.if-is_over.false (count'.ensures.means pre'.sized words memory) core-at'.result if2'.false (core-seen pre'.sized words memory args'.c core-at'.result low core-at'.ensures) c.if-core_at-lt32.false dequeue'.result.first (first-of _ _ _ (ready'.ensures.means pre'.sized words memory) dequeue'.ensures) t _ _ _ _ _ first'.is
+    took (meaning args'.tables.now words memory) args'.c is-over'.result (is-over'.ensures.means pre'.sized words memory) count'.result c.if-is_over.false (count'.ensures.means pre'.sized words memory) core-at'.result if2'.false (core-seen pre'.sized words memory args'.c core-at'.result low core-at'.ensures) c.if-core_at-lt32.false dequeue'.result.0 (first-of _ _ _ (ready'.ensures.means pre'.sized words memory) dequeue'.ensures) t _ _ _ _ _ first'.is
     (put-ready'.ensures.means l words memory ∙ ap (λ (q : List ℕ). set_ready q (meaning args'.tables.now words memory)) (rest_of _ _ _ (ready'.ensures.means l words memory) dequeue'.ensures))
     (thread-seen l1 words memory t thread-at'.result small thread-at'.ensures) with-status'.ensures
     (thread-stored l1 words memory t with-status'.result small put-thread'.ensures)

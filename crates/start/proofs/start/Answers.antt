@@ -1,7 +1,8 @@
 -- `start::start` meets its contract. Assumes nothing.
+use borrow.Author.Rules.{rules}
 use Rattle.start.proofs.Starting.{starting}
 use Rattle.start.proofs.start.Goals as goal
 
 pub returns : goal.returns
 returns c =
-    starting c.clear.ensures c.put_stacklets.ensures c.put_numbers.ensures c.put_root.ensures c.new-unused.ensures c.slots_of-wide.ensures c.clear_words.ensures c.push_arguments.ensures.tops c.push_arguments.ensures.words
+    starting c.clear.ensures c.put_stacklets.ensures c.put_numbers.ensures c.put_root.ensures c.new.ensures c.slots_of-wide.ensures (search rules) c.push_arguments.ensures.tops c.push_arguments.ensures.words
