@@ -1,8 +1,7 @@
 -- A fork that is carried out, as a chain of stores, is the rule's. Assumes nothing.
-use Rattle.std.proofs.Common.{◌≡◌, ℕ, ◌+◌, ◌/◌, ◌%◌, ◌<◌, ◌≤◌, Bool, true, false, cond, ◌&&◌, List, [], ◌∷◌, length, sym, refl, ap, ◌∙◌, mod-eq_of_lt, arith}
+use Rattle.std.proofs.Common.{◌≡◌, ℕ, ◌+◌, ◌/◌, ◌%◌, ◌<◌, ◌≤◌, Bool, true, false, cond, ◌&&◌, List, [], ◌∷◌, length, sym, refl, ap, ◌∙◌, mod-eq_of_lt, arith, None, Some}
 use Rattle.image.specs.Layout.{slots_of, arguments_of}
-use Rattle.queue.specs.declared.Front.{Front}
-use Rattle.queue.specs.declared.Front.TheVariants.{Number, Nothing}
+use Rattle.std.specs.declared.option.Option.{Option}
 use Rattle.queue.specs.Contents.{front_of, tail_of}
 use Rattle.queue.proofs.Laws.{nothing-empty, number-first}
 use Rattle.stacklets.specs.Tops.{is_topmost, fits_on, base_on, pushed_tops}
@@ -20,7 +19,7 @@ use Rattle.entries.specs.Given.{place_by, both_records, left_by, hands_out_numbe
 use Rattle.dispatch.specs.Orderly.{HeadBelow}
 use Rattle.window.specs.declared.Window.{Window}
 use Rattle.window.specs.declared.Cut.{Cut}
-use Rattle.window.specs.declared.Cut.TheVariants.{Parts, BadCut}
+use Rattle.std.specs.Prelude.{Option, Some, None}
 use Rattle.window.proofs.Laws.{cut-means, cut-made}
 use Rattle.tables.specs.Change.{Reads, Becomes, Pushes, pushes}
 use Rattle.dispatch.proofs.Queues.{head-below}
@@ -32,33 +31,33 @@ unfolding meaning
 with-words xs ws ws' ms = refl
 
 -- the place by the stacklet that is found, with the free stacklets that are left
-place-go : (above : Bool) (p : ℕ) (free : List ℕ) → place_by (cond above (Number p) (front_of free)) (cond above free (tail_of free)) ≡ place_of above p free
+place-go : (above : Bool) (p : ℕ) (free : List ℕ) → place_by (cond above (Some p) (front_of free)) (cond above free (tail_of free)) ≡ place_of above p free
 unfolding place_of
 place-go true p free = refl
 place-go false p [] = refl
 place-go false p (y ∷ ys) = refl
 
-place-by : (above : Bool) (p : ℕ) (free : List ℕ) (spot : Front) → spot ≡ cond above (Number p) (front_of free)
+place-by : (above : Bool) (p : ℕ) (free : List ℕ) (spot : Option ℕ) → spot ≡ cond above (Some p) (front_of free)
     → place_by spot (cond above free (tail_of free)) ≡ place_of above p free
 place-by above p free spot e = rw e (place-go above p free)
 
 -- where no stacklet is free, handing one out changes nothing
-rest-none : (free : List ℕ) → front_of free ≡ Nothing → tail_of free ≡ free
+rest-none : (free : List ℕ) → front_of free ≡ None → tail_of free ≡ free
 rest-none free e = rw (nothing-empty free e)
 
-pub none_left : (s : State) (rest : List ℕ) → rest ≡ tail_of s.queues.free_stacklets → front_of s.queues.free_stacklets ≡ Nothing → set_free_stacklets rest s ≡ s
+pub none_left : (s : State) (rest : List ℕ) → rest ≡ tail_of s.queues.free_stacklets → front_of s.queues.free_stacklets ≡ None → set_free_stacklets rest s ≡ s
 none_left s rest e f = ap (λ (xs : List ℕ). set_free_stacklets xs s) (e ∙ rest-none s.queues.free_stacklets f)
 
 module _ (j : Job) (s : State) (o : Turn) (f : Asked) where
   -- "20: no free thread number"
-  pub no_number : (kind : ForkKind) (first : Front) → first ≡ front_of s.queues.free_threads → first ≡ Nothing → refused 20 s ≡ fork_of j s kind o f
+  pub no_number : (kind : ForkKind) (first : Option ℕ) → first ≡ front_of s.queues.free_threads → first ≡ None → refused 20 s ≡ fork_of j s kind o f
   unfolding fork_of fork_with
   no_number kind first e1 e2 = rw (nothing-empty s.queues.free_threads (sym e1 ∙ e2))
 
-  module _ (kind : ForkKind) (n sl size : ℕ) (above : Bool) (first spot : Front) (tops : List ℕ) (e1 : first ≡ front_of s.queues.free_threads)
-      (e2 : first ≡ Number n) (e3 : sl ≡ slots_of j.image o.thread.origin.routine) (e4 : size ≡ slots_of j.image f.routine) (e0 : tops ≡ s.store.tops)
+  module _ (kind : ForkKind) (n sl size : ℕ) (above : Bool) (first spot : Option ℕ) (tops : List ℕ) (e1 : first ≡ front_of s.queues.free_threads)
+      (e2 : first ≡ Some n) (e3 : sl ≡ slots_of j.image o.thread.origin.routine) (e4 : size ≡ slots_of j.image f.routine) (e0 : tops ≡ s.store.tops)
       (e5 : above ≡ (is_connected kind && (is_topmost tops o.thread.origin.base sl && fits_on tops (o.thread.origin.base / 64) size)))
-      (e6 : spot ≡ cond above (Number (o.thread.origin.base / 64)) (front_of s.queues.free_stacklets)) where
+      (e6 : spot ≡ cond above (Some (o.thread.origin.base / 64)) (front_of s.queues.free_stacklets)) where
     place_found : place_of (goes_above j s kind o.thread f.routine) (o.thread.origin.base / 64) s.queues.free_stacklets ≡ place_by spot (left_by above s).queues.free_stacklets
     unfolding goes_above
     place_found = rw (← e0, ← e4, ← e3, ← e5) (sym (place-by above (o.thread.origin.base / 64) s.queues.free_stacklets spot e6))
@@ -68,12 +67,12 @@ module _ (j : Job) (s : State) (o : Turn) (f : Asked) where
     fork-found = rw (← place_found, number-first s.queues.free_threads n (sym e1 ∙ e2))
 
     -- "21: a stacklet is needed and none is free"
-    pub no-stacklet : spot ≡ Nothing → refused 21 s ≡ fork_of j s kind o f
+    pub no-stacklet : spot ≡ None → refused 21 s ≡ fork_of j s kind o f
     unfolding fork_on
     no-stacklet e7 = rw (← fork-found, e7)
 
     -- the stores one after another
-    pub born-by : (x : ℕ) → spot ≡ Number x → (s0 s1 s2 s3 s4 s5 s6 : State) (ws : List ℕ) (base ar : ℕ)
+    pub born-by : (x : ℕ) → spot ≡ Some x → (s0 s1 s2 s3 s4 s5 s6 : State) (ws : List ℕ) (base ar : ℕ)
         → s0 ≡ set_words ws s → s1 ≡ left_by above s0 → s2 ≡ hands_out_number s1 → s3 ≡ both_records kind o.number n o.thread o.next f base s2
         → s4 ≡ charge o.weight s3 → s5 ≡ set_tops (pushed_tops s4.store.tops x size) s4 → s6 ≡ child_goes kind o.core n s5
         → base ≡ base_on s2.store.tops x → ar ≡ arguments_of j.image f.routine
@@ -101,16 +100,16 @@ module _ (j : Job) (s : State) (o : Turn) (f : Asked) where
         go = rw (g6, g5', g4, g3, g2, g1, g0, hb', hw', ha, e4, e7)
 
 -- the stacklet that is found is one of 16
-pub spot-low : (above : Bool) (p x : ℕ) (free : List ℕ) (spot : Front) → p < 16 → HeadBelow 16 free → spot ≡ cond above (Number p) (front_of free)
-    → spot ≡ Number x → x < 16
+pub spot-low : (above : Bool) (p x : ℕ) (free : List ℕ) (spot : Option ℕ) → p < 16 → HeadBelow 16 free → spot ≡ cond above (Some p) (front_of free)
+    → spot ≡ Some x → x < 16
 spot-low true p x free spot l h f g = let z : p ≡ x = cc in omega arith
 spot-low false p x free spot l h f g = head-below free 16 x h (sym f ∙ g)
 
 -- the two parts of a cut in range
-pub cut_parts : (w : Window) (e : ℕ) (c : Cut) (child rest : Window) → c ≡ cut_at w e → c ≡ Parts child rest → (child ≡ child_of w e) × (rest ≡ rest_of w e)
-cut_parts w e c child rest f g = let m = cut-means w e child rest (sym f ∙ g) in (m.is-child, m.is-rest)
+pub cut_parts : (w : Window) (e : ℕ) (c : Option Cut) (child rest : Window) → c ≡ cut_at w e → c ≡ Some (record { child = child; rest = rest }) → (child ≡ child_of w e) × (rest ≡ rest_of w e)
+cut_parts w e c child rest f g = let m = cut-means w e _ (sym f ∙ g) in (ap (λ (x : Cut). x.child) m.is, ap (λ (x : Cut). x.rest) m.is)
 
-pub cut-never : (w : Window) (e : ℕ) (c : Cut) → w.mark ≤ e → e ≤ w.ceiling → c ≡ cut_at w e → c ≡ BadCut → ⊥
+pub cut-never : (w : Window) (e : ℕ) (c : Option Cut) → w.mark ≤ e → e ≤ w.ceiling → c ≡ cut_at w e → c ≡ None → ⊥
 cut-never w e c l h f g = let k = cut-made w e l h in let z : ◌≡◌ {A = ℕ} 0 1 = cc in omega arith
 
 -- a new frame on a stacklet below 16

@@ -21,7 +21,7 @@ use Rattle.entries.specs.Given.{Seated, Leaving, Carrying, record_in, turn_with,
 use Rattle.dispatch.specs.Orderly.{after}
 use Rattle.entries.proofs.Meeting.{place-low, next_low, known-byte, tested, wide, few, based, not-own-parent, carrying}
 use Rattle.dispatch.proofs.Able.{linked-below, free-first, stacklet-first}
-use Rattle.entries.specs.declared.own.Own.TheVariants.{Moved}
+use Rattle.std.specs.Prelude.{Some}
 use Rattle.entries.specs.Own.{IsOther, OwnAs, with_both}
 use Rattle.entries.proofs.Owning.{joins}
 use Rattle.entries.proofs.Stepping.{short-is, rest-is, own_is}
@@ -236,7 +236,7 @@ module _ {image starts parameters : List ℕ} {allowance : ℕ} {xs ws₀ ms₀ 
               rw (units, set-set s₀.threads t (moved_to p th₀) (moved_to p' th₀)) refl
 
           -- a command that is its own thread's alone
-          pub goes-own : (p' : ℕ) (ws' ms' : List ℕ) → OwnAs e p th₀.origin.base parameters ws ms ws' ms' (Moved p') → Made (suc k) p' (left - weight) ws' ms'
+          pub goes-own : (p' : ℕ) (ws' ms' : List ℕ) → OwnAs e p th₀.origin.base parameters ws ms ws' ms' (Some p') → Made (suc k) p' (left - weight) ws' ms'
           unfolding meaning
           goes-own p' ws' ms' told =
               goes p' (left - weight) ws' ms' (omega (arith, made.few))

@@ -7,6 +7,7 @@ use Rattle.image.specs.Layout.{arguments_of}
 use Rattle.stacklets.specs.Frames.{slot_of}
 use Rattle.thread.specs.declared.Thread.{Thread}
 use Rattle.thread.specs.declared.Effect.{Effect}
+use Rattle.thread.specs.declared.Fault.TheVariants.{SlotPending, CutOutOfRange}
 use Rattle.thread.specs.declared.Effect.TheVariants.{Faults, Lforks, Forks}
 use Rattle.thread.specs.declared.Status.TheVariants.{Lent}
 use Rattle.thread.specs.Thread.{is_pending, status_number, ◌is◌}
@@ -24,7 +25,7 @@ use Rattle.entries.specs.Given.{Forking, SeedMet, seed_of, turn_with}
 -- both forks are carried out alike as a seed
 module _ (j : Job) (s : State) (o : Turn) where
   alike : (p q : Bool) (r d a e : ℕ)
-      → stolen_of j s o (cond p (Faults 9) (cond q (Lforks r d a e) (Faults 11))) ≡ stolen_of j s o (cond p (Faults 9) (cond q (Forks r d a e) (Faults 11)))
+      → stolen_of j s o (cond p (Faults SlotPending) (cond q (Lforks r d a e) (Faults CutOutOfRange))) ≡ stolen_of j s o (cond p (Faults SlotPending) (cond q (Forks r d a e) (Faults CutOutOfRange)))
   unfolding stolen_of
   alike true q r d a e = refl
   alike false true r d a e = refl
@@ -108,7 +109,7 @@ seed-ready xs image words c t w r d a k th l f =
     go (any_pending (is_pending th.family.pending) (d ∷ k ∷ run a (arguments_of image r))) (may_cut th.family.window (slot_of words th.origin.base k)) f
   where
     go : (p q : Bool) → (q ≡ true → Forking xs c t w d (slot_of words th.origin.base k))
-        → SeedMet xs c t w (cond p (Faults 9) (cond q (Forks r d a (slot_of words th.origin.base k)) (Faults 11)))
+        → SeedMet xs c t w (cond p (Faults SlotPending) (cond q (Forks r d a (slot_of words th.origin.base k)) (Faults CutOutOfRange)))
     go true q g = l
     go false true g = g refl
     go false false g = l

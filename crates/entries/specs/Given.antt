@@ -1,9 +1,8 @@
 -- The command that is met as the code holds it, and what carrying it out relies on. A sound state gives all of it.
-use Rattle.std.specs.Prelude.{◌≡◌, ℕ, ◌+◌, ◌^◌, ◌<◌, ◌≤◌, Bool, true, cond, List, [], length}
+use Rattle.std.specs.Prelude.{◌≡◌, ℕ, ◌+◌, ◌^◌, ◌<◌, ◌≤◌, Bool, true, cond, List, [], length, None, Some}
 use Rattle.image.specs.Layout.{arguments_of}
 use Rattle.stacklets.specs.Frames.{slot_of}
-use Rattle.queue.specs.declared.Front.{Front}
-use Rattle.queue.specs.declared.Front.TheVariants.{Number, Nothing}
+use Rattle.std.specs.declared.option.Option.{Option}
 use Rattle.queue.specs.Contents.{tail_of}
 use Rattle.window.specs.Rights.{child_of, rest_of}
 use Rattle.thread.specs.declared.Thread.{Thread}
@@ -104,9 +103,9 @@ abbrev pub wakes_up : Bool → Thread → ℕ → State → State
 wakes_up connected q p s = set_ready (ready_after connected q p s.queues.ready) s
 
 -- a place, as the number taken from a queue with the queue that is left
-abbrev pub place_by : Front → List ℕ → Placement
-place_by (Number x) xs = on_stacklet x xs
-place_by Nothing xs = nowhere
+abbrev pub place_by : Option ℕ → List ℕ → Placement
+place_by (Some x) xs = on_stacklet x xs
+place_by None xs = nowhere
 
 -- the effect of a fork's operands on a thread, whichever of the two forks it is
 abbrev pub seed_of : List ℕ → List ℕ → Thread → ℕ → ℕ → ℕ → ℕ → Effect

@@ -1,5 +1,5 @@
 -- A command that changes its own thread, its slots and the memory alone, said of any state around it.
-use Rattle.std.specs.Prelude.{◌≡◌, ℕ, ◌+◌, ◌%◌, ◌^◌, ◌≤◌, List}
+use Rattle.std.specs.Prelude.{◌≡◌, ℕ, ◌+◌, ◌%◌, ◌^◌, ◌≤◌, List, Option, Some, None}
 use Rattle.thread.specs.declared.Effect.{Effect}
 use Rattle.thread.specs.declared.Effect.TheVariants.{Faults, Sets, Loads, Stores, Goes, Continues, Lforks, Forks, Joins, Suspends, Yields, Returns, Shares}
 use Rattle.thread.specs.Thread.{moved_to}
@@ -8,8 +8,6 @@ use Rattle.rules.specs.State.{Job, State}
 use Rattle.rules.specs.Update.{accepted, with_store}
 use Rattle.rules.specs.Turn.{Turn, completed}
 use Rattle.rules.specs.Rules.{carried_of}
-use Rattle.entries.specs.declared.own.Own.{Own}
-use Rattle.entries.specs.declared.own.Own.TheVariants.{Moved, Other}
 
 -- a store is to a memory word: a window allows no other
 abbrev pub Stored : Effect → Type 0
@@ -54,6 +52,6 @@ CarriedSo e position base parameters ws ms ws' ms' p =
     → carried_of j s o e ≡ accepted (completed o (moved_to p o.thread) (with_both ws' ms' s))
 
 -- what the answer says: the rule carries the effect out so; or it is of another kind, and nothing has changed
-abbrev pub OwnAs : Effect → ℕ → ℕ → List ℕ → List ℕ → List ℕ → List ℕ → List ℕ → Own → Type 0
-OwnAs e position base parameters ws ms ws' ms' (Moved p) = (IsOther e → ⊥) × CarriedSo e position base parameters ws ms ws' ms' p
-OwnAs e position base parameters ws ms ws' ms' Other = (ws' ≡ ws) × (ms' ≡ ms) × IsOther e
+abbrev pub OwnAs : Effect → ℕ → ℕ → List ℕ → List ℕ → List ℕ → List ℕ → List ℕ → Option ℕ → Type 0
+OwnAs e position base parameters ws ms ws' ms' (Some p) = (IsOther e → ⊥) × CarriedSo e position base parameters ws ms ws' ms' p
+OwnAs e position base parameters ws ms ws' ms' None = (ws' ≡ ws) × (ms' ≡ ms) × IsOther e

@@ -6,7 +6,6 @@ ghost use Rattle.entries.specs.Given.{Leaving};
 use tables::marks::put_core;
 use tables::records::{put_thread, thread_at};
 use thread::Status;
-use thread::record::{disconnected, with_status};
 
 // Thread t leaves core c with a status; the parent of a connected one runs there.
 pub fn leave(tables: &mut [u8], c: u8, t: u8, status: Status)
@@ -14,11 +13,11 @@ pub fn leave(tables: &mut [u8], c: u8, t: u8, status: Status)
     ensures { Becomes tables.old tables.new (leaves c t status) }
 {
     let th = thread_at(tables, t);
-    put_thread(tables, t, disconnected(th, status));
+    put_thread(tables, t, th.disconnected(status));
     if th.connected {
         let p = th.origin.parent;
         let q = thread_at(tables, p);
-        put_thread(tables, p, with_status(q, Status::Running));
+        put_thread(tables, p, q.with_status(Status::Running));
         put_core(tables, c, p);
         return;
     }

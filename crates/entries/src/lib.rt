@@ -10,7 +10,8 @@ pub mod steal;
 pub mod step;
 
 ghost use Rattle.std.specs.Prelude.{◌≡◌};
-ghost use Rattle.rules.specs.State.{job_of};
+ghost use Rattle.rules.specs.Lent.{job_in};
+ghost use Rattle.rules.specs.Denial.{log_of};
 ghost use Rattle.tables.specs.Meaning.{meaning};
 ghost use Rattle.entries.specs.Given.{Sounding};
 ghost use Rattle.entries.specs.Repeat.{Repeats};
@@ -18,7 +19,16 @@ ghost use Rattle.entries.specs.Repeat.{Repeats};
 use crate::steal::steal;
 use crate::step::steps;
 use dispatch::{enable, take};
+use rules::{Denial, Job, log_byte};
 use schedule::Entry;
+
+// A core, the thread that it met and the weight of that thread's command.
+#[derive(Clone, Copy)]
+struct Seat {
+    core: u8,
+    thread: u8,
+    weight: u8,
+}
 
 // An entry was carried out once and then so often again, and the last one's log byte.
 #[derive(Clone, Copy)]
@@ -27,17 +37,20 @@ pub struct Carried {
     pub log: u8,
 }
 
-fn told(again: usize, log: u8) -> Carried
-    ensures { (result.again ≡ again) × (result.log ≡ log) }
+fn told(again: usize, met: Result<(), Denial>) -> Carried
+    ensures { (result.again ≡ again) × (result.log ≡ log_of met) }
 {
-    Carried { again, log }
+    Carried {
+        again,
+        log: log_byte(met),
+    }
 }
 
 // An entry that was carried out once.
-fn once(log: u8) -> Carried
-    ensures { (result.again ≡ 0) × (result.log ≡ log) }
+fn once(met: Result<(), Denial>) -> Carried
+    ensures { (result.again ≡ 0) × (result.log ≡ log_of met) }
 {
-    Carried { again: 0, log }
+    told(0, met)
 }
 
 // Any entry of a schedule is carried out, and a step up to so many times more: each but the last was accepted, whose log byte is given. Two of
@@ -45,23 +58,18 @@ fn once(log: u8) -> Carried
 pub fn entry(
     e: Entry,
     more: usize,
-    image: &[u8],
-    starts: &[u16],
-    parameters: &[u32],
-    allowance: u32,
+    job: &Job<'_>,
     tables: &mut [u8],
     words: &mut [u32],
     memory: &mut [u32],
 ) -> Carried
-    requires { Sounding image.now starts.now parameters.now allowance tables.old words.old memory.old }
-    ensures { Repeats (job_of image.now starts.now parameters.now allowance) (meaning tables.old words.old memory.old) e more result (meaning tables.new words.new memory.new) }
+    requires { Sounding job.now.image.now job.now.starts.now job.now.parameters.now job.now.allowance tables.old words.old memory.old }
+    ensures { Repeats (job_in job.now) (meaning tables.old words.old memory.old) e more result (meaning tables.new words.new memory.new) }
 {
     match e {
-        Entry::Step(c) => steps(
-            c, more, image, starts, parameters, allowance, tables, words, memory,
-        ),
+        Entry::Step(c) => steps(c, more, job, tables, words, memory),
         Entry::Take(c) => once(take(tables, c)),
-        Entry::Steal(c, t) => once(steal(c, t, image, starts, allowance, tables, words)),
+        Entry::Steal(c, t) => once(steal(c, t, job, tables, words)),
         Entry::Enable(t) => once(enable(tables, t)),
     }
 }

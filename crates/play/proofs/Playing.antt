@@ -10,7 +10,6 @@ use native.Mathlib.Omega.{arith}
 use lib.ListN.{length, take, drop, set, replicate, length-append, length-replicate}
 use Rattle.schedule.specs.declared.Entry.{Entry}
 use Rattle.schedule.specs.declared.Entry.TheVariants.{Step, Take, Steal, Enable}
-use Rattle.schedule.specs.declared.EntryRead.TheVariants.{Found}
 use Rattle.schedule.specs.Format.{entry_at}
 use Rattle.reader.specs.Row.{StepsRow}
 use Rattle.rules.specs.State.{Job, State, After}
@@ -24,6 +23,7 @@ use Rattle.play.specs.Entries.{leading, playable, Played}
 use Rattle.play.specs.Rows.{LogsOn, RowPlayed}
 use Rattle.play.proofs.Leading.{leads-found, leads-row}
 use Rattle.play.proofs.Rowing.{logs-append, put_on}
+use Rattle.std.proofs.Common.{Some, Ok}
 
 -- k entries have been met, and the log has a byte for each
 pub record Left (j : Job) (s₀ : State) (schedule log₀ : List ℕ) (s : State) (at k : ℕ) (logNow : List ℕ) : Type 0 where
@@ -82,7 +82,7 @@ module _ (j : Job) (s₀ : State) (schedule log₀ : List ℕ) where
         }
 
     -- one entry
-    pub goes_one : (e : Entry) (next : ℕ) (a : After) → entry_at schedule at ≡ Found e next → k < length log → length log ≡ length log₀ → a ≡ entry_of j s e
+    pub goes_one : (e : Entry) (next : ℕ) (a : After) → entry_at schedule at ≡ Ok (Some (e, next)) → k < length log → length log ≡ length log₀ → a ≡ entry_of j s e
         → Left j s₀ schedule log₀ a.state next (k + 1) (set log k a.log)
     unfolding run_from logs_from
     goes_one e next a here room same is =
@@ -90,7 +90,7 @@ module _ (j : Job) (s₀ : State) (schedule log₀ : List ℕ) where
         (subst (λ (n : ℕ). LogsOn log k (n ∷ []) (set log k a.log)) (ap (λ (x : After). x.log) is) (put_on log k a.log room))
 
     -- a row of steps
-    pub goes-row : (c next more follow : ℕ) (end : State) (log' : List ℕ) → entry_at schedule at ≡ Found (Step c) next → StepsRow schedule next c more → follow ≤ more
+    pub goes-row : (c next more follow : ℕ) (end : State) (log' : List ℕ) → entry_at schedule at ≡ Ok (Some (Step c, next)) → StepsRow schedule next c more → follow ≤ more
         → k + (follow + 1) ≤ length log₀ → RowPlayed j s (Step c) (follow + 1) log k end log'
         → Left j s₀ schedule log₀ end (next + 2 * follow) (k + (follow + 1)) log'
     goes-row c next more follow end log' here row few room played =

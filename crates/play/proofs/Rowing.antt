@@ -4,8 +4,8 @@ use mathlib.Core.Path.{◌≡◌, refl, sym, ap, subst, ◌∙◌}
 use Prim.Native.Nat.{ℕ, zero, suc, ◌+◌, ◌-◌, ◌≤◌, ◌<◌}
 use native.Mathlib.Numerals.{add-one}
 use native.Mathlib.Omega.{arith}
-use lib.ListN.{length, get_or, drop, set, replicate, length-append, length-drop, length-replicate, replicate-append-replicate}
-use lib.Seq.{drop-cons, set_at}
+use lib.ListN.{length, get_or, take, drop, set, replicate, length-append, length-drop, length-replicate, replicate-append-replicate}
+use lib.Seq.{drop-cons, drop-drop, take_at, drop_at, set_at}
 use Rattle.schedule.specs.declared.Entry.{Entry}
 use Rattle.rules.specs.State.{Job, State, After}
 use Rattle.rules.specs.Rules.{entry_of}
@@ -71,27 +71,20 @@ pub on-more : (before mid after : List ℕ) (at : ℕ) (bytes more : List ℕ) �
 on-more before mid after at bytes more f g first done is many =
     g first (done ++ bytes) (f first done is many) (length-append done bytes ∙ ap (λ (n : ℕ). n + length bytes) many) ∙ ap (logged first) (append_assoc done bytes more)
 
-module _ (before mid : List ℕ) (at : ℕ) where
-  zeros-then : (k v : ℕ) → at + k < length mid → LogsOn before at (replicate k 0) mid → LogsOn before at (replicate k 0 ++ (v ∷ [])) (set mid (at + k) v)
-  zeros-then k v l f =
-      on-more before mid (set mid (at + k) v) at (replicate k 0) (v ∷ []) f
-      (subst (λ (n : ℕ). LogsOn mid (at + n) (v ∷ []) (set mid (at + k) v)) (sym (length-replicate k 0)) (put_on mid (at + k) v l))
+-- zeros behind those that are there
+pub zeros-on : (before : List ℕ) (at again : ℕ) → LogsOn before at (replicate again 0) (take at before ++ (replicate again 0 ++ drop again (drop at before)))
+zeros-on before at again first done is many =
+    let front : take at before ≡ done = ap (take at) is ∙ take_at done (drop (length done) first) at many in
+    let back : drop at before ≡ drop (length done) first = ap (drop at) is ∙ drop_at done (drop (length done) first) at many in
+    let end : length (done ++ replicate again 0) ≡ length done + again = length-append done (replicate again 0) ∙ ap (λ (n : ℕ). length done + n) (length-replicate again 0) in
+    rw (front, back, drop-drop again (length done) first, end) (sym (append_assoc done (replicate again 0) (drop (length done + again) first)))
 
-  -- one zero more
-  pub zeros-on : (i : ℕ) → at ≤ i → i < length mid → LogsOn before at (replicate (i - at) 0) mid → LogsOn before at (replicate (i + 1 - at) 0) (set mid i 0)
-  zeros-on i l m f =
-      let here : at + (i - at) ≡ i = omega (arith, l) in
-      let one : i - at + 1 ≡ i + 1 - at = omega (arith, l) in
-      subst (λ (n : ℕ). LogsOn before at (replicate (i + 1 - at) 0) (set mid n 0)) here
-      (subst (λ (bytes : List ℕ). LogsOn before at bytes (set mid (at + (i - at)) 0)) (replicate-append-replicate (i - at) 1 0 ∙ ap (λ (n : ℕ). replicate n 0) one)
-      (zeros-then (i - at) 0 (omega (arith, here, m)) f))
-
-  -- all of them, and then the last byte
-  pub last_on : (i again v : ℕ) → i ≡ at + again → i < length mid → LogsOn before at (replicate (i - at) 0) mid
-      → LogsOn before at (replicate again 0 ++ (v ∷ [])) (set mid (at + again) v)
-  last_on i again v is m f =
-      let many : i - at ≡ again = omega (arith, is) in
-      zeros-then again v (omega (arith, is, m)) (subst (λ (n : ℕ). LogsOn before at (replicate n 0) mid) many f)
+-- and then the last byte
+pub last_on : (before mid : List ℕ) (at again v : ℕ) → at + again < length mid → LogsOn before at (replicate again 0) mid
+    → LogsOn before at (replicate again 0 ++ (v ∷ [])) (set mid (at + again) v)
+last_on before mid at again v l f =
+    on-more before mid (set mid (at + again) v) at (replicate again 0) (v ∷ []) f
+    (subst (λ (n : ℕ). LogsOn mid (at + n) (v ∷ []) (set mid (at + again) v)) (sym (length-replicate again 0)) (put_on mid (at + again) v l))
 
 -- a row that is met in parts
 module _ (j : Job) (s₀ : State) (e : Entry) (log₀ : List ℕ) (first : ℕ) where

@@ -5,16 +5,19 @@ use mathlib.Core.List.{List, [], ◌∷◌, ◌++◌, append_assoc, append-nil}
 use mathlib.Core.Path.{◌≡◌, refl, sym, ◌∙◌, ap, subst}
 use Prim.Native.Nat.{ℕ, zero, suc, ◌+◌, ◌-◌, ◌*◌, ◌≤◌, ◌<◌}
 use native.Mathlib.Nat.{add-zero}
+use native.Mathlib.Numerals.{add-one}
 use native.Mathlib.Omega.{arith}
 use lib.ListN.{length, take, drop, replicate, length-append, take-append-drop}
 use lib.Seq.{take_at, drop_at, drop-drop, length-take-le}
 use Rattle.schedule.specs.declared.Entry.{Entry}
 use Rattle.schedule.specs.declared.Entry.TheVariants.{Step, Take, Steal, Enable}
-use Rattle.schedule.specs.declared.Written.TheVariants.{Bytes, NoRoom}
 use Rattle.schedule.specs.Format.{bytes_of_entry, bytes_of_entries}
 use Rattle.schedule.specs.Writing.{placed, written_of, Writes}
 use Rattle.rounds.specs.Rounds.{is_written}
 use Rattle.turns.specs.Steps.{last_kept, kept, Puts, Keeps}
+use Rattle.std.proofs.Common.{Result, Ok}
+use Rattle.std.specs.Result.{result_unwrap_or}
+use Rattle.schedule.specs.declared.NoRoom.{NoRoom}
 
 -- "when .. fewer than 3 bytes are left": an entry has 2 or 3
 pub short : (e : Entry) → (2 ≤ length (bytes_of_entry e)) × (length (bytes_of_entry e) ≤ 3)
@@ -92,36 +95,17 @@ puts-more xs ys b b' b'' at p q low h k =
 
 -- one entry where it fits
 module _ (e : Entry) (b : List ℕ) (at : ℕ) (room : at + length (bytes_of_entry e) ≤ length b) where
-  pub puts : (n : ℕ) (after : List ℕ) → Writes (bytes_of_entry e) b at (Bytes n) after → Puts (bytes_of_entry e) b at (at + n) after
+  pub puts : (r : Result ℕ NoRoom) (n : ℕ) (after : List ℕ) → Writes (bytes_of_entry e) b at r after → n ≡ result_unwrap_or r 0 → Puts (bytes_of_entry e) b at (at + n) after
   unfolding placed written_of
-  puts n after w =
-      let f : Bytes n ≡ Bytes (length (bytes_of_entry e)) = w.answer ∙ rw (le-leb _ _ room) in
-      let m : n ≡ length (bytes_of_entry e) = cc in
+  puts r n after w is =
+      let all : r ≡ Ok (length (bytes_of_entry e)) = w.answer ∙ rw (le-leb _ _ room) in
+      let many : n ≡ length (bytes_of_entry e) = is ∙ ap (λ (x : Result ℕ NoRoom). result_unwrap_or x 0) all in
       record {
-        position = rw m;
+        position = rw many;
         buffer = w.buffer ∙ rw (le-leb _ _ room, append_assoc);
       }
 
-  pub few : (n : ℕ) (after : List ℕ) → Writes (bytes_of_entry e) b at (Bytes n) after → at + n ≤ length b
-  few n after w = omega (arith, room, (puts n after w).position)
-
-  pub has_room : (after : List ℕ) → Writes (bytes_of_entry e) b at NoRoom after → ⊥
-  unfolding written_of
-  has_room after w =
-      let f : NoRoom ≡ Bytes (length (bytes_of_entry e)) = w.answer ∙ rw (le-leb _ _ room) in
-      let z : ◌≡◌ {A = ℕ} 0 1 = cc in
-      omega arith
-
--- how many stand there once so many are left
-pub zero_is : (n : ℕ) → 0 ≡ n - n
-zero_is n = omega arith
-
-pub one_less : (n left : ℕ) → 0 < left → left ≤ n → suc (n - left) ≡ n - (left - 1)
-one_less n left l h = omega (arith, l, h)
-
-pub all-is : (n left : ℕ) → left ≤ 0 → n - left ≡ n
-all-is n left l = omega (arith, l)
-
+-- none stands there yet
 pub first : (e : Entry) (b : List ℕ) (at : ℕ) → Puts (bytes_of_entries (replicate 0 e)) b at at b
 unfolding bytes_of_entries
 first e b at = puts_none b at
@@ -137,8 +121,8 @@ module _ (e : Entry) (again log : ℕ) (b : List ℕ) (at : ℕ) (room : at + le
       pub next_fits : i < again → p + length (bytes_of_entry e) ≤ length b'
       next_fits l = omega (arith, same, all_fit, h.position, row_fits e i again l)
 
-      pub one_more : (q : ℕ) (b'' : List ℕ) → Puts (bytes_of_entry e) b' p q b'' → Puts (bytes_of_entries (replicate (suc i) e)) b at q b''
-      one_more q b'' k = subst (λ (l : List ℕ). Puts l b at q b'') (row_more e i) (puts-more _ _ b b' b'' at p q (omega (arith, all_fit)) h k)
+      pub one_more : (q : ℕ) (b'' : List ℕ) → Puts (bytes_of_entry e) b' p q b'' → Puts (bytes_of_entries (replicate (i + 1) e)) b at q b''
+      one_more q b'' k = subst (λ (l : List ℕ). Puts l b at q b'') (row_more e i ∙ ap (λ (n : ℕ). bytes_of_entries (replicate n e)) (sym (add-one i))) (puts-more _ _ b b' b'' at p q (omega (arith, all_fit)) h k)
 
     -- all of them are
     module _ (h : Puts (bytes_of_entries (replicate again e)) b at p b') where

@@ -34,7 +34,7 @@ module _ (j : Job) (s : State) where
   steps-stay : StepCases Stays j s
   steps-stay = record {
     refuses = λ n l h e. refl;
-    fault = λ c t k n f e. never (sym (fault-written n (fault-tested j s t n f)) ∙ e);
+    fault = λ c t k n f e. never (sym (fault-written _ (fault-tested j s t n f)) ∙ e);
     waiting = λ c t k e. never e;
     sets = λ c t k d v f e. never e;
     loads = λ c t k d a f e. never e;
@@ -54,7 +54,7 @@ module _ (j : Job) (s : State) where
   stays = record {
     steps = steps-stay;
     takes = λ c t ts k e. never e;
-    seed_fault = λ c t k n f e. never (sym (fault-written n (fault-tested j s t n f)) ∙ e);
+    seed_fault = λ c t k n f e. never (sym (fault-written _ (fault-tested j s t n f)) ∙ e);
     steals = λ c t k r d a w f n ns x xs g e. never e;
     enables = λ t k e. never e;
   }

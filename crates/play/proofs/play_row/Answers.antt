@@ -15,14 +15,14 @@ pub loop-many-init : goal.loop-many-init
 loop-many-init c =
     let args' = c.args in
     let none : 0 ≡ args'.row - args'.row = omega arith in
-    (refl, refl, refl, refl, omega arith, omega arith, subst (λ (n : ℕ). RowPlayed (job_of args'.image.now args'.starts.now args'.parameters.now args'.allowance) (meaning args'.tables.now args'.words.now args'.memory.now) (Step args'.c) n args'.log.now args'.first (meaning args'.tables.now args'.words.now args'.memory.now) args'.log.now) none (row-begins (job_of args'.image.now args'.starts.now args'.parameters.now args'.allowance) (meaning args'.tables.now args'.words.now args'.memory.now) (Step args'.c) args'.log.now args'.first))
+    (refl, refl, refl, refl, omega arith, omega arith, subst (λ (n : ℕ). RowPlayed (job_of args'.job.now.image.now args'.job.now.starts.now args'.job.now.parameters.now args'.job.now.allowance) (meaning args'.tables.now args'.words.now args'.memory.now) (Step args'.c) n args'.log.now args'.first (meaning args'.tables.now args'.words.now args'.memory.now) args'.log.now) none (row-begins (job_of args'.job.now.image.now args'.job.now.starts.now args'.job.now.parameters.now args'.job.now.allowance) (meaning args'.tables.now args'.words.now args'.memory.now) (Step args'.c) args'.log.now args'.first))
 
 pub steps-done-requires : goal.steps-done-requires
 steps-done-requires c =
     let loop' = c.loop-many in
     let pre' = c.requires in
     let args' = c.args in
-    record { sized = loop'.invariant.1 ∙ pre'.0.sized; sound = row-sound (job_of args'.image.now args'.starts.now args'.parameters.now args'.allowance) (meaning args'.tables.now args'.words.now args'.memory.now) (Step args'.c) args'.log.now args'.first (args'.row - loop'.many) (meaning loop'.tables loop'.words loop'.memory) loop'.log loop'.invariant.6 pre'.0.sound }
+    record { sized = loop'.invariant.1 ∙ pre'.0.sized; sound = row-sound (job_of args'.job.now.image.now args'.job.now.starts.now args'.job.now.parameters.now args'.job.now.allowance) (meaning args'.tables.now args'.words.now args'.memory.now) (Step args'.c) args'.log.now args'.first (args'.row - loop'.many) (meaning loop'.tables loop'.words loop'.memory) loop'.log loop'.invariant.6 pre'.0.sound }
 
 pub put_logs-requires : goal.put_logs-requires
 put_logs-requires c =
@@ -61,12 +61,12 @@ loop-many-preserved c =
       steps'.auto.memory ∙ loop'.invariant.3,
       omega (arith, loop'.invariant.4),
       omega (arith, steps'.ensures.few, loop'.invariant.4, loop'.invariant.5, loop-test'.true),
-      subst (λ (n : ℕ). RowPlayed (job_of args'.image.now args'.starts.now args'.parameters.now args'.allowance) (meaning args'.tables.now args'.words.now args'.memory.now) (Step args'.c) n args'.log.now args'.first (meaning steps'.new.tables steps'.new.words steps'.new.memory) put-logs'.new.log) all
-          (row_more (job_of args'.image.now args'.starts.now args'.parameters.now args'.allowance) (meaning args'.tables.now args'.words.now args'.memory.now) (Step args'.c) args'.log.now args'.first (args'.row - loop'.many) (meaning loop'.tables loop'.words loop'.memory) loop'.log loop'.invariant.6 (loop'.many - 1) steps'.result _ put-logs'.new.log steps'.ensures (subst (λ (n : ℕ). LogsOn loop'.log n (replicate steps'.result.again 0 ++ (steps'.result.log ∷ [])) put-logs'.new.log) loop'.invariant.5 put-logs'.ensures)),
+      subst (λ (n : ℕ). RowPlayed (job_of args'.job.now.image.now args'.job.now.starts.now args'.job.now.parameters.now args'.job.now.allowance) (meaning args'.tables.now args'.words.now args'.memory.now) (Step args'.c) n args'.log.now args'.first (meaning steps'.new.tables steps'.new.words steps'.new.memory) put-logs'.new.log) all
+          (row_more (job_of args'.job.now.image.now args'.job.now.starts.now args'.job.now.parameters.now args'.job.now.allowance) (meaning args'.tables.now args'.words.now args'.memory.now) (Step args'.c) args'.log.now args'.first (args'.row - loop'.many) (meaning loop'.tables loop'.words loop'.memory) loop'.log loop'.invariant.6 (loop'.many - 1) steps'.result _ put-logs'.new.log steps'.ensures (subst (λ (n : ℕ). LogsOn loop'.log n (replicate steps'.result.again 0 ++ (steps'.result.log ∷ [])) put-logs'.new.log) loop'.invariant.5 put-logs'.ensures)),
     )
 
 pub returns : goal.returns
 returns c =
     let args' = c.args in
     let whole : args'.row - c.loop-many.many ≡ args'.row = omega (arith, c.loop-many-test.false) in
-    subst (λ (n : ℕ). RowPlayed (job_of args'.image.now args'.starts.now args'.parameters.now args'.allowance) (meaning args'.tables.now args'.words.now args'.memory.now) (Step args'.c) n args'.log.now args'.first (meaning c.loop-many.tables c.loop-many.words c.loop-many.memory) c.loop-many.log) whole c.loop-many.invariant.6
+    subst (λ (n : ℕ). RowPlayed (job_of args'.job.now.image.now args'.job.now.starts.now args'.job.now.parameters.now args'.job.now.allowance) (meaning args'.tables.now args'.words.now args'.memory.now) (Step args'.c) n args'.log.now args'.first (meaning c.loop-many.tables c.loop-many.words c.loop-many.memory) c.loop-many.log) whole c.loop-many.invariant.6

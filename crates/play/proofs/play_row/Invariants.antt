@@ -12,7 +12,7 @@ abbrev pub invariant-loop-many : goal.invariant-loop-many
 invariant-loop-many l =
     (length l.log ≡ length l.initial.log) × (length l.tables ≡ length l.initial.tables) × (length l.words ≡ length l.initial.words) × (length l.memory ≡ length l.initial.memory) × (l.many ≤ l.row)
     × (l.number ≡ l.first + (l.row - l.many))
-    × RowPlayed (job_of l.image l.starts l.parameters l.allowance) (meaning l.initial.tables l.initial.words l.initial.memory) (Step l.c) (l.row - l.many) l.initial.log l.first (meaning l.tables l.words l.memory) l.log
+    × RowPlayed (job_of l.job.image.now l.job.starts.now l.job.parameters.now l.job.allowance) (meaning l.initial.tables l.initial.words l.initial.memory) (Step l.c) (l.row - l.many) l.initial.log l.first (meaning l.tables l.words l.memory) l.log
 
 abbrev pub decreases-loop-many : goal.decreases-loop-many
 decreases-loop-many l = l.many

@@ -4,7 +4,8 @@ use Rattle.tables.specs.Meaning.{size, meaning}
 use Rattle.rules.specs.State.{job_of}
 use lib.ListN.{length}
 use native.Mathlib.Omega.{arith}
-use Prim.Native.Nat.{◌+◌}
+use Prim.Native.Nat.{ℕ, ◌+◌}
+use Rattle.dispatch.specs.Orderly.{after}
 use Rattle.rules.specs.Rules.{entry_of}
 use mathlib.Core.Path.{subst, ◌≡◌, refl, sym, ◌∙◌, ap}
 use mathlib.Core.Bool.{Bool}
@@ -14,7 +15,7 @@ pub loop-tables-init : goal.loop-tables-init
 loop-tables-init c =
     let args' = c.args in
     let pre' = c.requires in
-    let job = job_of args'.image.now args'.starts.now args'.parameters.now args'.allowance in (
+    let job = job_of args'.job.now.image.now args'.job.now.starts.now args'.job.now.parameters.now args'.job.now.allowance in (
       refl,
       refl,
       refl,
@@ -42,7 +43,7 @@ loop-tables-preserved-then-is_nothing c =
     let pre' = c.requires in
     let stage = loop'.invariant.4 in
     let sized : length loop'.tables ≡ size = loop'.invariant.0 ∙ pre'.sized in
-    let chosen = (choice'.ensures args'.parameters.now args'.allowance).means sized loop'.words loop'.memory in
+    let chosen = (choice'.ensures args'.job.now.parameters.now args'.job.now.allowance).means sized loop'.words loop'.memory in
     (loop'.invariant.0, loop'.invariant.1, loop'.invariant.2, loop'.invariant.3, passes _ _ _ _ _ _ _ _ _ _ stage c.if-c-cores.true choice'.result chosen (sym c.is_nothing.ensures ∙ c.if-is_nothing.true))
 
 pub overflow_sub-room-then-c-cores : goal.overflow_sub-room-then-c-cores
@@ -74,7 +75,7 @@ keep-at-requires c =
     let sized : length loop'.tables ≡ size = loop'.invariant.0 ∙ pre'.sized in
     let over = is-over'.ensures.means sized loop'.words loop'.memory in
     let met = test-met s _ _ _ over may-try'.ensures if1'.true in
-    let chosen = (choice'.ensures args'.parameters.now args'.allowance).means sized loop'.words loop'.memory in
+    let chosen = (choice'.ensures args'.job.now.parameters.now args'.job.now.allowance).means sized loop'.words loop'.memory in
     room_for _ _ _ _ _ _ _ _ _ _ stage met.0 met.1 if2'.true choice'.result chosen steps-behind'.result steps-behind'.ensures entry'.result (meaning entry'.new.tables entry'.new.words entry'.new.memory) entry'.ensures
 
 pub loop-tables-smaller-then-c-cores : goal.loop-tables-smaller-then-c-cores
@@ -95,7 +96,7 @@ loop-tables-smaller-then-c-cores c =
     let sized : length loop'.tables ≡ size = loop'.invariant.0 ∙ pre'.sized in
     let over = is-over'.ensures.means sized loop'.words loop'.memory in
     let met = test-met s _ _ _ over may-try'.ensures if1'.true in
-    let chosen = (choice'.ensures args'.parameters.now args'.allowance).means sized loop'.words loop'.memory in
+    let chosen = (choice'.ensures args'.job.now.parameters.now args'.job.now.allowance).means sized loop'.words loop'.memory in
     omega (arith, less _ _ _ _ _ _ _ _ _ _ stage met.0 met.1 if2'.true choice'.result chosen steps-behind'.result steps-behind'.ensures entry'.result (meaning entry'.new.tables entry'.new.words entry'.new.memory) entry'.ensures keep'.result keep'.new.buffer keep'.ensures, ap bonus c.is_moved-moved.ensures, if2'.true)
 
 pub loop-tables-preserved-then-c-cores : goal.loop-tables-preserved-then-c-cores
@@ -113,13 +114,13 @@ loop-tables-preserved-then-c-cores c =
     let count' = c.count-cores in
     let args' = c.args in
     let pre' = c.requires in
-    let job = job_of args'.image.now args'.starts.now args'.parameters.now args'.allowance in
+    let job = job_of args'.job.now.image.now args'.job.now.starts.now args'.job.now.parameters.now args'.job.now.allowance in
     let s = meaning loop'.tables loop'.words loop'.memory in
     let stage = loop'.invariant.4 in
     let sized : length loop'.tables ≡ size = loop'.invariant.0 ∙ pre'.sized in
     let over = is-over'.ensures.means sized loop'.words loop'.memory in
     let met = test-met s _ _ _ over may-try'.ensures if1'.true in
-    let chosen = (choice'.ensures args'.parameters.now args'.allowance).means sized loop'.words loop'.memory in
+    let chosen = (choice'.ensures args'.job.now.parameters.now args'.job.now.allowance).means sized loop'.words loop'.memory in
     (entry'.auto.tables ∙ loop'.invariant.0, entry'.auto.words ∙ loop'.invariant.1, entry'.auto.memory ∙ loop'.invariant.2, keep'.auto.buffer ∙ loop'.invariant.3, subst (λ (b : Bool). Stage job count'.result usable-of'.result (meaning args'.tables.now args'.words.now args'.memory.now) args'.buffer.now (meaning entry'.new.tables entry'.new.words entry'.new.memory) keep'.result keep'.new.buffer b (loop'.c + 1)) (sym c.is_moved-moved.ensures) (carries _ _ _ _ _ _ _ _ _ _ stage met.0 met.1 if2'.true choice'.result chosen steps-behind'.result steps-behind'.ensures entry'.result (meaning entry'.new.tables entry'.new.words entry'.new.memory) entry'.ensures keep'.result keep'.new.buffer keep'.ensures))
 
 pub loop-tables-smaller-then-moved : goal.loop-tables-smaller-then-moved
@@ -168,7 +169,7 @@ keep-at-requires-in-loop-tables c =
     let over = is-over'.ensures.means sized loop'.words loop'.memory in
     let met = test-met s _ _ _ over may-try'.ensures if1'.true in
     let low = lowest-suspended'.ensures.means sized loop'.words loop'.memory in
-    enable-fits _ _ _ _ _ _ _ _ _ _ stage met.0 met.1 c.if-c-cores.false c.if-moved.false lowest-suspended'.result low c.if-t-ge32.false enable'.result (meaning enable'.new.tables loop'.words loop'.memory) (enable'.ensures loop'.words loop'.memory)
+    enable-fits _ _ _ _ _ _ _ _ _ _ stage met.0 met.1 c.if-c-cores.false c.if-moved.false lowest-suspended'.result low c.if-t-ge32.false c.log_byte.result (meaning enable'.new.tables loop'.words loop'.memory) (ap (λ (n : ℕ). after n enable'.new.tables loop'.words loop'.memory) c.log_byte.ensures ∙ enable'.ensures loop'.words loop'.memory)
 
 pub loop-tables-smaller : goal.loop-tables-smaller
 unfolding entry_of
@@ -189,7 +190,7 @@ loop-tables-smaller c =
     let over = is-over'.ensures.means sized loop'.words loop'.memory in
     let met = test-met s _ _ _ over may-try'.ensures if1'.true in
     let low = lowest-suspended'.ensures.means sized loop'.words loop'.memory in
-    omega (arith, woke _ _ _ _ _ _ _ _ _ _ stage met.0 met.1 if2'.false if4'.false lowest-suspended'.result low c.if-t-ge32.false enable'.result (meaning enable'.new.tables loop'.words loop'.memory) (enable'.ensures loop'.words loop'.memory) keep2'.result keep2'.new.buffer keep2'.ensures, stage.rounding.sound.sized.most, stage.rounding.cores)
+    omega (arith, woke _ _ _ _ _ _ _ _ _ _ stage met.0 met.1 if2'.false if4'.false lowest-suspended'.result low c.if-t-ge32.false c.log_byte.result (meaning enable'.new.tables loop'.words loop'.memory) (ap (λ (n : ℕ). after n enable'.new.tables loop'.words loop'.memory) c.log_byte.ensures ∙ enable'.ensures loop'.words loop'.memory) keep2'.result keep2'.new.buffer keep2'.ensures, stage.rounding.sound.sized.most, stage.rounding.cores)
 
 pub loop-tables-preserved : goal.loop-tables-preserved
 unfolding entry_of
@@ -207,14 +208,14 @@ loop-tables-preserved c =
     let count' = c.count-cores in
     let args' = c.args in
     let pre' = c.requires in
-    let job = job_of args'.image.now args'.starts.now args'.parameters.now args'.allowance in
+    let job = job_of args'.job.now.image.now args'.job.now.starts.now args'.job.now.parameters.now args'.job.now.allowance in
     let s = meaning loop'.tables loop'.words loop'.memory in
     let stage = loop'.invariant.4 in
     let sized : length loop'.tables ≡ size = loop'.invariant.0 ∙ pre'.sized in
     let over = is-over'.ensures.means sized loop'.words loop'.memory in
     let met = test-met s _ _ _ over may-try'.ensures if1'.true in
     let low = lowest-suspended'.ensures.means sized loop'.words loop'.memory in
-    (enable'.auto.tables ∙ loop'.invariant.0, loop'.invariant.1, loop'.invariant.2, keep2'.auto.buffer ∙ loop'.invariant.3, subst (λ (b : Bool). Stage job count'.result usable-of'.result (meaning args'.tables.now args'.words.now args'.memory.now) args'.buffer.now (meaning enable'.new.tables loop'.words loop'.memory) keep2'.result keep2'.new.buffer b 0) (sym if4'.false) (wakes _ _ _ _ _ _ _ _ _ _ stage met.0 met.1 if2'.false if4'.false lowest-suspended'.result low c.if-t-ge32.false enable'.result (meaning enable'.new.tables loop'.words loop'.memory) (enable'.ensures loop'.words loop'.memory) keep2'.result keep2'.new.buffer keep2'.ensures))
+    (enable'.auto.tables ∙ loop'.invariant.0, loop'.invariant.1, loop'.invariant.2, keep2'.auto.buffer ∙ loop'.invariant.3, subst (λ (b : Bool). Stage job count'.result usable-of'.result (meaning args'.tables.now args'.words.now args'.memory.now) args'.buffer.now (meaning enable'.new.tables loop'.words loop'.memory) keep2'.result keep2'.new.buffer b 0) (sym if4'.false) (wakes _ _ _ _ _ _ _ _ _ _ stage met.0 met.1 if2'.false if4'.false lowest-suspended'.result low c.if-t-ge32.false c.log_byte.result (meaning enable'.new.tables loop'.words loop'.memory) (ap (λ (n : ℕ). after n enable'.new.tables loop'.words loop'.memory) c.log_byte.ensures ∙ enable'.ensures loop'.words loop'.memory) keep2'.result keep2'.new.buffer keep2'.ensures))
 
 pub returns : goal.returns
 returns c =

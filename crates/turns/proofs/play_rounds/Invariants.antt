@@ -11,7 +11,7 @@ use Rattle.turns.proofs.play_rounds.Given as goal
 abbrev pub invariant-loop-tables : goal.invariant-loop-tables
 invariant-loop-tables l =
     (length l.tables ≡ length l.initial.tables) × (length l.words ≡ length l.initial.words) × (length l.memory ≡ length l.initial.memory) × (length l.buffer ≡ length l.initial.buffer)
-    × Stage (job_of l.image l.starts l.parameters l.allowance) l.cores l.room (meaning l.initial.tables l.initial.words l.initial.memory) l.initial.buffer (meaning l.tables l.words l.memory) l.at l.buffer l.moved l.c
+    × Stage (job_of l.job.image.now l.job.starts.now l.job.parameters.now l.job.allowance) l.cores l.room (meaning l.initial.tables l.initial.words l.initial.memory) l.initial.buffer (meaning l.tables l.words l.memory) l.at l.buffer l.moved l.c
 
 abbrev pub decreases-loop-tables : goal.decreases-loop-tables
 decreases-loop-tables l =

@@ -1,5 +1,7 @@
 -- `entries::carry::carry_other` meets its contract. Assumes nothing.
+use mathlib.Core.Logic.{inl, inr}
 use Rattle.std.proofs.Common.{ℕ, List, ap, ◌∙◌}
+use Rattle.thread.specs.Effect.{number_of_fault}
 use Rattle.rules.specs.State.{State}
 use Rattle.rules.specs.Update.{accepted, set_ready, enqueue_ready}
 use Rattle.rules.specs.Rules.{carried_of}
@@ -18,7 +20,7 @@ fork-requires-in-Forks c =
     rw c.in-Forks.is at pre'
 
 pub pass_join-requires : goal.pass_join-requires
-pass_join-requires c = (c.args.c, rw c.in-Joins.is at c.requires)
+pass_join-requires c = rw c.in-Joins.is at c.requires
 
 pub go_off-requires : goal.go_off-requires
 go_off-requires c = rw c.in-Suspends.is at c.requires
@@ -34,21 +36,19 @@ return_value-requires c =
 pub share-requires : goal.share-requires
 share-requires c =
     let pre' = c.requires in
-    (c.args.c, rw c.in-Shares.is at pre')
+    rw c.in-Shares.is at pre'
 
 pub returns-in-Lforks : goal.returns-in-Lforks
 unfolding carried_of
 returns-in-Lforks c =
-    let wrapping-add-u16' = c.wrapping_add_u16-past in
     let args' = c.args in
-    λ starts parameters memory allowance. rw (c.in-Lforks.is, ← wrapping-add-u16'.ensures.value) (c.fork.ensures starts parameters memory allowance args'.place)
+    λ starts parameters memory allowance. rw c.in-Lforks.is (c.fork.ensures starts parameters memory allowance args'.place)
 
 pub returns-in-Forks : goal.returns-in-Forks
 unfolding carried_of
 returns-in-Forks c =
-    let wrapping-add-u16' = c.wrapping_add_u16-past in
     let args' = c.args in
-    λ starts parameters memory allowance. rw (c.in-Forks.is, ← wrapping-add-u16'.ensures.value) (c.fork-in-Forks.ensures starts parameters memory allowance args'.place)
+    λ starts parameters memory allowance. rw c.in-Forks.is (c.fork-in-Forks.ensures starts parameters memory allowance args'.place)
 
 pub returns-in-Joins : goal.returns-in-Joins
 unfolding carried_of
@@ -56,7 +56,7 @@ returns-in-Joins c =
     let args' = c.args in
     let pre' = c.requires in
     let need = rw c.in-Joins.is at pre' in
-    λ starts parameters memory allowance. rw (c.in-Joins.is, ← c.wrapping_add_u16-next.ensures.value, c.pass_join.ensures.0) (ap accepted ((c.pass_join.ensures.1 args'.c args'.place).means need.sized args'.words.now memory))
+    λ starts parameters memory allowance. rw c.in-Joins.is (ap accepted ((c.pass_join.ensures args'.place).means need.sized args'.words.now memory))
 
 pub returns-in-Suspends : goal.returns-in-Suspends
 unfolding carried_of
@@ -64,21 +64,20 @@ returns-in-Suspends c =
     let args' = c.args in
     let pre' = c.requires in
     let need = rw c.in-Suspends.is at pre' in
-    λ starts parameters memory allowance. rw (c.in-Suspends.is, ← c.wrapping_add_u16-next.ensures.value) (ap accepted ((c.go_off.ensures args'.place).means need.seated.sized args'.words.now memory))
+    λ starts parameters memory allowance. rw c.in-Suspends.is (ap accepted ((c.go_off.ensures args'.place).means need.seated.sized args'.words.now memory))
 
 pub returns-in-Yields : goal.returns-in-Yields
 unfolding carried_of
 returns-in-Yields c =
     let go-off2' = c.go_off-in-Yields in
-    let wrapping-add-u162' = c.wrapping_add_u16-next in
     let args' = c.args in
     let pre' = c.requires in
     let need = rw c.in-Yields.is at pre' in
     let l1 = (go-off2'.ensures 0).sized ∙ need.seated.sized in
-    λ starts parameters memory allowance. rw (c.in-Yields.is, ← wrapping-add-u162'.ensures.value) (ap accepted
-    (c.put_ready.ensures.means l1 args'.words.now memory
-    ∙ ap (λ (q : List ℕ). set_ready q (meaning go-off2'.new.tables args'.words.now memory)) (behind-last _ _ _ _ (c.ready.ensures.means l1 args'.words.now memory) c.enqueue.ensures)
-    ∙ ap (enqueue_ready args'.t) ((go-off2'.ensures args'.place).means need.seated.sized args'.words.now memory)))
+    λ starts parameters memory allowance. rw c.in-Yields.is (ap accepted
+    (c.put_queue.ensures.means l1 args'.words.now memory
+    ∙ ap (λ (q : List ℕ). set_ready q (meaning go-off2'.new.tables args'.words.now memory)) (behind-last _ _ _ _ (c.queue_of.ensures.means l1 args'.words.now memory) c.enqueue-line.ensures)
+    ∙ ap (enqueue_ready args'.at.thread) ((go-off2'.ensures args'.place).means need.seated.sized args'.words.now memory)))
 
 pub returns-in-Returns : goal.returns-in-Returns
 unfolding carried_of
@@ -92,26 +91,27 @@ returns-in-Shares c =
     let args' = c.args in
     let pre' = c.requires in
     let need = rw c.in-Shares.is at pre' in
-    λ starts parameters memory allowance. rw (c.in-Shares.is, ← c.wrapping_add_u16.ensures.value, c.share.ensures.0) (ap accepted ((c.share.ensures.1 args'.c args'.place).means need.seated.sized args'.words.now memory))
+    λ starts parameters memory allowance. rw c.in-Shares.is (ap accepted ((c.share.ensures args'.place).means need.seated.sized args'.words.now memory))
 
 pub returns-in-Faults : goal.returns-in-Faults
 unfolding carried_of
 returns-in-Faults c =
     let args' = c.args in
     let pre' = c.requires in
-    λ starts parameters memory allowance. rw c.in-Faults.is (ap (λ (s : State). record { state = s; log = c.in-Faults.n }) (c.fail.ensures.means (rw c.in-Faults.is at pre') args'.words.now memory))
+    λ starts parameters memory allowance. rw c.in-Faults.is (ap (λ (s : State). record { state = s; log = number_of_fault c.in-Faults.fault }) (rw c.number.ensures at (c.fail.ensures.means (rw c.in-Faults.is at pre') args'.words.now memory)))
 
+-- not met
 pub returns-in-Sets : goal.returns-in-Sets
-returns-in-Sets c = absurd (rw c.in-Sets.is at c.requires)
-
-pub returns-in-Loads : goal.returns-in-Loads
-returns-in-Loads c = absurd (rw c.in-Loads.is at c.requires)
-
-pub returns-in-Stores : goal.returns-in-Stores
-returns-in-Stores c = absurd (rw c.in-Stores.is at c.requires)
+returns-in-Sets c = elim c.in-Sets.is [
+  | inl x ↦ absurd (rw x.2 at c.requires)
+  | inr y ↦ elim y [
+    | inl x ↦ absurd (rw x.2 at c.requires)
+    | inr x ↦ absurd (rw x.2 at c.requires)
+  ]
+]
 
 pub returns-in-Goes : goal.returns-in-Goes
-returns-in-Goes c = absurd (rw c.in-Goes.is at c.requires)
-
-pub returns-in-Continues : goal.returns-in-Continues
-returns-in-Continues c = absurd (rw c.in-Continues.is at c.requires)
+returns-in-Goes c = elim c.in-Goes.is [
+  | inl x ↦ absurd (rw x.1 at c.requires)
+  | inr e ↦ absurd (rw e at c.requires)
+]

@@ -10,12 +10,12 @@ leave-requires c =
     let pre' = c.requires in
     let go-on' = c.go_on in
     record {
-      sized = (go-on'.ensures 0 0).sized ∙ pre'.seated.sized;
+      sized = (go-on'.ensures 0).sized ∙ pre'.seated.sized;
       core = pre'.seated.core;
       number = pre'.seated.number;
-      linked = linked_on args'.tables.now _ 0 args'.t args'.weight args'.next 0 pre'.seated.number ((go-on'.ensures 0 0).means pre'.seated.sized [] []) pre'.linked;
+      linked = linked_on args'.tables.now _ args'.at.core args'.at.thread args'.at.weight args'.next 0 pre'.seated.number ((go-on'.ensures 0).means pre'.seated.sized [] []) pre'.linked;
     }
 
 pub returns : goal.returns
 returns c =
-    λ offset. then (c.go_on.ensures c.args.c offset) c.leave.ensures
+    λ offset. then (c.go_on.ensures offset) c.leave.ensures

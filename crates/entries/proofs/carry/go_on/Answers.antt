@@ -12,11 +12,11 @@ returns c =
     let args' = c.args in
     let pre' = c.requires in
     let put-position' = c.put_position in
-    λ core offset. record {
+    λ offset. record {
       means = λ l words memory.
-          let moved = moved_on args'.t args'.next l pre'.1.number put-position'.ensures in
-          let room = units-kept _ _ args'.t args'.weight (2 ^ 32) _ (moved [] []) pre'.1.units in
-          charged args'.weight (put-position'.ensures.sized ∙ l) room c.charge.ensures words memory ∙ ap (charge args'.weight) (moved words memory);
+          let moved = moved_on args'.at.thread args'.next l pre'.number put-position'.ensures in
+          let room = units-kept _ _ args'.at.thread args'.at.weight (2 ^ 32) _ (moved [] []) pre'.units in
+          charged args'.at.weight (put-position'.ensures.sized ∙ l) room c.charge.ensures words memory ∙ ap (charge args'.at.weight) (moved words memory);
       sized = c.charge.ensures.sized ∙ put-position'.ensures.sized;
-      other = λ n. absurd (n pre'.1.sized);
+      other = λ n. absurd (n pre'.sized);
     }

@@ -17,9 +17,9 @@ returns-then-above c = record {
 pub returns : goal.returns
 returns c =
     let left' = c.if-above.false in
-    let seen = c.free_stacklets.ensures in
-    let taken = c.dequeue-places.ensures in
-    let stored = c.put_free_stacklets.ensures in record {
+    let seen = c.queue_of.ensures in
+    let taken = c.dequeue-free.ensures in
+    let stored = c.put_queue.ensures in record {
       left = here (λ l words memory. rw left' (ap (λ (q : List ℕ). set_free_stacklets q (meaning c.args.tables.now words memory)) (rest_of _ _ _ (seen.means l words memory) taken))) stored;
       spot = record {
         means = λ l words memory. rw left' (first-of _ _ _ (seen.means l words memory) taken);

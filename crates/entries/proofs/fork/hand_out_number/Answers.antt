@@ -8,4 +8,4 @@ use Rattle.entries.proofs.fork.hand_out_number.Goals as goal
 
 pub returns : goal.returns
 returns c =
-    here (λ l words memory. ap (λ (q : List ℕ). set_free_threads q (meaning c.args.tables.now words memory)) (rest_of _ _ _ (c.free_threads.ensures.means l words memory) c.dequeue-numbers.ensures)) c.put_free_threads.ensures
+    here (λ l words memory. ap (λ (q : List ℕ). set_free_threads q (meaning c.args.tables.now words memory)) (rest_of _ _ _ (c.queue_of.ensures.means l words memory) c.dequeue.ensures)) c.put_queue.ensures

@@ -14,7 +14,7 @@ returns-in-Called c =
 pub returns-in-Queued : goal.returns-in-Queued
 returns-in-Queued c =
     let args' = c.args in
-    rw c.in-Queued.is (here (λ l words memory. ap (λ (q : List ℕ). set_ready q (meaning args'.tables.now words memory)) (behind-last _ _ args'.n _ (c.ready.ensures.means l words memory) c.enqueue.ensures)) c.put_ready.ensures)
+    rw c.in-Queued.is (here (λ l words memory. ap (λ (q : List ℕ). set_ready q (meaning args'.tables.now words memory)) (behind-last _ _ args'.n _ (c.queue_of.ensures.means l words memory) c.enqueue.ensures)) c.put_queue.ensures)
 
 pub returns-in-Stolen : goal.returns-in-Stolen
 returns-in-Stolen c =

@@ -7,15 +7,15 @@ overflow_sub-a c = rw c.in-Stores.is at c.requires
 
 pub returns-in-Sets : goal.returns-in-Sets
 returns-in-Sets c = let a = c.args in
-    own-sets a.done a.position a.base _ a.words.now a.memory.now _ _ _ _ c.wrapping_add_u16.ensures.value c.in-Sets.is c.set_slot.ensures
+    own-sets a.done a.position a.base _ a.words.now a.memory.now _ _ _ _ refl c.in-Sets.is c.set_slot.ensures
 
 pub returns-in-Loads : goal.returns-in-Loads
 returns-in-Loads c = let a = c.args in
-    own-loads a.done a.position a.base _ a.words.now a.memory.now _ _ _ _ _ c.wrapping_add_u16-in-Loads.ensures.value c.in-Loads.is c.load-v.ensures c.set_slot-in-Loads.ensures
+    own-loads a.done a.position a.base _ a.words.now a.memory.now _ _ _ _ _ refl c.in-Loads.is c.load-v.ensures c.set_slot-in-Loads.ensures
 
 pub returns-in-Stores : goal.returns-in-Stores
 returns-in-Stores c = let a = c.args in
-    own-stores a.done a.position a.base _ a.words.now a.memory.now _ _ _ _ c.wrapping_add_u16-in-Stores.ensures.value c.in-Stores.is c.put_in.ensures
+    own-stores a.done a.position a.base _ a.words.now a.memory.now _ _ _ _ refl c.in-Stores.is c.put_in.ensures
 
 pub returns-in-Goes : goal.returns-in-Goes
 returns-in-Goes c = let a = c.args in
@@ -23,7 +23,7 @@ returns-in-Goes c = let a = c.args in
 
 pub returns-in-Continues : goal.returns-in-Continues
 returns-in-Continues c = let a = c.args in
-    own-continues a.done a.position a.base _ a.words.now a.memory.now _ c.wrapping_add_u16-in-Continues.ensures.value c.in-Continues.is
+    own-continues a.done a.position a.base _ a.words.now a.memory.now _ refl c.in-Continues.is
 
 pub returns-in-Faults : goal.returns-in-Faults
 returns-in-Faults c = (refl, refl, rw c.in-Faults.is tt)

@@ -16,4 +16,4 @@ returns-then-not-is_lowest c =
 pub returns : goal.returns
 unfolding stacklets_without
 returns c =
-    here {f = set_free_stacklets (contents c.enqueue.result)} (λ l words memory. rw (sym c.is_lowest.ensures ∙ c.if-not-is_lowest.false) (ap (λ (q : List ℕ). set_free_stacklets q (meaning c.args.tables.now words memory)) (behind-last _ _ _ _ (c.free_stacklets.ensures.means l words memory) c.enqueue.ensures))) c.put_free_stacklets.ensures
+    here {f = set_free_stacklets (contents c.enqueue.result)} (λ l words memory. rw (sym c.is_lowest.ensures ∙ c.if-not-is_lowest.false) (ap (λ (q : List ℕ). set_free_stacklets q (meaning c.args.tables.now words memory)) (behind-last _ _ _ _ (c.queue_of.ensures.means l words memory) c.enqueue.ensures))) c.put_queue.ensures

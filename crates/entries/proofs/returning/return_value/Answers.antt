@@ -13,7 +13,7 @@ use Rattle.std.proofs.Common.{◌≡◌, ℕ, ◌+◌, ◌<◌, List, [], set, s
 use Rattle.entries.proofs.returning.return_value.Goals as goal
 
 pub free_thread-requires : goal.free_thread-requires
-free_thread-requires c = (c.args.c, c.requires.seated)
+free_thread-requires c = c.requires.seated
 
 pub returns-then-is_root : goal.returns-then-is_root
 unfolding meaning
@@ -27,26 +27,26 @@ returns-then-is_root c =
     let put-core' = c.put_core in
     let l = pre'.seated.sized in
     let th = thread-at'.result in
-    let same : th ≡ record_in args'.tables.now args'.t = thread-seen l [] [] args'.t th pre'.seated.number thread-at'.ensures in
+    let same : th ≡ record_in args'.tables.now args'.at.thread = thread-seen l [] [] args'.at.thread th pre'.seated.number thread-at'.ensures in
     let ws = args'.words.now in
     let us = free-thread'.new.words in
     let cleared : us ≡ wiped ws th.origin.base (slots_of args'.image.now th.origin.routine) =
     free-thread'.ensures.words ∙ ap (λ (h : Thread). wiped ws h.origin.base slots-of'.result) (sym same) ∙ ap (λ (n : ℕ). wiped ws th.origin.base n) slots-of'.ensures in
     λ starts parameters memory allowance next offset.
     let j = job_of args'.image.now starts parameters allowance in
-    let l1 = (free-thread'.ensures.tables 0 0 0).sized ∙ l in
+    let l1 = (free-thread'.ensures.tables 0 0).sized ∙ l in
     let l2 = put-core'.ensures.sized ∙ l1 in
-    returned-root j (turn_with args'.c args'.t th args'.weight next offset) args'.v (meaning args'.tables.now ws memory) _ _ _ _ us is-root'.result
+    returned-root j (turn_with args'.at.core args'.at.thread th args'.at.weight next offset) args'.v (meaning args'.tables.now ws memory) _ _ _ _ us is-root'.result
     is-root'.ensures c.if-is_root.true (with-words args'.tables.now ws us memory)
-    ((free-thread'.ensures.tables args'.c next offset).means l us memory
-    ∙ ap (λ (h : Thread). retired (turn_with args'.c args'.t h args'.weight next offset) (meaning args'.tables.now us memory)) (sym same))
+    ((free-thread'.ensures.tables next offset).means l us memory
+    ∙ ap (λ (h : Thread). retired (turn_with args'.at.core args'.at.thread h args'.at.weight next offset) (meaning args'.tables.now us memory)) (sym same))
     cleared
-    (core-stored l1 us memory args'.c 32 pre'.seated.core put-core'.ensures) (c.finish.ensures.means l2 us memory)
-    ∙ ap (λ (h : Thread). return_of j (meaning args'.tables.now ws memory) (turn_with args'.c args'.t h args'.weight next offset) args'.v) same
+    (core-stored l1 us memory args'.at.core 32 pre'.seated.core put-core'.ensures) (c.finish.ensures.means l2 us memory)
+    ∙ ap (λ (h : Thread). return_of j (meaning args'.tables.now ws memory) (turn_with args'.at.core args'.at.thread h args'.at.weight next offset) args'.v) same
 
 pub wake-requires : goal.wake-requires
 wake-requires c =
-    c.put_thread.ensures.sized ∙ (c.free_thread.ensures.tables 0 0 0).sized ∙ c.requires.seated.sized
+    c.put_thread.ensures.sized ∙ (c.free_thread.ensures.tables 0 0).sized ∙ c.requires.seated.sized
 
 pub returns : goal.returns
 unfolding meaning
@@ -66,24 +66,24 @@ returns c =
     let core-after' = c.core_after in
     let l = pre'.seated.sized in
     let th = thread-at'.result in
-    let same : th ≡ record_in args'.tables.now args'.t = thread-seen l [] [] args'.t th pre'.seated.number thread-at'.ensures in
+    let same : th ≡ record_in args'.tables.now args'.at.thread = thread-seen l [] [] args'.at.thread th pre'.seated.number thread-at'.ensures in
     let ws = args'.words.now in
     let us = free-thread'.new.words in
     let cleared : us ≡ wiped ws th.origin.base (slots_of args'.image.now th.origin.routine) =
     free-thread'.ensures.words ∙ ap (λ (h : Thread). wiped ws h.origin.base slots-of'.result) (sym same) ∙ ap (λ (n : ℕ). wiped ws th.origin.base n) slots-of'.ensures in
     let low : th.origin.parent < 32 = has-parent _ _ is-root'.ensures if1'.false in
-    let apart : th.origin.parent ≡ args'.t → ⊥ = λ e. pre'.other (ap (λ (h : Thread). h.origin.parent) (sym same) ∙ e) in
+    let apart : th.origin.parent ≡ args'.at.thread → ⊥ = λ e. pre'.other (ap (λ (h : Thread). h.origin.parent) (sym same) ∙ e) in
     let q = thread-at2'.result in
     let vs = set-slot'.new.words in
     λ starts parameters memory allowance next offset.
     let j = job_of args'.image.now starts parameters allowance in
-    let o = turn_with args'.c args'.t th args'.weight next offset in
-    let l1 = (free-thread'.ensures.tables 0 0 0).sized ∙ l in
+    let o = turn_with args'.at.core args'.at.thread th args'.at.weight next offset in
+    let l1 = (free-thread'.ensures.tables 0 0).sized ∙ l in
     let l2 = put-thread'.ensures.sized ∙ l1 in
     let l3 = wake'.ensures.sized ∙ l2 in
     let gone : (xs : List ℕ) → meaning free-thread'.new.tables xs memory ≡ retired o (meaning args'.tables.now xs memory) =
-    λ xs. (free-thread'.ensures.tables args'.c next offset).means l xs memory
-    ∙ ap (λ (h : Thread). retired (turn_with args'.c args'.t h args'.weight next offset) (meaning args'.tables.now xs memory)) (sym same) in
+    λ xs. (free-thread'.ensures.tables next offset).means l xs memory
+    ∙ ap (λ (h : Thread). retired (turn_with args'.at.core args'.at.thread h args'.at.weight next offset) (meaning args'.tables.now xs memory)) (sym same) in
     returned-by j o th.origin.parent args'.v (meaning args'.tables.now ws memory) _ _ _ _ _ q _ _ vs _ is-root'.result
     is-root'.ensures if1'.false refl
     (left_behind o (meaning args'.tables.now ws memory) _ th.origin.parent q (gone ws) apart (thread-seen l1 ws memory th.origin.parent q low thread-at2'.ensures))
@@ -92,5 +92,5 @@ returns c =
     (set-slot'.ensures ∙ ap (λ (xs : List ℕ). set xs (q.origin.base + th.origin.result) args'.v) cleared)
     c.status_after.ensures without-child'.ensures
     (thread-stored l1 vs memory th.origin.parent without-child'.result low put-thread'.ensures) (wake'.ensures.means l2 vs memory)
-    core-after'.ensures (core-stored l3 vs memory args'.c core-after'.result pre'.seated.core c.put_core-2.ensures)
-    ∙ ap (λ (h : Thread). return_of j (meaning args'.tables.now ws memory) (turn_with args'.c args'.t h args'.weight next offset) args'.v) same
+    core-after'.ensures (core-stored l3 vs memory args'.at.core core-after'.result pre'.seated.core c.put_core-2.ensures)
+    ∙ ap (λ (h : Thread). return_of j (meaning args'.tables.now ws memory) (turn_with args'.at.core args'.at.thread h args'.at.weight next offset) args'.v) same

@@ -10,7 +10,7 @@ use Rattle.entries.proofs.returning.wake.Goals as goal
 pub returns-then-does_wake : goal.returns-then-does_wake
 unfolding ready_after
 returns-then-does_wake c =
-    here (λ l words memory. rw (sym c.does_wake.ensures ∙ c.if-does_wake.true) (ap (λ (q : List ℕ). set_ready q (meaning c.args.tables.now words memory)) (behind-last _ _ _ _ (c.ready.ensures.means l words memory) c.enqueue.ensures))) c.put_ready.ensures
+    here (λ l words memory. rw (sym c.does_wake.ensures ∙ c.if-does_wake.true) (ap (λ (q : List ℕ). set_ready q (meaning c.args.tables.now words memory)) (behind-last _ _ _ _ (c.queue_of.ensures.means l words memory) c.enqueue.ensures))) c.put_queue.ensures
 
 pub returns-else-does_wake : goal.returns-else-does_wake
 unfolding ready_after

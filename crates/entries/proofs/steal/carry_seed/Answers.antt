@@ -1,5 +1,6 @@
 -- `entries::steal::carry_seed` meets its contract. Assumes nothing.
 use Rattle.rules.specs.Rules.{stolen_of}
+use Rattle.thread.specs.Effect.{number_of_fault}
 use Rattle.rules.specs.State.{State}
 use Rattle.std.proofs.Common.{ap}
 use Rattle.entries.proofs.steal.carry_seed.Goals as goal
@@ -16,7 +17,7 @@ returns-in-Forks c =
 pub returns-in-Faults : goal.returns-in-Faults
 unfolding stolen_of
 returns-in-Faults c =
-    λ starts parameters memory allowance. rw c.in-Faults.is (ap (λ (s : State). record { state = s; log = c.in-Faults.n }) (c.fail.ensures.means (rw c.in-Faults.is at c.requires) c.args.words.now memory))
+    λ starts parameters memory allowance. rw c.in-Faults.is (ap (λ (s : State). record { state = s; log = number_of_fault c.in-Faults.fault }) (rw c.number.ensures at (c.fail.ensures.means (rw c.in-Faults.is at c.requires) c.args.words.now memory)))
 
 pub returns-in-Lforks : goal.returns-in-Lforks
 returns-in-Lforks c =
