@@ -10,8 +10,6 @@ use Rattle.thread.specs.declared.Thread.{Thread}
 use Rattle.thread.specs.Thread.{status_number, blank_thread}
 use Rattle.cells.specs.Record.{record_at}
 use Rattle.cells.proofs.Laws.{record_same}
-use Rattle.census.specs.declared.Census.{Census}
-use Rattle.census.specs.Counted.{census_of}
 use Rattle.census.specs.Table.{records_of, records_up_to}
 use Rattle.census.proofs.Counting.{long, record_of}
 use Rattle.rules.specs.State.{thread_at}
@@ -19,7 +17,9 @@ use Rattle.tables.specs.Meaning.{size, meaning}
 use Rattle.tables.specs.Change.{Reads}
 use Rattle.tables.proofs.Meaning.{thread-is, threads-long}
 use Rattle.tables.proofs.Zeros.{zeros}
-use Rattle.run.specs.Machine.{statuses_of, MachineIs}
+use Rattle.demands.specs.declared.RunAnswer.{RunAnswer}
+use Rattle.run.specs.declared.Shown.{Shown}
+use Rattle.run.specs.Machine.{statuses_of, MachineIs, ShownBy}
 
 -- the bytes of the thread table hold the machine's records
 module _ (xs words memory : List ℕ) (l : length xs ≡ size) where
@@ -69,7 +69,7 @@ told-all xs all wide f = record {
 }
 
 -- counts, statuses and words together
-pub shown : (xs words memory : List ℕ) (census : Census) (numbers : List ℕ) → length xs ≡ size → Reads xs census (λ s. census_of s.threads) (census_of [])
-    → Reads xs numbers (λ s. statuses_of s.threads) (replicate 32 0) → MachineIs (meaning xs words memory) census numbers words
+pub machine-shown : (xs words memory : List ℕ) (answer : RunAnswer) (r : Shown) → length xs ≡ size → ShownBy answer xs r → MachineIs (meaning xs words memory) r.counts r.statuses words
 unfolding meaning
-shown xs words memory census numbers l c n = record { counts = c.means l words memory; statuses = n.means l words memory; words = refl }
+machine-shown xs words memory answer r l shown =
+    record { counts = shown.counts.means l words memory; statuses = shown.statuses.means l words memory; words = refl }

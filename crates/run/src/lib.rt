@@ -7,11 +7,12 @@ ghost use Rattle.demands.specs.Input.{input_of};
 ghost use Rattle.run.specs.Machine.{ran_with};
 ghost use Rattle.run.specs.Promise.{RunPromise};
 
-use crate::tell::{answer, counts, statuses};
+use crate::tell::{answer, shown};
 use begin::begin;
 pub use census::Census;
-pub use demands::RunAnswer;
+pub use demands::{RunAnswer, RunRefusal};
 use play::play;
+use rules::Job;
 
 // The answer, with the thread records in each state, as the run left them.
 #[derive(Clone, Copy)]
@@ -25,10 +26,7 @@ pub struct Shown {
 // The same, with the words of its stacklets.
 #[derive(Clone, Copy)]
 pub struct Ran {
-    pub answer: RunAnswer,
-    pub counts: Census,
-    // the number of each record's status
-    pub statuses: [u8; 32],
+    pub shown: Shown,
     pub words: [u32; 1024],
 }
 
@@ -60,32 +58,22 @@ pub fn run_into(
         &mut tables,
         &mut store,
     );
-    if begun.number != 0 {
-        *words = store;
-        return Shown {
-            answer: RunAnswer::Refused(begun.number),
-            counts: counts(&tables),
-            statuses: statuses(&tables),
-        };
-    }
-    let starts = begun.starts;
-    play(
-        schedule,
-        log,
+    let starts = match begun {
+        Ok(starts) => starts,
+        Err(why) => {
+            *words = store;
+            return shown(RunAnswer::Refused(why), &tables);
+        }
+    };
+    let job = Job {
         image,
-        &starts,
+        starts: &starts,
         parameters,
         allowance,
-        &mut tables,
-        &mut store,
-        memory,
-    );
+    };
+    play(schedule, log, &job, &mut tables, &mut store, memory);
     *words = store;
-    Shown {
-        answer: answer(&tables),
-        counts: counts(&tables),
-        statuses: statuses(&tables),
-    }
+    shown(answer(&tables), &tables)
 }
 
 // The same with the words in what is given.
@@ -105,13 +93,5 @@ pub fn run(
     let shown = run_into(
         image, cores, arguments, parameters, memory, allowance, schedule, log, &mut words,
     );
-    let told = shown.answer;
-    let counted = shown.counts;
-    let states = shown.statuses;
-    Ran {
-        answer: told,
-        counts: counted,
-        statuses: states,
-        words,
-    }
+    Ran { shown, words }
 }

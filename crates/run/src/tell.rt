@@ -4,22 +4,20 @@ ghost use Rattle.std.specs.Prelude.{[], replicate};
 ghost use Rattle.census.specs.Counted.{census_of};
 ghost use Rattle.demands.specs.declared.RunAnswer.TheVariants.{Open};
 ghost use Rattle.demands.specs.Input.{answer_of};
-ghost use Rattle.run.specs.Machine.{statuses_of};
+ghost use Rattle.run.specs.Machine.{statuses_of, ShownBy};
 
-use crate::RunAnswer;
+use crate::{RunAnswer, Shown};
 use census::{Census, count};
 use tables::marks::{standing, units};
 use tables::records::{THREADS, thread_at};
 use tables::{SIZE, Standing};
-use thread::record::status_number;
 
 // How the machine stands, by its tables. Tables of another size tell an open machine with no units.
 pub fn answer(tables: &[u8]) -> RunAnswer
     ensures { Reads tables.now result (λ s. answer_of s.outcome s.units) (Open 0) }
 {
     let so_far = units(tables);
-    let stands = standing(tables);
-    match stands {
+    match standing(tables) {
         Standing::Going => RunAnswer::Open { units: so_far },
         Standing::Over(result) => RunAnswer::Finished {
             result,
@@ -48,12 +46,19 @@ pub fn statuses(tables: &[u8]) -> [u8; 32]
     ensures { Reads tables.now result (λ s. statuses_of s.threads) (replicate 32 0) }
 {
     let mut all = [0u8; 32];
-    let mut i: usize = 0;
-    while i < 32 {
-        let thread = thread_at(tables, i as u8);
-        let status = thread.status;
-        all[i] = status_number(status);
-        i = i + 1;
+    for (t, status) in all.iter_mut().enumerate() {
+        *status = thread_at(tables, t as u8).status.number();
     }
     all
+}
+
+// An answer with what the tables tell.
+pub fn shown(answer: RunAnswer, tables: &[u8]) -> Shown
+    ensures { ShownBy answer tables.now result }
+{
+    Shown {
+        answer,
+        counts: counts(tables),
+        statuses: statuses(tables),
+    }
 }

@@ -6,17 +6,21 @@ use native.Mathlib.Omega.{arith}
 use lib.ListN.{get_or, length, replicate}
 use Rattle.schedule.specs.declared.Entry.TheVariants.{Step}
 use Rattle.schedule.specs.Format.{bytes_of_entries}
-use Rattle.census.specs.declared.Census.{Census}
 use Rattle.thread.specs.Job.{job_of}
 use Rattle.rules.specs.State.{State}
 use Rattle.tables.specs.Meaning.{size, meaning}
 use Rattle.entries.specs.Given.{Sounding}
 use Rattle.start.specs.Start.{Starts}
-use Rattle.demands.specs.declared.RunAnswer.TheVariants.{Refused}
+use Rattle.demands.specs.declared.RunAnswer.TheVariants.{Refused, Finished}
 use Rattle.demands.specs.Input.{Input, job_in, start_in, answer_of, Numbered}
 use Rattle.demands.proofs.Passing.{takes}
 use Rattle.demands.proofs.WholeRun.{scheduler-numbers, number-told}
-use Rattle.begin.specs.declared.Begun.{Begun}
+use Rattle.std.specs.Prelude.{Ok, Err}
+use Rattle.image.specs.Layout.{program_of, starts_in}
+use Rattle.begin.proofs.Beginning.{refused-by, passed-by, starts-by}
+use Rattle.demands.proofs.Tests.{not-zero, tells}
+use Rattle.demands.specs.declared.RunRefusal.{RunRefusal}
+use Rattle.run.specs.declared.Shown.{Shown}
 use Rattle.begin.specs.Begins.{Begins}
 use Rattle.serial.specs.Serial.{done}
 use Rattle.run.specs.Machine.{MachineIs}
@@ -36,51 +40,60 @@ unfolding bytes_of_entries
 steps-bytes zero = refl
 steps-bytes (suc n) = let z = steps-bytes n in omega arith
 
-module _ (i : Input) (b : Begun) (xs ys ws vs : List ℕ) (begun : Begins i [] [] b) (start : Starts i.image i.arguments i.cores xs ys ws vs)
-    (sized : length xs ≡ size) (wide : length ws ≡ 1024) where
+-- a refusal tells no result
+told_refused : (why : RunRefusal) (v u : ℕ) → ¬ (Refused why ≡ Finished v u)
+told_refused why v u e = let z : ◌≡◌ {A = ℕ} 0 1 = cc in omega arith
+
+module _ (i : Input) (xs ys ws vs : List ℕ) (start : Starts i.image i.arguments i.cores xs ys ws vs) (sized : length xs ≡ size) (wide : length ws ≡ 1024) where
   at-start : meaning ys vs i.memory ≡ start_in i
-  at-start = first i [] [] b xs ys ws vs begun start sized wide
+  at-start = first i [] [] xs ys ws vs start sized wide
 
   -- refused
-  pub refuses : (b.number ≡ 0 → ⊥) → (before : List ℕ) (census : Census) (numbers : List ℕ) → MachineIs (meaning ys vs i.memory) census numbers vs
-      → SchedulerPromise i before (record { answer = Refused b.number; counts = census; statuses = numbers; words = vs; used = 0 }) i.memory before
-  refuses some before census numbers shows = record {
-    refused = λ _. record {
-      answer = ap Refused begun.number;
-      number = begun.number;
-      memory = refl;
-      buffer = refl;
-      used = refl;
-      machine = subst (λ (s : State). MachineIs s census numbers vs) at-start shows;
-    };
-    scheduled = λ z. absurd (some (begun.number ∙ z));
-    equals = λ z. absurd (some (begun.number ∙ z));
-    ends = λ z. absurd (some (begun.number ∙ z));
-    numbers = scheduler-numbers i;
-    plain = λ v u e. let z : ◌≡◌ {A = ℕ} 0 1 = cc in absurd (omega arith);
-    words = λ v u e. let z : ◌≡◌ {A = ℕ} 0 1 = cc in absurd (omega arith);
-    lone_core = λ z. absurd (some (begun.number ∙ z));
-    few_in_use = λ z. absurd (some (begun.number ∙ z));
-    several_cores = λ z. absurd (some (begun.number ∙ z));
-  }
+  pub refuses : (why : RunRefusal) → Begins i [] [] (Err why) → (before : List ℕ) (shown : Shown) → shown.answer ≡ Refused why
+      → MachineIs (meaning ys vs i.memory) shown.counts shown.statuses vs
+      → SchedulerPromise i before (record { ran = record { shown = shown; words = vs }; used = 0 }) i.memory before
+  refuses why begun before shown answer machine =
+      let test = refused-by i [] [] why begun in
+      let no-result : (v u : ℕ) → shown.answer ≡ Finished v u → ⊥ = λ v u e. told_refused why v u (sym answer ∙ e) in
+      record {
+        refused = λ _. record {
+          answer = tells i [] [] test answer;
+          memory = refl;
+          buffer = refl;
+          used = refl;
+          machine = subst (λ (s : State). MachineIs s shown.counts shown.statuses vs) at-start machine;
+        };
+        scheduled = λ z. absurd (not-zero i [] [] test z);
+        equals = λ z. absurd (not-zero i [] [] test z);
+        ends = λ z. absurd (not-zero i [] [] test z);
+        numbers = scheduler-numbers i;
+        plain = λ v u e. absurd (no-result v u e);
+        words = λ v u e. absurd (no-result v u e);
+        lone_core = λ z. absurd (not-zero i [] [] test z);
+        few_in_use = λ z. absurd (not-zero i [] [] test z);
+        several_cores = λ z. absurd (not-zero i [] [] test z);
+      }
 
-  module _ (none : b.number ≡ 0) (bytes : (k : ℕ) → get_or i.image k 0 < 256) where
+  module _ (starts : List ℕ) (begun : Begins i [] [] (Ok starts)) (bytes : (k : ℕ) → get_or i.image k 0 < 256) where
     passes : refusal_in i ≡ 0
-    passes = sym begun.number ∙ none
+    passes = passed-by i [] [] starts begun
 
-    pub goes : length ys ≡ size → Sounding i.image b.starts i.parameters i.allowance ys vs i.memory
-    goes same = ready i [] [] b xs ys ws vs begun start sized wide none same bytes
+    places : starts ≡ starts_in (program_of i.image)
+    places = starts-by i [] [] starts begun
+
+    pub goes : length ys ≡ size → Sounding i.image starts i.parameters i.allowance ys vs i.memory
+    goes same = ready i [] [] xs ys ws vs start sized wide starts begun same bytes
 
     pub schedules : (before zs : List ℕ) (x : Scheduled) (memory_after after : List ℕ)
-        → Rounded (job_of i.image b.starts i.parameters i.allowance) (meaning ys vs i.memory) before (meaning zs x.words memory_after) x.used after
-        → x.answer ≡ answer_of (meaning zs x.words memory_after).outcome (meaning zs x.words memory_after).units
-        → MachineIs (meaning zs x.words memory_after) x.counts x.statuses x.words
+        → Rounded (job_of i.image starts i.parameters i.allowance) (meaning ys vs i.memory) before (meaning zs x.ran.words memory_after) x.used after
+        → x.ran.shown.answer ≡ answer_of (meaning zs x.ran.words memory_after).outcome (meaning zs x.ran.words memory_after).units
+        → MachineIs (meaning zs x.ran.words memory_after) x.ran.shown.counts x.ran.shown.statuses x.ran.words
         → SchedulerPromise i before x memory_after after
     unfolding meaning
     schedules before zs x memory_after after q a shows =
-        let p : Rounded (job_in i) (start_in i) before (meaning zs x.words memory_after) x.used after = rw (begun.starts passes, at-start) at q in
+        let p : Rounded (job_in i) (start_in i) before (meaning zs x.ran.words memory_after) x.used after = rw (places, at-start) at q in
         let end : State = (scheduled_of i (length before)).state in
-        let answer : x.answer ≡ answer_of end.outcome end.units = a ∙ ap (λ (s : State). answer_of s.outcome s.units) p.state in
+        let answer : x.ran.shown.answer ≡ answer_of end.outcome end.units = a ∙ ap (λ (s : State). answer_of s.outcome s.units) p.state in
         let memory : memory_after ≡ end.store.memory = ap (λ (s : State). s.store.memory) p.state in
         record {
           refused = λ n. absurd (n passes);
@@ -88,7 +101,7 @@ module _ (i : Input) (b : Begun) (xs ys ws vs : List ℕ) (begun : Begins i [] [
             answer = answer;
             number = subst (Numbered end.outcome) (sym answer) (number-told end.outcome end.units);
             memory = memory;
-            machine = subst (λ (s : State). MachineIs s x.counts x.statuses x.words) p.state shows;
+            machine = subst (λ (s : State). MachineIs s x.ran.shown.counts x.ran.shown.statuses x.ran.words) p.state shows;
             buffer = p.buffer;
             used = p.used;
           };

@@ -7,18 +7,16 @@ ghost use Rattle.begin.specs.Begins.{Begins};
 ghost use Rattle.demands.specs.Input.{input_of};
 ghost use Rattle.scheduler.specs.Promise.{SchedulerPromise, scheduled_with};
 
-use begin::{Begun, begin};
-use run::tell::{answer, counts, statuses};
-use run::{Census, RunAnswer};
+use begin::begin;
+use rules::Job;
+use run::tell::{answer, shown};
+use run::{Ran, RunAnswer, RunRefusal, Shown};
 use turns::play_rounds;
 
-// The answer, with the thread records in each state, as the run left them.
+// What is shown of a run by a schedule.
 #[derive(Clone, Copy)]
 pub struct ScheduleShown {
-    pub answer: RunAnswer,
-    pub counts: Census,
-    // the number of each record's status
-    pub statuses: [u8; 32],
+    pub shown: Shown,
     // the bytes of the entries at the buffer's front
     pub used: usize,
 }
@@ -26,11 +24,7 @@ pub struct ScheduleShown {
 // The same, with the words of its stacklets.
 #[derive(Clone, Copy)]
 pub struct Scheduled {
-    pub answer: RunAnswer,
-    pub counts: Census,
-    // the number of each record's status
-    pub statuses: [u8; 32],
-    pub words: [u32; 1024],
+    pub ran: Ran,
     // the bytes of the entries at the buffer's front
     pub used: usize,
 }
@@ -44,7 +38,7 @@ fn begin_alone(
     memory: &[u32],
     tables: &mut [u8],
     words: &mut [u32],
-) -> Begun
+) -> Result<[u16; 32], RunRefusal>
     ensures tests { (allowance : ℕ) → Begins (input_of image.now cores arguments.now parameters.now memory.now allowance) [] [] result }
     ensures start { Starts image.now arguments.now cores tables.old tables.new words.old words.new }
 {
@@ -54,8 +48,9 @@ fn begin_alone(
     )
 }
 
-// A run by the scheduler's own entries, whose stacklets' words at its end are written into an array of the caller's. It takes any input. Two of the wrong schedulers that its contract rules out: one that tries with 2
-// bytes left, and one that goes on to a second seed where the first is refused.
+// A run by the scheduler's own entries, whose stacklets' words at its end are written into an array of the caller's. It takes any input. Two of
+// the wrong schedulers that its contract rules out: one that tries with 2 bytes left, and one that goes on to a second seed where the first is
+// refused.
 pub fn run_into(
     image: &[u8],
     cores: u8,
@@ -79,31 +74,26 @@ pub fn run_into(
         &mut tables,
         &mut store,
     );
-    if begun.number != 0 {
-        *words = store;
-        return ScheduleShown {
-            answer: RunAnswer::Refused(begun.number),
-            counts: counts(&tables),
-            statuses: statuses(&tables),
-            used: 0,
-        };
-    }
-    let starts = begun.starts;
-    let used = play_rounds(
+    let starts = match begun {
+        Ok(starts) => starts,
+        Err(why) => {
+            *words = store;
+            return ScheduleShown {
+                shown: shown(RunAnswer::Refused(why), &tables),
+                used: 0,
+            };
+        }
+    };
+    let job = Job {
         image,
-        &starts,
+        starts: &starts,
         parameters,
         allowance,
-        &mut tables,
-        &mut store,
-        memory,
-        buffer,
-    );
+    };
+    let used = play_rounds(&job, &mut tables, &mut store, memory, buffer);
     *words = store;
     ScheduleShown {
-        answer: answer(&tables),
-        counts: counts(&tables),
-        statuses: statuses(&tables),
+        shown: shown(answer(&tables), &tables),
         used,
     }
 }
@@ -121,17 +111,14 @@ pub fn run(
     ensures { SchedulerPromise (input_of image.now cores arguments.now parameters.now memory.old allowance) buffer.old result memory.new buffer.new }
 {
     let mut words = [0u32; 1024];
-    let shown = run_into(
+    let scheduled = run_into(
         image, cores, arguments, parameters, memory, allowance, buffer, &mut words,
     );
-    let told = shown.answer;
-    let counted = shown.counts;
-    let states = shown.statuses;
     Scheduled {
-        answer: told,
-        counts: counted,
-        statuses: states,
-        words,
-        used: shown.used,
+        ran: Ran {
+            shown: scheduled.shown,
+            words,
+        },
+        used: scheduled.used,
     }
 }

@@ -4,15 +4,17 @@ use mathlib.Core.Path.{◌≡◌, ap, sym}
 use Prim.Native.Nat.{ℕ, ◌+◌, ◌≤◌, ◌<◌}
 use native.Mathlib.Omega.{arith}
 use lib.ListN.{length}
+use Rattle.demands.specs.Input.{number_of_run_refusal}
+use Rattle.demands.specs.declared.RunRefusal.{RunRefusal}
 use Rattle.demands.specs.declared.RunAnswer.{RunAnswer}
 use Rattle.demands.specs.declared.RunAnswer.TheVariants.{Refused, Finished, Faulted, Open}
 use Rattle.text.specs.Text.{ascii, spaced}
 use Rattle.text.specs.Buffer.{Put}
 use Rattle.text.proofs.Writing.{same_text}
 use Rattle.text.proofs.LineLaws.{few-spaced, one_number, two-numbers, three-numbers}
-use Rattle.transcript.specs.LastLine.{last_line}
+use Rattle.transcript.specs.LastLine.{refused_line, last_line}
 
-pub few-refused : (n : ℕ) → n < 256 → length (last_line (Refused n)) ≤ 31
+pub few-refused : (n : ℕ) → n < 256 → length (refused_line n) ≤ 31
 few-refused n h = omega (arith, one_number (ascii "refused") n, few-spaced 2 n (omega arith))
 
 pub few-finished : (v u : ℕ) → v < 4294967296 → u < 4294967296 → length (last_line (Finished v u)) ≤ 31
@@ -29,9 +31,9 @@ module _ {answer : RunAnswer} {b e : List ℕ} {at end : ℕ} where
   last : (a : RunAnswer) → answer ≡ a → length (last_line a) ≤ 31 → Put (last_line a) b at end e → Put (last_line answer) b at end e × (end ≤ at + 31)
   last a h l p = (same_text (ap last_line (sym h)) p, omega (arith, p.position))
 
-  pub written-refused : {n x : ℕ} → answer ≡ Refused n → n < 256 → x ≡ n → Put (ascii "refused" ++ spaced x ++ ascii "\n") b at end e
+  pub written-refused : {why : RunRefusal} {x : ℕ} → answer ≡ Refused why → x < 256 → x ≡ number_of_run_refusal why → Put (refused_line x) b at end e
       → Put (last_line answer) b at end e × (end ≤ at + 31)
-  written-refused {n} h l q p = last (Refused n) h (few-refused n l) (rw q at p)
+  written-refused {why} h l q p = last (Refused why) h (few-refused (number_of_run_refusal why) (omega arith)) (rw q at p)
 
   pub written-finished : {v u : ℕ} → answer ≡ Finished v u → v < 4294967296 → u < 4294967296 → Put (ascii "finished" ++ spaced v ++ spaced u ++ ascii "\n") b at end e
       → Put (last_line answer) b at end e × (end ≤ at + 31)

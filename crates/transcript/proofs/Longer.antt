@@ -8,19 +8,20 @@ use native.Mathlib.Omega.{arith}
 use borrow.Author.Tests.{lt-ltb, le-ltb}
 use lib.ListN.{length, get_or, take, drop, replicate, length-drop}
 use lib.Seq.{get_or-take, take_all, take-nil, take-take, length-take-le}
-use Rattle.schedule.specs.Meaning.{malformed, schedule_of}
-use Rattle.demands.specs.Input.{Input, entry_count, refusal_of}
+use Rattle.schedule.specs.Meaning.{schedule_of}
+use Rattle.demands.specs.Input.{Input, entry_count, tests_of, refusal_of}
 use Rattle.reading.specs.Reading.{pair_at, four_bytes_at, words_from, argument_count, allowance_at, length_at, image_at, schedule_at, schedule_in}
 use Rattle.transcript.specs.Job.{input_in}
 use Rattle.transcript.specs.Transcript.{number_of_run, run_text, text_of}
+use Rattle.std.proofs.Common.{Err}
 
 -- a schedule of more than 32,768 bytes is malformed, and all such have one text
-over-long : (s : List ℕ) → 32768 < length s → schedule_of s ≡ malformed
+over-long : (s : List ℕ) → 32768 < length s → schedule_of s ≡ Err (record {})
 unfolding schedule_of
 over-long s h = rw (lt-ltb 32768 (length s) h)
 
 same-refusal : (i : Input) (s t log : List ℕ) → schedule_of s ≡ schedule_of t → refusal_of i s log ≡ refusal_of i t log
-unfolding refusal_of
+unfolding refusal_of tests_of
 same-refusal i s t log h = rw h
 
 same_number : (i : Input) (s t : List ℕ) → schedule_of s ≡ schedule_of t → number_of_run i s ≡ number_of_run i t
@@ -95,10 +96,10 @@ module _ (s : List ℕ) (bytes : (k : ℕ) → get_or s k 0 < 256) (long : 99332
       let l : schedule_at s ≤ length s = omega (arith, early) in
       rw (le-ltb (length s) (schedule_at s) l)
 
-  long-first : schedule_of (schedule_in (take 99332 s)) ≡ malformed
+  long-first : schedule_of (schedule_in (take 99332 s)) ≡ Err (record {})
   long-first = over-long (schedule_in (take 99332 s)) (omega (arith, length-drop (schedule_at (take 99332 s)) (take 99332 s), all_there, early, same_place))
 
-  long-all : schedule_of (schedule_in s) ≡ malformed
+  long-all : schedule_of (schedule_in s) ≡ Err (record {})
   long-all = over-long (schedule_in s) (omega (arith, length-drop (schedule_at s) s, early))
 
   cut : text_of (take 99332 s) ≡ text_of s

@@ -7,10 +7,9 @@ use native.Mathlib.Omega.{arith}
 use borrow.Author.Tests.{lt-ltb, le-ltb}
 use lib.ListN.{length, set, take, drop, length-drop}
 use lib.Seq.{sets, take-nil, take-length}
-use Rattle.demands.specs.declared.RunAnswer.TheVariants.{Refused}
 use Rattle.reading.specs.Reading.{pair_at, four_bytes_at, words_from, core_count, argument_count, allowance_at, length_at, image_at, schedule_at, schedule_in}
 use Rattle.text.specs.Buffer.{Put, Fills}
-use Rattle.transcript.specs.LastLine.{last_line}
+use Rattle.transcript.specs.LastLine.{refused_line}
 use Rattle.transcript.specs.Job.{starting_with, input_in}
 use Rattle.transcript.specs.Transcript.{run_text, text_of}
 use Rattle.transcript.specs.Writing.{overlaid, Prints}
@@ -38,11 +37,11 @@ prints input text b e r h p l =
     let q : Put (text_of input) b 0 r e = rw h p in
     record { text = q.bytes ∙ laid (text_of input) b; all = omega (arith, q.position); most = l }
 
-pub prints-early : (input : List ℕ) (end : ℕ) → end ≡ schedule_at input → length input < end → {before after : List ℕ} {r : ℕ} → Put (last_line (Refused 25)) before 0 r after × (r ≤ 0 + 31)
+pub prints-early : (input : List ℕ) (end : ℕ) → end ≡ schedule_at input → length input < end → {before after : List ℕ} {r : ℕ} → Put (refused_line 25) before 0 r after × (r ≤ 0 + 31)
     → Prints input before after r
 unfolding text_of
 prints-early input end w h {before} {after} {r} q =
-    prints input (last_line (Refused 25)) before after r (rw (lt-ltb (length input) (schedule_at input) (rw w at h))) q.0 (omega (arith, q.1))
+    prints input (refused_line 25) before after r (rw (lt-ltb (length input) (schedule_at input) (rw w at h))) q.0 (omega (arith, q.1))
 
 -- what the code lends to the run is what the input says
 module _ (input : List ℕ) (start end : ℕ) (v : start ≡ image_at input) (w : end ≡ schedule_at input)

@@ -3,11 +3,10 @@ use Rattle.std.specs.Prelude.{cond, List, ◌++◌, ℕ, eqb, replicate}
 use Rattle.schedule.specs.declared.Entry.{Entry}
 use Rattle.schedule.specs.Meaning.{schedule_of, entries_in}
 use Rattle.rules.specs.Runs.{run_from, logs_from}
-use Rattle.demands.specs.declared.RunAnswer.TheVariants.{Refused}
 use Rattle.demands.specs.Input.{Input, job_in, start_in, entry_count, refusal_of, answer_of}
 use Rattle.reading.specs.Reading.{ends_early, schedule_in}
 use Rattle.text.specs.Text.{entry_lines}
-use Rattle.transcript.specs.LastLine.{last_line}
+use Rattle.transcript.specs.LastLine.{refused_line, last_line}
 use Rattle.transcript.specs.Job.{input_in}
 
 -- a run by entries: "Per entry it prints its number from 0 and its log byte", and then the last line
@@ -25,8 +24,8 @@ unfoldable pub run_text : Input → List ℕ → List ℕ
 run_text i schedule =
     cond (eqb (number_of_run i schedule) 0)
     (played_text i (entries_in (schedule_of schedule)))
-    (last_line (Refused (number_of_run i schedule)))
+    (refused_line (number_of_run i schedule))
 
 -- "Input that ends before the schedule gives `refused 25`", whatever else it says
 unfoldable pub text_of : List ℕ → List ℕ
-text_of input = cond (ends_early input) (last_line (Refused 25)) (run_text (input_in input) (schedule_in input))
+text_of input = cond (ends_early input) (refused_line 25) (run_text (input_in input) (schedule_in input))

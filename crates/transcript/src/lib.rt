@@ -14,19 +14,14 @@ ghost use Rattle.transcript.specs.Parts.{lines_of};
 
 use crate::answer::put_answer;
 use reading::{allowance, argument_count, core_count, image_at, read_arguments, schedule_at};
-use run::RunAnswer;
-use schedule::Counted;
+use run::{RunAnswer, RunRefusal};
 use text::put_log;
 
 // How many entries a schedule has; none where it is malformed.
 fn entry_count(schedule: &[u8]) -> usize
     ensures { result ≡ entry_count (schedule_of schedule.now) }
 {
-    let counted = schedule::count(schedule);
-    match counted {
-        Counted::Entries(n) => n,
-        Counted::Malformed => 0,
-    }
+    schedule::count(schedule).unwrap_or(0)
 }
 
 // How many log bytes a run has written: one for each entry, and none where it is refused.
@@ -36,16 +31,9 @@ fn lines(answer: RunAnswer, schedule: &[u8]) -> usize
 {
     match answer {
         RunAnswer::Refused(_) => 0,
-        RunAnswer::Finished {
-            result: _,
-            units: _,
-        } => entry_count(schedule),
-        RunAnswer::Faulted {
-            number: _,
-            thread: _,
-            offset: _,
-        } => entry_count(schedule),
-        RunAnswer::Open { units: _ } => entry_count(schedule),
+        RunAnswer::Finished { .. } | RunAnswer::Faulted { .. } | RunAnswer::Open { .. } => {
+            entry_count(schedule)
+        }
     }
 }
 
@@ -74,7 +62,7 @@ fn transcribe(
         schedule,
         log,
     );
-    let answer = ran.answer;
+    let answer = ran.shown.answer;
     let count = lines(answer, schedule);
     let at = put_log(output, &log[0..count]);
     put_answer(output, at as u32, answer)
@@ -87,7 +75,7 @@ pub fn print(input: &[u8], output: &mut [u8]) -> usize
     let start = image_at(input);
     let end = schedule_at(input);
     if input.len() < end {
-        return put_answer(output, 0, RunAnswer::Refused(25));
+        return put_answer(output, 0, RunAnswer::Refused(RunRefusal::BadLengths));
     }
     let mut arguments = [0u32; 255];
     read_arguments(input, &mut arguments);
