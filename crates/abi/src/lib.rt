@@ -1,4 +1,5 @@
 // Image check and runs by schedule as C and Rust programs call them: numbers and lent slices in, words of an array out. Crate `abi_c` exports them.
+// Numbers stand for answers and arrays are written, and each thing is a parameter of its own, as the C interface has them.
 #![tactic(auto)]
 
 pub mod words;
@@ -9,16 +10,14 @@ ghost use Rattle.demands.specs.Input.{input_of};
 ghost use Rattle.abi.specs.Words.{written};
 ghost use Rattle.abi.specs.Told.{RunTold};
 
-use crate::words::{answer_words, count_words};
+use crate::words::tell;
 use image::number::image_number;
 
 // Document 01's number of an image; 0 where it is accepted.
 pub fn hofnulda_check(image: &[u8]) -> u8
     ensures { result ≡ number_in (image_verdict image.now) }
 {
-    let checked = image::check(image);
-    let verdict = checked.verdict;
-    image_number(verdict)
+    image_number(&image::check(image))
 }
 
 // A run by a schedule. The answer's words: 0 and the number of a refused run; 1, result and units; 2, number, thread and offset;
@@ -41,13 +40,8 @@ pub fn hofnulda_run(
 )
     ensures { RunTold (input_of image.now cores arguments.now parameters.now memory.old allowance) schedule.now log.old memory.new log.new (written answer.new counts.new statuses.new words.new) }
 {
-    let ran = run::run_into(
+    let shown = run::run_into(
         image, cores, arguments, parameters, memory, allowance, schedule, log, words,
     );
-    let told = ran.answer;
-    *answer = answer_words(told);
-    let counted = ran.counts;
-    *counts = count_words(counted);
-    let states = ran.statuses;
-    *statuses = states;
+    tell(shown, answer, counts, statuses)
 }

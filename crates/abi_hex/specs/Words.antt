@@ -1,25 +1,20 @@
 -- The answers of writing and reading as two words of an array.
-use Rattle.std.specs.Prelude.{List, [], ◌∷◌, ℕ}
-use Rattle.intel_hex.specs.declared.HexWritten.{HexWritten}
-use Rattle.intel_hex.specs.declared.HexWritten.TheVariants.{Characters, BadImage, NoRoom as NoTextRoom}
-use Rattle.intel_hex.specs.declared.HexRead.{HexRead}
-use Rattle.intel_hex.specs.declared.HexRead.TheVariants.{Bytes, Malformed, BadChecksum, BadSpan, NoRoom as NoByteRoom}
-use Rattle.intel_hex.specs.Answers.{number_of_hex_written, number_of_hex_read}
+use Rattle.std.specs.Prelude.{List, [], ◌∷◌, ℕ, Result, Ok, Err}
+use Rattle.intel_hex.specs.declared.WriteError.{WriteError}
+use Rattle.intel_hex.specs.declared.ReadError.{ReadError}
+use Rattle.intel_hex.specs.Answers.{number_of_write_error, number_of_read_error}
 
--- a refused call: 0 and the number
-abbrev pub refused_words : ℕ → List ℕ
-refused_words number = 0 ∷ number ∷ []
+-- 1 and a count; or, of a refused call, 0 and the number
+abbrev pub words_of : Result ℕ ℕ → List ℕ
+words_of (Ok n) = 1 ∷ n ∷ []
+words_of (Err number) = 0 ∷ number ∷ []
 
 -- 1 and the number of characters where the text is written
-abbrev pub written_words : HexWritten → List ℕ
-written_words (Characters n) = 1 ∷ n ∷ []
-written_words (BadImage refusal) = refused_words (number_of_hex_written (BadImage refusal))
-written_words NoTextRoom = refused_words (number_of_hex_written NoTextRoom)
+abbrev pub written_words : Result ℕ WriteError → List ℕ
+written_words (Ok n) = words_of (Ok n)
+written_words (Err error) = words_of (Err (number_of_write_error error))
 
 -- 1 and the number of bytes where they are read
-abbrev pub read_words : HexRead → List ℕ
-read_words (Bytes n) = 1 ∷ n ∷ []
-read_words Malformed = refused_words (number_of_hex_read Malformed)
-read_words BadChecksum = refused_words (number_of_hex_read BadChecksum)
-read_words BadSpan = refused_words (number_of_hex_read BadSpan)
-read_words NoByteRoom = refused_words (number_of_hex_read NoByteRoom)
+abbrev pub read_words : Result ℕ ReadError → List ℕ
+read_words (Ok n) = words_of (Ok n)
+read_words (Err error) = words_of (Err (number_of_read_error error))

@@ -6,7 +6,7 @@ ghost use Rattle.demands.specs.Input.{input_of};
 ghost use Rattle.abi.specs.Words.{written};
 ghost use Rattle.abi_scheduler.specs.Told.{ScheduledTold};
 
-use abi::words::{answer_words, count_words};
+use abi::words::tell;
 
 // A run by the built-in scheduler, told as a run by a schedule is. It gives the bytes of the entries at the buffer's front.
 #[unsafe(no_mangle)]
@@ -25,14 +25,9 @@ pub extern "C" fn hofnulda_scheduled(
 ) -> usize
     ensures { ScheduledTold (input_of image.now cores arguments.now parameters.now memory.old allowance) buffer.old memory.new buffer.new (written answer.new counts.new statuses.new words.new) result }
 {
-    let ran = scheduler::run_into(
+    let scheduled = scheduler::run_into(
         image, cores, arguments, parameters, memory, allowance, buffer, words,
     );
-    let told = ran.answer;
-    *answer = answer_words(told);
-    let counted = ran.counts;
-    *counts = count_words(counted);
-    let states = ran.statuses;
-    *statuses = states;
-    ran.used
+    tell(scheduled.shown, answer, counts, statuses);
+    scheduled.used
 }

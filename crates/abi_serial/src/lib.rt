@@ -8,14 +8,14 @@ ghost use Rattle.thread.specs.Job.{job_of};
 ghost use Rattle.serial.specs.Serial.{ended_by, serial_of};
 ghost use Rattle.abi_serial.specs.Words.{serial_words, serial_memory};
 
-use serial::SerialAnswer;
+use serial::answer::SerialAnswer;
 
 fn serial_words(answer: SerialAnswer) -> [u32; 3]
     ensures { (memory : List ℕ) → result ≡ serial_words (ended_by answer memory) }
 {
     match answer {
-        SerialAnswer::Returned(result, units) => [1, result, units],
-        SerialAnswer::Stopped(number, units) => [0, number as u32, units],
+        Ok(finished) => [1, finished.result, finished.units],
+        Err(stopped) => [0, u32::from(stopped.by.number()), stopped.units],
     }
 }
 

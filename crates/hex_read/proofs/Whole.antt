@@ -2,25 +2,23 @@
 use Rattle.std.proofs.Common.{◌≡◌, ℕ, List, length, take, Bool, true, false, cond, ◌∙◌, arith, refl}
 use Rattle.hex_format.specs.Lines.{text_lines}
 use Rattle.hex_format.specs.Reading.{said_by}
-use Rattle.intel_hex.specs.declared.HexRead.{HexRead}
-use Rattle.intel_hex.specs.declared.HexRead.TheVariants.{Bytes, Malformed, BadChecksum, BadSpan, NoRoom}
+use Rattle.std.specs.Prelude.{Result, Ok, Err}
+use Rattle.intel_hex.specs.declared.ReadError.{ReadError}
+use Rattle.intel_hex.specs.declared.ReadError.TheVariants.{NoRoom}
 use Rattle.intel_hex.specs.Answers.{hex_read, number_of_hex_read, verdict_of, within}
 use Rattle.hex_output.specs.Output.{ReadsOutput, read_output, output_for}
 use Rattle.hex_output.proofs.Fronts.{front-put}
 use Rattle.hex_read.specs.Given.{given_by}
 
-held : (b : Bool) (n : ℕ) (bytes : List ℕ) → (number_of_hex_read (cond b (Bytes n) NoRoom) ≡ 25 → ⊥)
-    → output_for (number_of_hex_read (cond b (Bytes n) NoRoom)) bytes ≡ bytes
+held : (b : Bool) (n : ℕ) (bytes : List ℕ) → (number_of_hex_read (cond b (Ok n) (Err NoRoom)) ≡ 25 → ⊥)
+    → output_for (number_of_hex_read (cond b (Ok n) (Err NoRoom))) bytes ≡ bytes
 held true n bytes h = refl
 held false n bytes h = absurd (h refl)
 
-for_verdict : (v : HexRead) (room : ℕ) (bytes : List ℕ) → (number_of_hex_read (within room v) ≡ 25 → ⊥)
+for_verdict : (v : Result ℕ ReadError) (room : ℕ) (bytes : List ℕ) → (number_of_hex_read (within room v) ≡ 25 → ⊥)
     → output_for (number_of_hex_read (within room v)) bytes ≡ output_for (number_of_hex_read v) bytes
-for_verdict (Bytes n) room bytes h = held _ n bytes h
-for_verdict Malformed room bytes h = refl
-for_verdict BadChecksum room bytes h = refl
-for_verdict BadSpan room bytes h = refl
-for_verdict NoRoom room bytes h = refl
+for_verdict (Ok n) room bytes h = held _ n bytes h
+for_verdict (Err error) room bytes h = refl
 
 -- where there is room for the bytes, the number is the text's
 with_room : (text output : List ℕ) → (number_of_hex_read (hex_read text output) ≡ 25 → ⊥) → read_output text output ≡ given_by text

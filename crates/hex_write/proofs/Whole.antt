@@ -1,27 +1,28 @@
 -- What is put of the front of an image is what is to be written of the whole image. Assumes nothing.
+use Rattle.std.specs.Prelude.{Ok, Err}
 use Rattle.std.proofs.Common.{◌≡◌, ℕ, ◌<◌, ◌≤◌, List, length, take, Bool, true, false, cond, sym, ap, ◌∙◌, arith, refl, length-take-le}
 use Rattle.std.proofs.Math.Seq.{take_all}
 use native.Mathlib.Decide.{dec_le}
 use borrow.Author.Tests.{lt-ltb, ne_eqb}
-use Rattle.image.specs.declared.Verdict.{Verdict}
-use Rattle.image.specs.declared.Verdict.TheVariants.{Accepted, Rejected}
+use Rattle.image.specs.Code.{Verdict}
 use Rattle.image.specs.Image.{image_verdict, number_in}
 use Rattle.hex_format.specs.Text.{hex_of}
-use Rattle.intel_hex.specs.declared.HexWritten.TheVariants.{Characters, NoRoom}
+use Rattle.std.specs.Prelude.{Ok, Err}
+use Rattle.intel_hex.specs.declared.WriteError.TheVariants.{NoRoom}
 use Rattle.intel_hex.specs.Answers.{hex_written, number_of_hex_written, written_for}
 use Rattle.hex_output.specs.Output.{WritesOutput, refused_line, write_output, output_for}
 use Rattle.hex_output.proofs.Fronts.{front-put}
 use Rattle.hex_write.specs.Written.{written_of}
 
-accepted : (b : Bool) (n : ℕ) (text : List ℕ) → (number_of_hex_written (cond b (Characters n) NoRoom) ≡ 25 → ⊥)
-    → output_for (number_of_hex_written (cond b (Characters n) NoRoom)) text ≡ text
+accepted : (b : Bool) (n : ℕ) (text : List ℕ) → (number_of_hex_written (cond b (Ok n) (Err NoRoom)) ≡ 25 → ⊥)
+    → output_for (number_of_hex_written (cond b (Ok n) (Err NoRoom))) text ≡ text
 accepted true n text h = refl
 accepted false n text h = absurd (h refl)
 
 for_verdict : (v : Verdict) (n room : ℕ) (text : List ℕ) → (number_of_hex_written (written_for v n room) ≡ 25 → ⊥)
     → output_for (number_of_hex_written (written_for v n room)) text ≡ output_for (number_in v) text
-for_verdict (Rejected refusal) n room text h = refl
-for_verdict Accepted n room text h = accepted _ n text h
+for_verdict (Err refusal) n room text h = refl
+for_verdict (Ok tt) n room text h = accepted _ n text h
 
 -- where there is room for the text, the number is the verdict's
 with_room : (image output : List ℕ) → (number_of_hex_written (hex_written image output) ≡ 25 → ⊥) → write_output image output ≡ written_of image

@@ -9,19 +9,11 @@ ghost use Rattle.print.specs.Bytes.{AreBytes};
 use std::io;
 use std::io::{Read, Write};
 
-// All bytes of an input that matter: 2, four for each of at most 255 arguments, 4, 2, an image of at most 65,535, and one more than the
-// 32,768 that a schedule may have. What follows has no part in the text (`rest-ignored` in crates/transcript/proofs/Longer.antt).
-fn input_buffer() -> [u8; 99332]
-    ensures { 99332 ≡ length result }
+// A buffer of zeros.
+fn buffer<const N: usize>() -> [u8; N]
+    ensures { N ≡ length result }
 {
-    [0; 99332]
-}
-
-// Room for the longest transcript.
-fn output_buffer() -> [u8; 163871]
-    ensures { 163871 ≡ length result }
-{
-    [0; 163871]
+    [0; N]
 }
 
 // Writes the transcript of the job that a reader has.
@@ -29,8 +21,11 @@ fn print_job<R: Read, W: Write>(reader: &mut R, writer: &mut W) -> io::Result<()
     ensures { OnOk result
         (IfSome (R.remaining reader.old) (λ job. AreBytes job → Appends (W.contents writer.old) (W.contents writer.new) (text_of job))) }
 {
-    let mut input = input_buffer();
-    let mut output = output_buffer();
+    // All bytes of an input that matter: 2, four for each of at most 255 arguments, 4, 2, an image of at most 65,535, and one more than the
+    // 32,768 that a schedule may have. What follows has no part in the text (`rest-ignored` in crates/transcript/proofs/Longer.antt).
+    let mut input = buffer::<99332>();
+    // Room for the longest transcript.
+    let mut output = buffer::<163871>();
     let got = stream::read_full(reader, &mut input)?;
     let n = transcript::print(&input[..got], &mut output);
     writer.write_all(&output[..n])

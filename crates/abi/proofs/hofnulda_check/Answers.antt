@@ -1,6 +1,8 @@
 -- `abi::hofnulda_check` meets its contract. Assumes nothing.
-use Rattle.begin.proofs.Beginning.{number_of}
+use mathlib.Core.Path.{◌∙◌, ap}
+use Rattle.image.specs.Image.{number_in}
+use Rattle.image.proofs.Answer.{number-same}
 use Rattle.abi.proofs.hofnulda_check.Goals as goal
 
 pub returns : goal.returns
-returns c = number_of _ _ _ c.check-checked.ensures c.image_number.ensures
+returns c = c.image_number.ensures ∙ ap number_in c.check.ensures ∙ number-same _
