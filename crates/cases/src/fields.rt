@@ -1,142 +1,117 @@
-// Fields as numbers and as bytes.
-ghost use Rattle.std.specs.Prelude.{◌≤◌, ◌<◌, ◌≡◌, length};
-ghost use Rattle.std.specs.Counts.{IsPrefixLen};
+// Fields as numbers and as bytes. Each thing that cannot be read prints a `bad line`, and something stands for it.
+ghost use Rattle.std.specs.Prelude.{◌≤◌, ◌<◌, IfOk};
 
-use crate::lines::{after, count, find, from_part};
-use crate::print::{Output, bad_line};
+use crate::print::bad_line;
+use crate::reading::{Line, is_blank};
+use std::io;
 
-// A digit's number, in base 10 or 16.
-pub fn digit(out: &mut Output, byte: u8, base: u8) -> u8
-    ensures { result < 16 }
+// A digit's number, in base 10 or 16, and 0 of what is none.
+pub fn digit(rt: &impl Print, letter: u8, base: u8) -> io::Result<u8>
+    ensures { IfOk result (λ d. d < 16) }
 {
-    if b'0' <= byte {
-        if byte <= b'9' {
-            return byte - b'0';
+    match letter {
+        b'0'..=b'9' => Ok(letter - b'0'),
+        b'a'..=b'f' if base == 16 => Ok(letter - b'a' + 10),
+        _ => {
+            bad_line(rt)?;
+            Ok(0)
         }
     }
-    if base == 16 {
-        if b'a' <= byte {
-            if byte <= b'f' {
-                return byte - b'a' + 10;
-            }
-        }
-    }
-    bad_line(out);
-    0
 }
 
-// The decimal number that a text begins with, up to a blank.
-fn decimal(out: &mut Output, text: &[u8]) -> u64 {
-    let end = find(text, 0, b' ');
-    if end == 0 {
-        bad_line(out);
+// A decimal number; one that grows too large ends before that digit. A letter that is no digit counts as 0 and is told. This is no `parse`, since
+// that takes a `+` too, and tells one wrong letter of many.
+fn decimal(rt: &impl Print, field: &[u8]) -> io::Result<u64> {
+    if field.is_empty() {
+        bad_line(rt)?;
     }
     let mut n: u64 = 0;
-    let mut i: usize = 0;
-    while i < end {
-        let d = digit(out, text[i], 10) as u64;
-        if (18446744073709551615 - d) / 10 < n {
-            bad_line(out);
-            return n;
-        }
-        n = n * 10 + d;
-        i = i + 1;
+    for letter in field {
+        let digit = u64::from(digit(rt, *letter, 10)?);
+        let Some(more) = n.checked_mul(10).and_then(|tens| tens.checked_add(digit)) else {
+            bad_line(rt)?;
+            break;
+        };
+        n = more;
     }
-    n
+    Ok(n)
 }
 
-// Field k of a line, which is to be at most `most`; the keyword is field 0.
-pub fn number(out: &mut Output, line: &[u8], k: usize, most: u64) -> u64
-    ensures { result ≤ most }
-{
-    let n = decimal(out, from_part(line, k, b' '));
-    if most < n {
-        bad_line(out);
-        return most;
-    }
-    n
-}
-
-// The fields from field k on, at the front of `values`, and how many there are.
-pub fn numbers(out: &mut Output, line: &[u8], k: usize, values: &mut [u32]) -> usize
-    ensures { IsPrefixLen result values.new }
-{
-    let rest = from_part(line, k, b' ');
-    if rest.len() == 0 {
-        return 0;
-    }
-    let blanks = count(rest, b' ');
-    let mut n: usize = 0;
-    while n <= blanks {
-        if values.len() <= n {
-            bad_line(out);
-            return n;
+// Puts the bytes of digits behind others, of which there are at most `most` then.
+fn push_digits(rt: &impl Print, digits: &[u8], most: usize, bytes: &mut Vec<u8>) -> io::Result<()> {
+    for pair in digits.chunks(2) {
+        let [high, low] = pair else {
+            return bad_line(rt);
+        };
+        if bytes.len() == most {
+            return bad_line(rt);
         }
-        values[n] = number(out, rest, n, 4294967295) as u32;
-        n = n + 1;
+        let byte = digit(rt, *high, 16)? * 16 + digit(rt, *low, 16)?;
+        bytes.push(byte)?;
     }
-    n
-}
-
-// Puts the bytes of digits behind the first n of a buffer, and gives how many there are then.
-fn append(out: &mut Output, digits: &[u8], buffer: &mut [u8], n: usize) -> usize
-    requires { n ≤ length buffer.old }
-    ensures { (result ≤ length buffer.new) × (length buffer.new ≡ length buffer.old) }
-{
-    let mut filled = n;
-    let mut i: usize = 0;
-    while i < digits.len() {
-        if digits.len() - i < 2 {
-            bad_line(out);
-            return filled;
-        }
-        if buffer.len() <= filled {
-            bad_line(out);
-            return filled;
-        }
-        buffer[filled] = digit(out, digits[i], 16) * 16 + digit(out, digits[i + 1], 16);
-        filled = filled + 1;
-        i = i + 2;
-    }
-    filled
+    Ok(())
 }
 
 // The same of a word, as many times as it says.
-fn append_word(out: &mut Output, word: &[u8], buffer: &mut [u8], n: usize) -> usize
-    requires { n ≤ length buffer.old }
-    ensures { (result ≤ length buffer.new) × (length buffer.new ≡ length buffer.old) }
-{
-    let star = find(word, 0, b'*');
-    if word.len() <= star {
-        return append(out, word, buffer, n);
+fn push_word(rt: &impl Print, word: &[u8], most: usize, bytes: &mut Vec<u8>) -> io::Result<()> {
+    match word.iter().position(|letter| *letter == b'*') {
+        None => push_digits(rt, word, most, bytes),
+        Some(star) => {
+            for _ in 0..decimal(rt, &word[..star])? {
+                push_digits(rt, &word[star + 1..], most, bytes)?;
+            }
+            Ok(())
+        }
     }
-    let digits = star + 1;
-    let mut left = decimal(out, &word[0..star]);
-    let mut filled = n;
-    while 0 < left {
-        filled = append(out, &word[digits..], buffer, filled);
-        left = left - 1;
-    }
-    filled
 }
 
-// The same of all words of a text.
-fn append_words(out: &mut Output, text: &[u8], buffer: &mut [u8]) -> usize
-    ensures { IsPrefixLen result buffer.new }
+// A number that is to be at most `most`, and is that where it is more.
+fn number(rt: &impl Print, field: &[u8], most: u64) -> io::Result<u64>
+    ensures { IfOk result (λ n. n ≤ most) }
 {
-    let mut at: usize = 0;
-    let mut n: usize = 0;
-    while at < text.len() {
-        let end = find(text, at, b' ');
-        n = append_word(out, &text[at..end], buffer, n);
-        at = after(text, at, b' ');
+    let n = decimal(rt, field)?;
+    if most < n {
+        bad_line(rt)?;
     }
-    n
+    Ok(n.min(most))
 }
 
-// The fields from field k on, as bytes at the front of a buffer, and how many there are.
-pub fn bytes(out: &mut Output, line: &[u8], k: usize, buffer: &mut [u8]) -> usize
-    ensures { IsPrefixLen result buffer.new }
-{
-    append_words(out, from_part(line, k, b' '), buffer)
+impl Line<'_> {
+    // Field k as a number, as above.
+    pub fn number(self, rt: &impl Print, k: usize, most: u64) -> io::Result<u64>
+        ensures { IfOk result (λ n. n ≤ most) }
+    {
+        number(rt, self.text.split(is_blank).nth(k).unwrap_or(&[]), most)
+    }
+
+    // The fields from field k on as numbers, at most four.
+    pub fn numbers(self, rt: &(impl Print + AllocGlobal), k: usize) -> io::Result<Vec<u32>> {
+        let mut numbers = Vec::new(rt.alloc());
+        let rest = self.from_field(k).text;
+        if rest.is_empty() {
+            return Ok(numbers);
+        }
+        for field in rest.split(is_blank) {
+            if numbers.len() == 4 {
+                bad_line(rt)?;
+                break;
+            }
+            numbers.push(number(rt, field, 4_294_967_295)? as u32)?;
+        }
+        Ok(numbers)
+    }
+
+    // The fields from field k on as bytes, at most `most`.
+    pub fn bytes(
+        self,
+        rt: &(impl Print + AllocGlobal),
+        k: usize,
+        most: usize,
+    ) -> io::Result<Vec<u8>> {
+        let mut bytes = Vec::new(rt.alloc());
+        for word in self.from_field(k).text.split(is_blank) {
+            push_word(rt, word, most, &mut bytes)?;
+        }
+        Ok(bytes)
+    }
 }

@@ -1,4 +1,4 @@
-// What the cases programs share: standard input as lines of words, and how answers are printed.
+// What the cases programs share: standard input as lines of words, and what prints alike.
 //
 // - A line is a keyword and its fields, each after one blank. The keyword's first letter tells what is to be done.
 // - Numbers are decimal.
@@ -6,15 +6,13 @@
 // - A line that begins with `"` is printed without it, and the next line's answer goes on behind it.
 // - A line that is empty or begins with `#` is a comment.
 //
-// What cannot be read prints `bad line`, so that it shows where the output is compared.
+// What cannot be read prints `bad line`, so that it shows where the output is compared. Of an input the first 65,536 bytes are read.
 #![tactic(auto)]
 
-mod buffers;
 mod fields;
-mod lines;
 mod print;
+mod reading;
 
-pub use buffers::{buffer, large_buffer};
-pub use fields::{bytes, digit, number, numbers};
-pub use lines::{after, from_part, key, line};
-pub use print::{Output, print_bytes, print_format, print_text};
+pub use fields::digit;
+pub use print::Listed;
+pub use reading::{Line, first, input, lines};

@@ -12,34 +12,27 @@
 #![tactic(auto)]
 
 mod reads;
-mod show;
 mod writes;
 
-use cases::Output;
 use std::io;
 
-fn case(out: &mut Output, line: &[u8]) {
-    match cases::key(out, line, b"t*o*i*b*") {
-        b't' => reads::text(out, line),
-        b'o' => reads::octets(out, line),
-        b'i' => writes::image(out, line),
-        b'b' => writes::back(out, line),
-        _ => {}
-    }
-}
-
-fn all(out: &mut Output, input: &[u8]) {
-    let mut at: usize = 0;
-    while at < input.len() {
-        case(out, cases::line(input, at));
-        at = cases::after(input, at, b'\n');
-    }
-}
+const KEYWORDS: [(&str, Option<usize>); 4] = [
+    ("text", None),
+    ("octets", None),
+    ("image", None),
+    ("back", None),
+];
 
 fn main(rt: HostRuntime) -> io::Result<()> {
-    let mut input = cases::large_buffer();
-    let n = stream::read_full(&mut rt.stdin(), &mut input)?;
-    let mut out = Output::new(rt.stdout());
-    all(&mut out, &input[..n]);
-    out.finish()
+    let input = cases::input(&rt)?;
+    for line in &cases::lines(rt.alloc(), &input)? {
+        match line.keyword(&rt, &KEYWORDS)? {
+            Some("text") => reads::text(&rt, *line)?,
+            Some("octets") => reads::octets(&rt, *line)?,
+            Some("image") => writes::image(&rt, *line)?,
+            Some("back") => writes::back(&rt, *line)?,
+            _ => {}
+        }
+    }
+    Ok(())
 }

@@ -1,102 +1,75 @@
 // Commands, read and written.
-use crate::show;
-use crate::show::{print, print_command, print_hex};
-use cases::Output;
-use command::{Command, CommandRead, CommandWritten};
+ghost use Rattle.std.specs.Prelude.{◌≤◌};
 
-// The command at a position and the number of its bytes, or the number that it meets.
-fn print_found(out: &mut Output, bytes: &[u8], at: usize) {
-    match command::read(bytes, at) {
-        CommandRead::Found(c, width) => {
-            print_command(out, c);
-            print(out, show::WIDTH, width as u64, 0, 0, 0);
-        }
-        CommandRead::Unknown => print(out, show::MET, 4, 0, 0, 0),
-        CommandRead::CutOff => print(out, show::MET, 5, 0, 0, 0),
+use crate::show::{Hexadecimal, Named};
+use cases::Line;
+use command::{Command, CommandError};
+use std::io;
+
+// The number of document 01 that bytes meet in which no command stands.
+fn number_of(error: CommandError) -> u8 {
+    match error {
+        CommandError::Unknown => 4,
+        CommandError::CutOff => 5,
     }
-}
-
-// The bytes, the position, and what stands there.
-fn print_read(out: &mut Output, bytes: &[u8], at: usize) {
-    print(out, show::READ, 0, 0, 0, 0);
-    print_hex(out, bytes);
-    print(out, show::AT, at as u64, 0, 0, 0);
-    print_found(out, bytes, at);
-}
-
-pub fn read(out: &mut Output, line: &[u8]) {
-    let at = cases::number(out, line, 1, 18446744073709551615) as usize;
-    let mut buffer = cases::large_buffer();
-    let n = cases::bytes(out, line, 2, &mut buffer);
-    print_read(out, &buffer[..n], at);
-}
-
-// The number that bytes meet, 0 where they hold a command.
-fn met(bytes: &[u8]) -> u64 {
-    match command::read(bytes, 0) {
-        CommandRead::Found(_, _) => 0,
-        CommandRead::Unknown => 4,
-        CommandRead::CutOff => 5,
-    }
-}
-
-// Cut to each length from 0 to 5.
-fn print_cuts(out: &mut Output, bytes: &[u8]) {
-    print(out, show::CUT, 0, 0, 0, 0);
-    let mut n: usize = 0;
-    while n < 6 {
-        if n <= bytes.len() {
-            print(out, show::NUMBER, met(&bytes[0..n]), 0, 0, 0);
-        }
-        n = n + 1;
-    }
-    print(out, show::END, 0, 0, 0, 0);
 }
 
 // What writing answers: the number of bytes, or 25.
-fn number_of(written: CommandWritten) -> u64 {
-    match written {
-        CommandWritten::Bytes(n) => n as u64,
-        CommandWritten::TooShort => 25,
+fn write_to(buffer: &mut [u8], command: Command) -> u8 {
+    command::write(command, buffer).unwrap_or(25)
+}
+
+fn print_read(rt: &impl Print, bytes: &[u8], at: usize) -> io::Result<()> {
+    print!(rt; "read{} at {at}: ", Hexadecimal(bytes))?;
+    match command::read(bytes, at) {
+        Ok((command, width)) => println!(rt; "{}; {width}", Named(command)),
+        Err(error) => println!(rt; "{}", number_of(error)),
     }
 }
 
-// Writes into the first n bytes of a buffer.
-fn write_into(out: &mut Output, c: Command, buffer: &mut [u8], n: usize) {
-    if n <= buffer.len() {
-        let written = command::write(c, &mut buffer[0..n]);
-        print(out, show::WRITTEN, number_of(written), 0, 0, 0);
+pub fn read(rt: &(impl Print + AllocGlobal), line: Line<'_>) -> io::Result<()> {
+    let at = line.number(rt, 1, u64::MAX)? as usize;
+    let bytes = line.bytes(rt, 2, 65_536)?;
+    print_read(rt, &bytes, at)
+}
+
+// The numbers that the bytes meet, cut to each length from 0 to 5, 0 where they hold a command.
+fn print_cuts(rt: &impl Print, bytes: &[u8; 7]) -> io::Result<()> {
+    print!(rt; "cut:")?;
+    for n in 0..6 {
+        let number = match command::read(&bytes[..n], 0) {
+            Ok(_) => 0,
+            Err(error) => number_of(error),
+        };
+        print!(rt; " {number}")?;
+    }
+    println!(rt)
+}
+
+fn print_four(rt: &impl Print, command: Command, short: usize) -> io::Result<()>
+    requires { short ≤ 7 }
+{
+    let mut bytes = [0xee; 7];
+    let written = write_to(&mut bytes, command);
+    println!(rt; "write: {written};{}", Hexadecimal(&bytes))?;
+    print_read(rt, &bytes, 0)?;
+    print_cuts(rt, &bytes)?;
+    let mut few = [0xee; 7];
+    let written = write_to(&mut few[..short], command);
+    println!(rt; "short: {written};{}", Hexadecimal(&few))
+}
+
+pub fn command(rt: &(impl Print + AllocGlobal), line: Line<'_>) -> io::Result<()> {
+    let short = line.number(rt, 1, 7)? as usize;
+    let bytes = line.bytes(rt, 2, 4096)?;
+    match command::read(&bytes, 0) {
+        Ok((command, _)) => print_four(rt, command, short),
+        Err(error) => println!(rt; " {}", number_of(error)),
     }
 }
 
-fn print_four(out: &mut Output, c: Command, short: usize) {
-    let mut bytes = [0xeeu8; 7];
-    print(out, show::WRITE, 0, 0, 0, 0);
-    write_into(out, c, &mut bytes, 7);
-    print_hex(out, &bytes);
-    print(out, show::END, 0, 0, 0, 0);
-    print_read(out, &bytes, 0);
-    print_cuts(out, &bytes);
-    let mut few = [0xeeu8; 7];
-    print(out, show::SHORT, 0, 0, 0, 0);
-    write_into(out, c, &mut few, short);
-    print_hex(out, &few);
-    print(out, show::END, 0, 0, 0, 0);
-}
-
-pub fn command(out: &mut Output, line: &[u8]) {
-    let short = cases::number(out, line, 1, 7) as usize;
-    let mut buffer = cases::buffer();
-    let n = cases::bytes(out, line, 2, &mut buffer);
-    match command::read(&buffer[..n], 0) {
-        CommandRead::Found(c, _) => print_four(out, c, short),
-        CommandRead::Unknown => print(out, show::MET, 4, 0, 0, 0),
-        CommandRead::CutOff => print(out, show::MET, 5, 0, 0, 0),
-    }
-}
-
-pub fn weight(out: &mut Output, line: &[u8]) {
-    let byte = cases::number(out, line, 1, 255) as u8;
-    cases::print_text(out, line);
-    print(out, show::ANSWER, command::weight(byte) as u64, 0, 0, 0);
+pub fn weight(rt: &impl Print, line: Line<'_>) -> io::Result<()> {
+    let byte = line.number(rt, 1, 255)? as u8;
+    rt.write_all(line.text)?;
+    println!(rt; ": {}", command::weight(byte))
 }

@@ -14,33 +14,29 @@ mod commands;
 mod images;
 mod show;
 
-use cases::Output;
 use std::io;
 
-fn case(out: &mut Output, line: &[u8]) {
-    match cases::key(out, line, b"i*v*p*c*r*w1") {
-        b'i' => images::image(out, line),
-        b'v' => images::verdict(out, line),
-        b'p' => images::program(out, line),
-        b'c' => commands::command(out, line),
-        b'r' => commands::read(out, line),
-        b'w' => commands::weight(out, line),
-        _ => {}
-    }
-}
-
-fn all(out: &mut Output, input: &[u8]) {
-    let mut at: usize = 0;
-    while at < input.len() {
-        case(out, cases::line(input, at));
-        at = cases::after(input, at, b'\n');
-    }
-}
+const KEYWORDS: [(&str, Option<usize>); 6] = [
+    ("image", None),
+    ("verdict", None),
+    ("program", None),
+    ("command", None),
+    ("read", None),
+    ("weight", Some(1)),
+];
 
 fn main(rt: HostRuntime) -> io::Result<()> {
-    let mut input = cases::large_buffer();
-    let n = stream::read_full(&mut rt.stdin(), &mut input)?;
-    let mut out = Output::new(rt.stdout());
-    all(&mut out, &input[..n]);
-    out.finish()
+    let input = cases::input(&rt)?;
+    for line in &cases::lines(rt.alloc(), &input)? {
+        match line.keyword(&rt, &KEYWORDS)? {
+            Some("image") => images::image(&rt, *line)?,
+            Some("verdict") => images::verdict(&rt, *line)?,
+            Some("program") => images::program(&rt, *line)?,
+            Some("command") => commands::command(&rt, *line)?,
+            Some("read") => commands::read(&rt, *line)?,
+            Some("weight") => commands::weight(&rt, *line)?,
+            _ => {}
+        }
+    }
+    Ok(())
 }

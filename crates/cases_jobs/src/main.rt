@@ -4,48 +4,45 @@
 // The cases are the lines of standard input, in the form that the crate `cases` tells. Runs are on zero parameter and memory words, with
 // allowance 4,000:
 //
-// - `image BYTES` is the image of the runs after it.
-// - `entries SIZE PATTERN` is the schedule of the runs by schedule after it: a pattern of entries, told in src/patterns.rt, over and over,
-//   SIZE bytes of it.
+// - `image BYTES` is the image of the runs after it; before it, the input's first line stands for it.
+// - `entries SIZE PATTERN` is the schedule of the runs by schedule after it: a pattern of entries, told in src/pattern.rt, over and over,
+//   SIZE bytes of it; before it, the input's first line stands for it.
 // - `serial 1 ARGUMENTS` prints how the serial run ended.
 // - `run CORES ARGUMENTS` prints how a run by schedule ended, and whether its memory is the serial run's.
-// - `built_in CORES ARGUMENTS` prints the same of the built-in scheduler's run, and then of a run by the entries that it wrote.
+// - `built-in CORES ARGUMENTS` prints the same of the built-in scheduler's run, and then of a run by the entries that it wrote.
 #![tactic(auto)]
 
-mod patterns;
-mod runs;
-mod show;
+mod job;
+mod pattern;
 
-use cases::Output;
+use job::Job;
 use std::io;
 
-fn all(out: &mut Output, input: &[u8]) {
-    let mut image: usize = 0;
-    let mut entries: usize = 0;
-    let mut at: usize = 0;
-    while at < input.len() {
-        let line = cases::line(input, at);
-        let key = cases::key(out, line, b"i*e*s*r*b*");
-        match key {
-            b'i' => image = at,
-            b'e' => entries = at,
-            0 => {}
-            _ => runs::run(
-                out,
-                key,
-                line,
-                cases::line(input, image),
-                cases::line(input, entries),
-            ),
-        }
-        at = cases::after(input, at, b'\n');
-    }
-}
+const KEYWORDS: [(&str, Option<usize>); 5] = [
+    ("image", None),
+    ("entries", None),
+    ("serial", None),
+    ("run", None),
+    ("built-in", None),
+];
 
 fn main(rt: HostRuntime) -> io::Result<()> {
-    let mut input = cases::large_buffer();
-    let n = stream::read_full(&mut rt.stdin(), &mut input)?;
-    let mut out = Output::new(rt.stdout());
-    all(&mut out, &input[..n]);
-    out.finish()
+    let input = cases::input(&rt)?;
+    let lines = cases::lines(rt.alloc(), &input)?;
+    let mut image = cases::first(&lines);
+    let mut entries = image;
+    for line in &lines {
+        match line.keyword(&rt, &KEYWORDS)? {
+            Some("image") => image = *line,
+            Some("entries") => entries = *line,
+            Some("serial") => Job::read(&rt, *line, image)?.print_serial(&rt)?,
+            Some("run") => {
+                let job = Job::read(&rt, *line, image)?;
+                job.print_run(&rt, &pattern::bytes(&rt, entries)?)?;
+            }
+            Some("built-in") => Job::read(&rt, *line, image)?.print_built_in(&rt)?,
+            _ => {}
+        }
+    }
+    Ok(())
 }

@@ -2,115 +2,96 @@
 // COUNT` push a frame on stacklet S, `frame drop BASE SIZE` pops it, and `frame set BASE K VALUE` sets a slot. `frame top S`, `frame fits S
 // SIZE` and `frame words BASE` print the words behind the first, and the answer; of words, five from a base on. `frame highest BASE SIZE`
 // prints whether a frame is the topmost.
-use cases::Output;
-use stacklets::Stacklets;
+use crate::yes_or_no;
+use cases::{Line, Listed};
+use stacklets::{Stacklets, set_slot, slot};
+use std::io;
 
-const NUMBER: usize = 2;
+const KEYWORDS: [(&str, Option<usize>); 9] = [
+    ("new", Some(0)),
+    ("arguments", None),
+    ("push", Some(4)),
+    ("drop", Some(2)),
+    ("set", Some(3)),
+    ("top", Some(1)),
+    ("fits", Some(2)),
+    ("highest", Some(2)),
+    ("words", Some(1)),
+];
 
-const FOUR: usize = 3;
-
-// Formats 0 and 1 are for a test that is false or true.
-fn print(out: &mut Output, format: usize, a: u32, b: u32, c: u32, d: u32) {
-    cases::print_format(
-        out,
-        b" no\n/ yes\n/ #\n/: # # # #",
-        format,
-        a as u64,
-        b as u64,
-        c as u64,
-        d as u64,
-    );
+fn byte(rt: &impl Print, line: Line<'_>, k: usize) -> io::Result<u8> {
+    Ok(line.number(rt, k, 255)? as u8)
 }
 
-fn print_five(out: &mut Output, words: &[u32; 1024], base: u16) {
-    print(
-        out,
-        FOUR,
-        stacklets::slot(words, base, 0),
-        stacklets::slot(words, base, 1),
-        stacklets::slot(words, base, 2),
-        stacklets::slot(words, base, 3),
-    );
-    print(out, NUMBER, stacklets::slot(words, base, 4), 0, 0, 0);
+fn base(rt: &impl Print, line: Line<'_>, k: usize) -> io::Result<u16> {
+    Ok(line.number(rt, k, 65_535)? as u16)
 }
 
-fn byte(out: &mut Output, line: &[u8], k: usize) -> u8 {
-    cases::number(out, line, k, 255) as u8
-}
-
-fn base(out: &mut Output, line: &[u8], k: usize) -> u16 {
-    cases::number(out, line, k, 65535) as u16
-}
-
-fn push_arguments(
-    out: &mut Output,
-    line: &[u8],
+// Changes the stacklets or their words, or prints of them.
+pub fn case(
+    rt: &(impl Print + AllocGlobal),
+    line: Line<'_>,
     s: Stacklets,
     words: &mut [u32; 1024],
-) -> Stacklets {
-    let mut arguments = [0u32; 4];
-    let n = cases::numbers(out, line, 3, &mut arguments);
-    s.push_arguments(
-        words,
-        byte(out, line, 1),
-        byte(out, line, 2),
-        &arguments[..n],
-    )
-}
-
-fn push(out: &mut Output, line: &[u8], s: Stacklets, words: &mut [u32; 1024]) -> Stacklets {
-    s.push(
-        words,
-        byte(out, line, 1),
-        byte(out, line, 2),
-        base(out, line, 3),
-        byte(out, line, 4),
-    )
-}
-
-fn set_slot(out: &mut Output, line: &[u8], words: &mut [u32; 1024]) {
-    let value = cases::number(out, line, 3, 4294967295) as u32;
-    stacklets::set_slot(words, base(out, line, 1), byte(out, line, 2), value);
-}
-
-fn print_case(out: &mut Output, key: u8, line: &[u8], s: Stacklets, words: &[u32; 1024]) {
-    cases::print_text(out, line);
-    match key {
-        b't' => {
-            let top = s.top(byte(out, line, 1));
-            print(out, NUMBER, top as u32, 0, 0, 0);
+) -> io::Result<Stacklets> {
+    match line.keyword(rt, &KEYWORDS)? {
+        Some("new") => return Ok(Stacklets::new()),
+        Some("arguments") => {
+            let arguments = line.numbers(rt, 3)?;
+            return Ok(s.push_arguments(words, byte(rt, line, 1)?, byte(rt, line, 2)?, &arguments));
         }
-        b'f' => {
-            let fits = s.fits(byte(out, line, 1), byte(out, line, 2));
-            print(out, fits as usize, 0, 0, 0, 0);
+        Some("push") => return push(rt, line, s, words),
+        Some("drop") => return Ok(s.pop(words, base(rt, line, 1)?, byte(rt, line, 2)?)),
+        Some("set") => {
+            let value = line.number(rt, 3, 4_294_967_295)? as u32;
+            set_slot(words, base(rt, line, 1)?, byte(rt, line, 2)?, value);
         }
-        b'w' => {
-            let from = base(out, line, 1);
-            print_five(out, words, from);
+        Some("highest") => {
+            let topmost = s.is_topmost(base(rt, line, 1)?, byte(rt, line, 2)?);
+            println!(rt; " {}", yes_or_no(topmost))?;
         }
-        _ => {}
+        other => {
+            rt.write_all(line.text)?;
+            answer(rt, other, line, s, words)?;
+        }
     }
+    Ok(s)
 }
 
-pub fn case(out: &mut Output, line: &[u8], s: Stacklets, words: &mut [u32; 1024]) -> Stacklets {
-    let key = cases::key(out, line, b"n0a*p4d2s3t1f2h2w1");
-    match key {
-        b'n' => Stacklets::new(),
-        b'a' => push_arguments(out, line, s, words),
-        b'p' => push(out, line, s, words),
-        b'd' => s.pop(words, base(out, line, 1), byte(out, line, 2)),
-        b's' => {
-            set_slot(out, line, words);
-            s
+fn push(
+    rt: &impl Print,
+    line: Line<'_>,
+    s: Stacklets,
+    words: &mut [u32; 1024],
+) -> io::Result<Stacklets> {
+    let stacklet = byte(rt, line, 1)?;
+    let size = byte(rt, line, 2)?;
+    let from = base(rt, line, 3)?;
+    let count = byte(rt, line, 4)?;
+    Ok(s.push(words, stacklet, size, from, count))
+}
+
+// What is printed behind the line itself: nothing where it is bad.
+fn answer(
+    rt: &impl Print,
+    keyword: Option<&'static str>,
+    line: Line<'_>,
+    s: Stacklets,
+    words: &[u32; 1024],
+) -> io::Result<()> {
+    match keyword {
+        Some("top") => println!(rt; " {}", s.top(byte(rt, line, 1)?)),
+        Some("fits") => {
+            let fits = s.fits(byte(rt, line, 1)?, byte(rt, line, 2)?);
+            println!(rt; " {}", yes_or_no(fits))
         }
-        b'h' => {
-            let topmost = s.is_topmost(base(out, line, 1), byte(out, line, 2));
-            print(out, topmost as usize, 0, 0, 0, 0);
-            s
+        Some("words") => {
+            let from = base(rt, line, 1)?;
+            println!(rt;
+                ":{}",
+                Listed(&[0, 1, 2, 3, 4].map(|k| slot(words, from, k)))
+            )
         }
-        _ => {
-            print_case(out, key, line, s, words);
-            s
-        }
+        _ => Ok(()),
     }
 }

@@ -10,39 +10,43 @@ mod queues;
 mod views;
 mod windows;
 
-use cases::Output;
 use queue::Queue;
 use stacklets::Stacklets;
 use std::io;
 use window::Window;
 
-fn all(out: &mut Output, input: &[u8]) {
-    let mut queue = Queue::new();
-    let mut window = Window::root();
-    let mut stacklets = Stacklets::new();
-    let mut words = [7u32; 1024];
-    let mut at: usize = 0;
-    while at < input.len() {
-        let line = cases::line(input, at);
-        let rest = cases::from_part(line, 1, b' ');
-        match cases::key(out, line, b"q*e*c*v2l4w*f*") {
-            b'q' => queue = queues::case(out, rest, queue),
-            b'e' => entries::case(out, rest),
-            b'c' => entries::count(out, line),
-            b'v' => views::view(out, line),
-            b'l' => views::lengths(out, line),
-            b'w' => window = windows::case(out, rest, window),
-            b'f' => stacklets = frames::case(out, rest, stacklets, &mut words),
-            _ => {}
-        }
-        at = cases::after(input, at, b'\n');
-    }
+const KEYWORDS: [(&str, Option<usize>); 7] = [
+    ("queue", None),
+    ("entry", None),
+    ("count", None),
+    ("view", Some(2)),
+    ("lengths", Some(4)),
+    ("window", None),
+    ("frame", None),
+];
+
+fn yes_or_no(holds: bool) -> &'static str {
+    if holds { "yes" } else { "no" }
 }
 
 fn main(rt: HostRuntime) -> io::Result<()> {
-    let mut input = cases::large_buffer();
-    let n = stream::read_full(&mut rt.stdin(), &mut input)?;
-    let mut out = Output::new(rt.stdout());
-    all(&mut out, &input[..n]);
-    out.finish()
+    let input = cases::input(&rt)?;
+    let mut queue = Queue::new();
+    let mut window = Window::root();
+    let mut stacklets = Stacklets::new();
+    let mut words = [7; 1024];
+    for line in &cases::lines(rt.alloc(), &input)? {
+        let rest = line.from_field(1);
+        match line.keyword(&rt, &KEYWORDS)? {
+            Some("queue") => queue = queues::case(&rt, rest, queue)?,
+            Some("entry") => entries::case(&rt, rest)?,
+            Some("count") => entries::count(&rt, *line)?,
+            Some("view") => views::view(&rt, *line)?,
+            Some("lengths") => views::lengths(&rt, *line)?,
+            Some("window") => window = windows::case(&rt, rest, window)?,
+            Some("frame") => stacklets = frames::case(&rt, rest, stacklets, &mut words)?,
+            _ => {}
+        }
+    }
+    Ok(())
 }

@@ -1,71 +1,41 @@
 // Views: `view P Q` prints itself, the number of words shown, and the first and the last of them, where the words at the ends hold their
 // addresses and a thousand more, the others 5; `lengths A B P Q` is a view of A parameter words and B memory words, all 5.
+use cases::Line;
+use std::io;
 
-use cases::Output;
-
-const NONE: usize = 0;
-
-const SOME: usize = 1;
-
-fn print(out: &mut Output, format: usize, n: usize, first: u32, last: u32) {
-    cases::print_format(
-        out,
-        b": #\n/: # # #\n",
-        format,
-        n as u64,
-        first as u64,
-        last as u64,
-        0,
-    );
-}
-
-fn print_words(out: &mut Output, shown: &[u32]) {
-    let n = shown.len();
-    if n == 0 {
-        print(out, NONE, 0, 0, 0);
-    } else {
-        print(out, SOME, n, shown[0], shown[n - 1]);
+fn print_words(rt: &impl Print, shown: &[u32]) -> io::Result<()> {
+    match shown {
+        [] => println!(rt; ": 0"),
+        [first, ..] => println!(rt; ": {} {first} {}", shown.len(), shown[shown.len() - 1]),
     }
 }
 
-fn print_view(out: &mut Output, p: usize, q: usize) {
-    let mut parameters = [5u32; 32];
+fn place(rt: &impl Print, line: Line<'_>, k: usize) -> io::Result<usize> {
+    Ok(line.number(rt, k, u64::MAX)? as usize)
+}
+
+pub fn view(rt: &impl Print, line: Line<'_>) -> io::Result<()> {
+    rt.write_all(line.text)?;
+    let p = place(rt, line, 1)?;
+    let q = place(rt, line, 2)?;
+    let mut parameters = [5; 32];
     parameters[0] = 1000;
     parameters[31] = 1031;
-    let mut memory = [5u32; 992];
+    let mut memory = [5; 992];
     memory[0] = 1032;
     memory[991] = 2023;
-    print_words(out, view::view(&parameters, &memory, p, q));
+    print_words(rt, view::view(&parameters, &memory, p, q))
 }
 
-fn place(out: &mut Output, line: &[u8], k: usize) -> usize {
-    cases::number(out, line, k, 18446744073709551615) as usize
-}
-
-pub fn view(out: &mut Output, line: &[u8]) {
-    cases::print_text(out, line);
-    let p = place(out, line, 1);
-    let q = place(out, line, 2);
-    print_view(out, p, q);
-}
-
-// Buffers of at most 33 and 993 words.
-fn print_lengths(out: &mut Output, a: usize, b: usize, p: usize, q: usize) {
-    let parameters = [5u32; 33];
-    let memory = [5u32; 993];
-    if 33 < a {
-        return;
+// Of at most 33 and 993 words: of more nothing is printed.
+pub fn lengths(rt: &impl Print, line: Line<'_>) -> io::Result<()> {
+    let a = place(rt, line, 1)?;
+    let b = place(rt, line, 2)?;
+    let p = place(rt, line, 3)?;
+    let q = place(rt, line, 4)?;
+    if a > 33 || b > 993 {
+        return Ok(());
     }
-    if 993 < b {
-        return;
-    }
-    print_words(out, view::view(&parameters[0..a], &memory[0..b], p, q));
-}
-
-pub fn lengths(out: &mut Output, line: &[u8]) {
-    let a = place(out, line, 1);
-    let b = place(out, line, 2);
-    let p = place(out, line, 3);
-    let q = place(out, line, 4);
-    print_lengths(out, a, b, p, q);
+    let words = [5; 993];
+    print_words(rt, view::view(&words[..a], &words[..b], p, q))
 }

@@ -1,114 +1,96 @@
 // Windows: `window root` and `window at LO MARK CEILING HI FROM TO` make one, `window join` rejoins it, and `window ends` prints it; `window load
 // A`, `window store A` and `window cut E` print the words behind the first, and whether that may be, or the child's six numbers and those of the
 // rest; `window give S` prints `share S` and the window that shares from S on.
-use cases::Output;
-use window::{Cut, Share, Window};
+use crate::yes_or_no;
+use cases::Line;
+use std::fmt::{Display, Formatter, Write};
+use std::{fmt, io};
+use window::Window;
 
-const ENDS: usize = 2;
+const KEYWORDS: [(&str, Option<usize>); 8] = [
+    ("root", Some(0)),
+    ("at", Some(6)),
+    ("join", Some(0)),
+    ("ends", Some(0)),
+    ("load", Some(1)),
+    ("store", Some(1)),
+    ("cut", Some(1)),
+    ("give", Some(1)),
+];
 
-const CHILD: usize = 3;
+#[derive(Clone, Copy)]
+struct Ends(Window);
 
-const REST: usize = 4;
-
-const OUT_OF_RANGE: usize = 5;
-
-const MORE: usize = 6;
-
-const LAST: usize = 7;
-
-const SHARED: usize = 8;
-
-// Formats 0 and 1 are for a test that is false or true.
-fn print(out: &mut Output, format: usize, a: u16, b: u16, c: u16) {
-    cases::print_format(
-        out,
-        b" no\n/ yes\n/window # # #/ child # # #/ rest # # #/ out of range\n/ # # #/ # # #\n/ window # # #",
-        format,
-        a as u64,
-        b as u64,
-        c as u64,
-        0,
-    );
-}
-
-// All six numbers, the line ending behind them or not.
-fn print_ends(out: &mut Output, format: usize, w: Window, end: usize) {
-    print(out, format, w.lo, w.mark, w.ceiling);
-    print(out, end, w.hi, w.from, w.to);
-}
-
-fn print_cut(out: &mut Output, cut: Cut) {
-    match cut {
-        Cut::Parts { child, rest } => {
-            print_ends(out, CHILD, child, MORE);
-            print_ends(out, REST, rest, LAST);
-        }
-        Cut::BadCut => print(out, OUT_OF_RANGE, 0, 0, 0),
+impl Display for Ends {
+    fn fmt<W: Write>(&self, f: &mut Formatter<W>) -> fmt::Result {
+        let w = self.0;
+        write!(
+            f,
+            "{} {} {} {} {} {}",
+            w.lo, w.mark, w.ceiling, w.hi, w.from, w.to
+        )
     }
 }
 
-fn print_share(out: &mut Output, share: Share) {
-    match share {
-        Share::Shared(rest) => print_ends(out, SHARED, rest, LAST),
-        Share::BadShare => print(out, OUT_OF_RANGE, 0, 0, 0),
+fn end(rt: &impl Print, line: Line<'_>, k: usize) -> io::Result<u16> {
+    Ok(line.number(rt, k, 65_535)? as u16)
+}
+
+fn address(rt: &impl Print, line: Line<'_>) -> io::Result<u32> {
+    Ok(line.number(rt, 1, 4_294_967_295)? as u32)
+}
+
+// The same, the line printed before.
+fn shown_address(rt: &impl Print, line: Line<'_>) -> io::Result<u32> {
+    rt.write_all(line.text)?;
+    address(rt, line)
+}
+
+fn window_at(rt: &impl Print, line: Line<'_>) -> io::Result<Window> {
+    Ok(Window {
+        lo: end(rt, line, 1)?,
+        mark: end(rt, line, 2)?,
+        ceiling: end(rt, line, 3)?,
+        hi: end(rt, line, 4)?,
+        from: end(rt, line, 5)?,
+        to: end(rt, line, 6)?,
+    })
+}
+
+fn print_cut(rt: &impl Print, line: Line<'_>, window: Window) -> io::Result<()> {
+    match window.cut(shown_address(rt, line)?) {
+        Some(cut) => println!(rt; " child {} rest {}", Ends(cut.child), Ends(cut.rest)),
+        None => println!(rt; " out of range"),
     }
 }
 
-fn address(out: &mut Output, line: &[u8]) -> u32 {
-    cases::print_text(out, line);
-    cases::number(out, line, 1, 4294967295) as u32
+fn print_share(rt: &impl Print, line: Line<'_>, window: Window) -> io::Result<()> {
+    let start = address(rt, line)?;
+    print!(rt; "share {start}")?;
+    match window.share(start) {
+        Some(rest) => println!(rt; " window {}", Ends(rest)),
+        None => println!(rt; " out of range"),
+    }
 }
 
-// What is to be shared, printed first.
-fn given(out: &mut Output, line: &[u8]) -> u32 {
-    let s = cases::number(out, line, 1, 4294967295);
-    cases::print_format(out, b"share #", 0, s as u64, 0, 0, 0);
-    s as u32
-}
-
-fn end(out: &mut Output, line: &[u8], k: usize) -> u16 {
-    cases::number(out, line, k, 65535) as u16
-}
-
-fn print_case(out: &mut Output, key: u8, line: &[u8], w: Window) {
-    match key {
-        b'e' => print_ends(out, ENDS, w, LAST),
-        b'l' => {
-            let may = w.may_load(address(out, line));
-            print(out, may as usize, 0, 0, 0);
+pub fn case(rt: &impl Print, line: Line<'_>, window: Window) -> io::Result<Window> {
+    match line.keyword(rt, &KEYWORDS)? {
+        Some("root") => return Ok(Window::root()),
+        Some("at") => return window_at(rt, line),
+        Some("join") => return Ok(window.rejoin()),
+        Some("ends") => println!(rt; "window {}", Ends(window))?,
+        Some("load") => {
+            println!(rt; " {}", yes_or_no(window.may_load(shown_address(rt, line)?)))?;
         }
-        b's' => {
-            let may = w.may_store(address(out, line));
-            print(out, may as usize, 0, 0, 0);
+        Some("store") => {
+            println!(rt;
+                " {}",
+                yes_or_no(window.may_store(shown_address(rt, line)?))
+            )?;
         }
-        b'c' => {
-            let cut = w.cut(address(out, line));
-            print_cut(out, cut);
-        }
-        b'g' => {
-            let share = w.share(given(out, line));
-            print_share(out, share);
-        }
+        Some("cut") => print_cut(rt, line, window)?,
+        Some("give") => print_share(rt, line, window)?,
         _ => {}
     }
-}
-
-pub fn case(out: &mut Output, line: &[u8], w: Window) -> Window {
-    let key = cases::key(out, line, b"r0a6j0e0l1s1c1g1");
-    match key {
-        b'r' => Window::root(),
-        b'a' => Window {
-            lo: end(out, line, 1),
-            mark: end(out, line, 2),
-            ceiling: end(out, line, 3),
-            hi: end(out, line, 4),
-            from: end(out, line, 5),
-            to: end(out, line, 6),
-        },
-        b'j' => w.rejoin(),
-        _ => {
-            print_case(out, key, line, w);
-            w
-        }
-    }
+    Ok(window)
 }

@@ -6,31 +6,37 @@
 // - `length BYTES` prints the length of the transcript, and what a buffer of 24 bytes has of it.
 #![tactic(auto)]
 
-mod transcripts;
-
-use cases::Output;
+use cases::Line;
 use std::io;
 
-fn case(out: &mut Output, line: &[u8]) {
-    match cases::key(out, line, b"p*l*") {
-        b'p' => transcripts::print(out, line),
-        b'l' => transcripts::length(out, line),
-        _ => {}
-    }
+// The longest input that the print program reads.
+const LONGEST: usize = 99_332;
+
+fn print(rt: &(impl Print + AllocGlobal), line: Line<'_>) -> io::Result<()> {
+    let input = line.bytes(rt, 1, LONGEST)?;
+    println!(rt)?;
+    let mut output = vec![in rt.alloc(); 0; 163_871]?;
+    let n = transcript::print(&input, &mut output);
+    rt.write_all(&output[..n])
 }
 
-fn all(out: &mut Output, input: &[u8]) {
-    let mut at: usize = 0;
-    while at < input.len() {
-        case(out, cases::line(input, at));
-        at = cases::after(input, at, b'\n');
-    }
+fn length(rt: &(impl Print + AllocGlobal), line: Line<'_>) -> io::Result<()> {
+    let input = line.bytes(rt, 1, LONGEST)?;
+    println!(rt)?;
+    let mut output = [b'.'; 24];
+    println!(rt; "{}", transcript::print(&input, &mut output))?;
+    rt.write_all(&output)?;
+    println!(rt)
 }
 
 fn main(rt: HostRuntime) -> io::Result<()> {
-    let mut input = cases::large_buffer();
-    let n = stream::read_full(&mut rt.stdin(), &mut input)?;
-    let mut out = Output::new(rt.stdout());
-    all(&mut out, &input[..n]);
-    out.finish()
+    let input = cases::input(&rt)?;
+    for line in &cases::lines(rt.alloc(), &input)? {
+        match line.keyword(&rt, &[("print", None), ("length", None)])? {
+            Some("print") => print(&rt, *line)?,
+            Some("length") => length(&rt, *line)?,
+            _ => {}
+        }
+    }
+    Ok(())
 }

@@ -5,7 +5,7 @@
 //
 // The cases are the lines of standard input, in the form that the crate `cases` tells:
 //
-// - `image BYTES` is the image of the runs after it, and `schedule BYTES` their schedule.
+// - `image BYTES` is the image of the runs after it, and `schedule BYTES` their schedule; before them, the input's first line stands for each.
 // - `run CORES ALLOWANCE ARGUMENTS` is a run on parameter words that are zero but for the last, 131, and on zero memory words. It prints the log,
 //   the words at 32 to 35, and the answer.
 // - `count CORES ALLOWANCE ARGUMENTS` prints of such a run also how many thread records are free, running, ready, suspended, waiting and lent.
@@ -13,39 +13,34 @@
 //   as its number and its value; of a refused run, the answer alone.
 #![tactic(auto)]
 
-mod runs;
+mod job;
 mod words;
 
-use cases::Output;
+use job::Job;
 use std::io;
 
-fn all(out: &mut Output, input: &[u8]) {
-    let mut image: usize = 0;
-    let mut schedule: usize = 0;
-    let mut at: usize = 0;
-    while at < input.len() {
-        let line = cases::line(input, at);
-        let key = cases::key(out, line, b"i*s*r*c*w*");
-        match key {
-            b'i' => image = at,
-            b's' => schedule = at,
-            0 => {}
-            _ => runs::run(
-                out,
-                key,
-                line,
-                cases::line(input, image),
-                cases::line(input, schedule),
-            ),
-        }
-        at = cases::after(input, at, b'\n');
-    }
-}
+const KEYWORDS: [(&str, Option<usize>); 5] = [
+    ("image", None),
+    ("schedule", None),
+    ("run", None),
+    ("count", None),
+    ("words", None),
+];
 
 fn main(rt: HostRuntime) -> io::Result<()> {
-    let mut input = cases::large_buffer();
-    let n = stream::read_full(&mut rt.stdin(), &mut input)?;
-    let mut out = Output::new(rt.stdout());
-    all(&mut out, &input[..n]);
-    out.finish()
+    let input = cases::input(&rt)?;
+    let lines = cases::lines(rt.alloc(), &input)?;
+    let mut image = cases::first(&lines);
+    let mut schedule = image;
+    for line in &lines {
+        match line.keyword(&rt, &KEYWORDS)? {
+            Some("image") => image = *line,
+            Some("schedule") => schedule = *line,
+            Some("run") => Job::read(&rt, *line, image, schedule)?.print_run(&rt)?,
+            Some("count") => Job::read(&rt, *line, image, schedule)?.print_count(&rt)?,
+            Some("words") => words::print(&rt, &Job::read(&rt, *line, image, schedule)?)?,
+            _ => {}
+        }
+    }
+    Ok(())
 }

@@ -1,0 +1,56 @@
+// Schedules by pattern. A pattern's words have two letters each, and stand for a byte. Block k is the pattern for the (k+1)th time:
+//
+// - hexadecimal digits: that byte.
+// - `t0` to `t3`: thread (k + 0) % 32 to (k + 3) % 32; `u0`: thread 31 - k % 32.
+// - `p0`: the next number, as a core below 4; `q0`: the next number, as a core below 5, so that some are out of range.
+// - `r0`: the same number, as a thread below 33; `s0`: the same number, as another core below 4.
+//
+// The numbers look random; they are below 65,536.
+ghost use Rattle.std.specs.Prelude.{◌<◌};
+
+use cases::Line;
+use std::io;
+
+fn next_number(x: u32) -> u32
+    ensures { result < 65536 }
+{
+    (x % 65536 * 1103 + 12345) % 65536
+}
+
+fn thread(block: usize, more: u8) -> u8
+    ensures { result < 32 }
+{
+    ((block % 32) as u8 + more % 32) % 32
+}
+
+// The byte of a word of two letters, in a block, with a number.
+fn byte_of(rt: &impl Print, word: [u8; 2], block: usize, x: u32) -> io::Result<u8> {
+    Ok(match word {
+        [b't', more] => thread(block, cases::digit(rt, more, 10)?),
+        [b'u', _] => 31 - thread(block, 0),
+        [b'p', _] => (x / 256 % 4) as u8,
+        [b'q', _] => (x / 256 % 5) as u8,
+        [b'r', _] => (x / 8 % 33) as u8,
+        [b's', _] => (x / 2048 % 4) as u8,
+        [high, low] => cases::digit(rt, high, 16)? * 16 + cases::digit(rt, low, 16)?,
+    })
+}
+
+// The bytes that a line of entries tells: its SIZE bytes of its PATTERN. A letter that is missing is 0.
+pub fn bytes(rt: &(impl Print + AllocGlobal), entries: Line<'_>) -> io::Result<Vec<u8>> {
+    let size = entries.number(rt, 1, 32768)? as usize;
+    let pattern = entries.from_field(2).text;
+    // a blank behind each word but the last
+    let words = pattern.len().div_ceil(3).max(1);
+    let mut bytes = Vec::new(rt.alloc());
+    let mut x = 1;
+    for i in 0..size {
+        let at = i % words * 3;
+        let word = [at, at + 1].map(|k| pattern.get(k).copied().unwrap_or(0));
+        if let [b'p' | b'q', _] = word {
+            x = next_number(x);
+        }
+        bytes.push(byte_of(rt, word, i / words, x)?)?;
+    }
+    Ok(bytes)
+}
