@@ -26,13 +26,7 @@ fn goes_above(tables: &[u8], kind: ForkKind, base: u16, slots: u8, wide: u8) -> 
     requires { (length tables.now ≡ size) × (base < 1024) }
     ensures { (words memory : List ℕ) → result ≡ (is_connected kind && (is_topmost (meaning tables.now words memory).store.tops base slots && fits_on (meaning tables.now words memory).store.tops (base / 64) wide)) }
 {
-    if !is_connected(kind) {
-        return false;
-    }
-    if !is_topmost(tables, base, slots) {
-        return false;
-    }
-    fits(tables, (base / 64) as u8, wide)
+    is_connected(kind) && is_topmost(tables, base, slots) && fits(tables, (base / 64) as u8, wide)
 }
 
 // The child takes its place: on the core, or in the ready queue.
