@@ -13,6 +13,6 @@ mod fields;
 mod print;
 mod reading;
 
-pub use fields::digit;
+pub use fields::{digit, value};
 pub use print::Listed;
-pub use reading::{Line, first, input, lines};
+pub use reading::{Line, ends_line, first, input};

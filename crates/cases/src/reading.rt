@@ -1,6 +1,7 @@
 // Lines and their keywords.
+ghost use Rattle.std.specs.Prelude.{◌≡◌, ◌≤◌, ◌<◌, ◌==◌, length, get_or, IfOk, IfSome};
+
 use crate::print::bad_line;
-use std::alloc::{AllocError, Global};
 use std::io;
 use std::io::Read;
 
@@ -13,20 +14,36 @@ pub fn input(rt: &(impl Input + AllocGlobal)) -> io::Result<Vec<u8>> {
     Ok(bytes)
 }
 
-pub fn lines(alloc: Global, input: &[u8]) -> Result<Vec<Line<'_>>, AllocError> {
-    input
-        .split(|byte| *byte == b'\n')
-        .map(|text| Line { text })
-        .collect(alloc)
+// An input's lines are its parts between these.
+pub fn ends_line(byte: &u8) -> bool
+    ensures { result ≡ (byte.now == 10) }
+{
+    *byte == b'\n'
 }
 
-// The first line, and an empty one where there is none.
-pub fn first<'a>(lines: &[Line<'a>]) -> Line<'a> {
-    lines.first().copied().unwrap_or(Line { text: &[] })
+// The first line of an input, up to the byte that ends it.
+pub fn first(input: &[u8]) -> Line<'_>
+    ensures { length result.text.now ≤ length input.now }
+{
+    let end = input.iter().position(ends_line).unwrap_or(input.len());
+    Line {
+        text: &input[..end],
+    }
 }
 
 pub fn is_blank(byte: &u8) -> bool {
     *byte == b' '
+}
+
+// A text up to its first blank, and what follows that.
+pub fn cut(text: &[u8]) -> (&[u8], &[u8])
+    requires { 0 < length text.now }
+    ensures { length result.1.now < length text.now }
+{
+    match text.iter().position(is_blank) {
+        Some(blank) => (&text[..blank], &text[blank + 1..]),
+        None => (text, &[]),
+    }
 }
 
 // A line, or its end from a field on. The keyword is field 0. It has bytes and no `str`, since an input that is no text is read as well.
@@ -42,7 +59,9 @@ impl<'a> Line<'a> {
         self,
         rt: &impl Print,
         keywords: &[(&'static str, Option<usize>)],
-    ) -> io::Result<Option<&'static str>> {
+    ) -> io::Result<Option<&'static str>>
+        ensures { IfOk result (λ found. IfSome found (λ name. get_or name.now 0 0 ≡ get_or self.entry.text.now 0 0)) }
+    {
         match self.text {
             [] | [b'#', ..] => return Ok(None),
             [b'"', heading @ ..] => rt.write_all(heading)?,
@@ -66,10 +85,15 @@ impl<'a> Line<'a> {
     }
 
     // The line from field k on; empty where it has fewer.
-    pub fn from_field(self, k: usize) -> Line<'a> {
+    pub fn from_field(self, k: usize) -> Line<'a>
+        ensures { length result.text.now ≤ length self.entry.text.now }
+    {
         let mut text = self.text;
         for _ in 0..k {
-            text = text.splitn(2, is_blank).nth(1).unwrap_or(&[]);
+            text = match text.iter().position(is_blank) {
+                Some(blank) => &text[blank + 1..],
+                None => &[],
+            };
         }
         Line { text }
     }

@@ -14,6 +14,7 @@
 mod reads;
 mod writes;
 
+use cases::Line;
 use std::io;
 
 const KEYWORDS: [(&str, Option<usize>); 4] = [
@@ -25,12 +26,13 @@ const KEYWORDS: [(&str, Option<usize>); 4] = [
 
 fn main(rt: HostRuntime) -> io::Result<()> {
     let input = cases::input(&rt)?;
-    for line in &cases::lines(rt.alloc(), &input)? {
+    for text in input.split(|byte| cases::ends_line(byte)) {
+        let line = Line { text };
         match line.keyword(&rt, &KEYWORDS)? {
-            Some("text") => reads::text(&rt, *line)?,
-            Some("octets") => reads::octets(&rt, *line)?,
-            Some("image") => writes::image(&rt, *line)?,
-            Some("back") => writes::back(&rt, *line)?,
+            Some("text") => reads::text(&rt, line)?,
+            Some("octets") => reads::octets(&rt, line)?,
+            Some("image") => writes::image(&rt, line)?,
+            Some("back") => writes::back(&rt, line)?,
             _ => {}
         }
     }

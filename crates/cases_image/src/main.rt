@@ -14,6 +14,7 @@ mod commands;
 mod images;
 mod show;
 
+use cases::Line;
 use std::io;
 
 const KEYWORDS: [(&str, Option<usize>); 6] = [
@@ -27,14 +28,15 @@ const KEYWORDS: [(&str, Option<usize>); 6] = [
 
 fn main(rt: HostRuntime) -> io::Result<()> {
     let input = cases::input(&rt)?;
-    for line in &cases::lines(rt.alloc(), &input)? {
+    for text in input.split(|byte| cases::ends_line(byte)) {
+        let line = Line { text };
         match line.keyword(&rt, &KEYWORDS)? {
-            Some("image") => images::image(&rt, *line)?,
-            Some("verdict") => images::verdict(&rt, *line)?,
-            Some("program") => images::program(&rt, *line)?,
-            Some("command") => commands::command(&rt, *line)?,
-            Some("read") => commands::read(&rt, *line)?,
-            Some("weight") => commands::weight(&rt, *line)?,
+            Some("image") => images::image(&rt, line)?,
+            Some("verdict") => images::verdict(&rt, line)?,
+            Some("program") => images::program(&rt, line)?,
+            Some("command") => commands::command(&rt, line)?,
+            Some("read") => commands::read(&rt, line)?,
+            Some("weight") => commands::weight(&rt, line)?,
             _ => {}
         }
     }

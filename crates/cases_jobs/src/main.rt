@@ -15,6 +15,7 @@
 mod job;
 mod pattern;
 
+use cases::Line;
 use job::Job;
 use std::io;
 
@@ -28,19 +29,19 @@ const KEYWORDS: [(&str, Option<usize>); 5] = [
 
 fn main(rt: HostRuntime) -> io::Result<()> {
     let input = cases::input(&rt)?;
-    let lines = cases::lines(rt.alloc(), &input)?;
-    let mut image = cases::first(&lines);
+    let mut image = cases::first(&input);
     let mut entries = image;
-    for line in &lines {
+    for text in input.split(|byte| cases::ends_line(byte)) {
+        let line = Line { text };
         match line.keyword(&rt, &KEYWORDS)? {
-            Some("image") => image = *line,
-            Some("entries") => entries = *line,
-            Some("serial") => Job::read(&rt, *line, image)?.print_serial(&rt)?,
+            Some("image") => image = line,
+            Some("entries") => entries = line,
+            Some("serial") => Job::read(&rt, line, image)?.print_serial(&rt)?,
             Some("run") => {
-                let job = Job::read(&rt, *line, image)?;
+                let job = Job::read(&rt, line, image)?;
                 job.print_run(&rt, &pattern::bytes(&rt, entries)?)?;
             }
-            Some("built-in") => Job::read(&rt, *line, image)?.print_built_in(&rt)?,
+            Some("built-in") => Job::read(&rt, line, image)?.print_built_in(&rt)?,
             _ => {}
         }
     }

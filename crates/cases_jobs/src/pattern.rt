@@ -23,34 +23,52 @@ fn thread(block: usize, more: u8) -> u8
     ((block % 32) as u8 + more % 32) % 32
 }
 
-// The byte of a word of two letters, in a block, with a number.
-fn byte_of(rt: &impl Print, word: [u8; 2], block: usize, x: u32) -> io::Result<u8> {
-    Ok(match word {
-        [b't', more] => thread(block, cases::digit(rt, more, 10)?),
+// The byte of a word of two letters, in a block, with a number, if each digit is one.
+fn byte_of(word: [u8; 2], block: usize, x: u32) -> Option<u8> {
+    Some(match word {
+        [b't', more] => thread(block, cases::value(more, 10)?),
         [b'u', _] => 31 - thread(block, 0),
         [b'p', _] => (x / 256 % 4) as u8,
         [b'q', _] => (x / 256 % 5) as u8,
         [b'r', _] => (x / 8 % 33) as u8,
         [b's', _] => (x / 2048 % 4) as u8,
-        [high, low] => cases::digit(rt, high, 16)? * 16 + cases::digit(rt, low, 16)?,
+        [high, low] => cases::value(high, 16)? * 16 + cases::value(low, 16)?,
     })
+}
+
+// The byte of a word with a digit that is none, which is told and counts as 0.
+fn told_byte_of(rt: &impl Print, word: [u8; 2], block: usize) -> io::Result<u8> {
+    if let [b't', more] = word {
+        return Ok(thread(block, cases::digit(rt, more, 10)?));
+    }
+    Ok(cases::digit(rt, word[0], 16)? * 16 + cases::digit(rt, word[1], 16)?)
 }
 
 // The bytes that a line of entries tells: its SIZE bytes of its PATTERN. A letter that is missing is 0.
 pub fn bytes(rt: &(impl Print + AllocGlobal), entries: Line<'_>) -> io::Result<Vec<u8>> {
     let size = entries.number(rt, 1, 32768)? as usize;
     let pattern = entries.from_field(2).text;
-    // a blank behind each word but the last
-    let words = pattern.len().div_ceil(3).max(1);
     let mut bytes = Vec::new(rt.alloc());
     let mut x = 1;
-    for i in 0..size {
-        let at = i % words * 3;
+    let mut at = 0;
+    let mut block = 0;
+    for _ in 0..size {
         let word = [at, at + 1].map(|k| pattern.get(k).copied().unwrap_or(0));
         if let [b'p' | b'q', _] = word {
             x = next_number(x);
         }
-        bytes.push(byte_of(rt, word, i / words, x)?)?;
+        // a schedule has thousands, and an `io::Result` is large: only a wrong digit makes one
+        let byte = match byte_of(word, block, x) {
+            Some(byte) => byte,
+            None => told_byte_of(rt, word, block)?,
+        };
+        bytes.push(byte)?;
+        // a blank stands behind each word but the last
+        at += 3;
+        if pattern.len() <= at {
+            at = 0;
+            block += 1;
+        }
     }
     Ok(bytes)
 }

@@ -10,6 +10,7 @@ mod queues;
 mod views;
 mod windows;
 
+use cases::Line;
 use queue::Queue;
 use stacklets::Stacklets;
 use std::io;
@@ -35,14 +36,15 @@ fn main(rt: HostRuntime) -> io::Result<()> {
     let mut window = Window::root();
     let mut stacklets = Stacklets::new();
     let mut words = [7; 1024];
-    for line in &cases::lines(rt.alloc(), &input)? {
+    for text in input.split(|byte| cases::ends_line(byte)) {
+        let line = Line { text };
         let rest = line.from_field(1);
         match line.keyword(&rt, &KEYWORDS)? {
             Some("queue") => queue = queues::case(&rt, rest, queue)?,
             Some("entry") => entries::case(&rt, rest)?,
-            Some("count") => entries::count(&rt, *line)?,
-            Some("view") => views::view(&rt, *line)?,
-            Some("lengths") => views::lengths(&rt, *line)?,
+            Some("count") => entries::count(&rt, line)?,
+            Some("view") => views::view(&rt, line)?,
+            Some("lengths") => views::lengths(&rt, line)?,
             Some("window") => window = windows::case(&rt, rest, window)?,
             Some("frame") => stacklets = frames::case(&rt, rest, stacklets, &mut words)?,
             _ => {}

@@ -31,10 +31,11 @@ fn length(rt: &(impl Print + AllocGlobal), line: Line<'_>) -> io::Result<()> {
 
 fn main(rt: HostRuntime) -> io::Result<()> {
     let input = cases::input(&rt)?;
-    for line in &cases::lines(rt.alloc(), &input)? {
+    for text in input.split(|byte| cases::ends_line(byte)) {
+        let line = Line { text };
         match line.keyword(&rt, &[("print", None), ("length", None)])? {
-            Some("print") => print(&rt, *line)?,
-            Some("length") => length(&rt, *line)?,
+            Some("print") => print(&rt, line)?,
+            Some("length") => length(&rt, line)?,
             _ => {}
         }
     }

@@ -36,12 +36,12 @@ fn run(rt: &(impl Print + AllocGlobal), line: Line<'_>, image: Line<'_>) -> io::
 
 fn main(rt: HostRuntime) -> io::Result<()> {
     let input = cases::input(&rt)?;
-    let lines = cases::lines(rt.alloc(), &input)?;
-    let mut image = cases::first(&lines);
-    for line in &lines {
+    let mut image = cases::first(&input);
+    for text in input.split(|byte| cases::ends_line(byte)) {
+        let line = Line { text };
         match line.keyword(&rt, &[("image", None), ("run", None)])? {
-            Some("image") => image = *line,
-            Some("run") => run(&rt, *line, image)?,
+            Some("image") => image = line,
+            Some("run") => run(&rt, line, image)?,
             _ => {}
         }
     }

@@ -11,17 +11,18 @@
 
 mod runs;
 
+use cases::Line;
 use std::io;
 
 fn main(rt: HostRuntime) -> io::Result<()> {
     let input = cases::input(&rt)?;
-    let lines = cases::lines(rt.alloc(), &input)?;
-    let mut image = cases::first(&lines);
-    for line in &lines {
+    let mut image = cases::first(&input);
+    for text in input.split(|byte| cases::ends_line(byte)) {
+        let line = Line { text };
         match line.keyword(&rt, &[("image", None), ("run", None), ("lengths", None)])? {
-            Some("image") => image = *line,
-            Some("run") => runs::run(&rt, *line, image)?,
-            Some("lengths") => runs::lengths(&rt, *line, image)?,
+            Some("image") => image = line,
+            Some("run") => runs::run(&rt, line, image)?,
+            Some("lengths") => runs::lengths(&rt, line, image)?,
             _ => {}
         }
     }

@@ -16,6 +16,7 @@
 mod job;
 mod words;
 
+use cases::Line;
 use job::Job;
 use std::io;
 
@@ -29,16 +30,16 @@ const KEYWORDS: [(&str, Option<usize>); 5] = [
 
 fn main(rt: HostRuntime) -> io::Result<()> {
     let input = cases::input(&rt)?;
-    let lines = cases::lines(rt.alloc(), &input)?;
-    let mut image = cases::first(&lines);
+    let mut image = cases::first(&input);
     let mut schedule = image;
-    for line in &lines {
+    for text in input.split(|byte| cases::ends_line(byte)) {
+        let line = Line { text };
         match line.keyword(&rt, &KEYWORDS)? {
-            Some("image") => image = *line,
-            Some("schedule") => schedule = *line,
-            Some("run") => Job::read(&rt, *line, image, schedule)?.print_run(&rt)?,
-            Some("count") => Job::read(&rt, *line, image, schedule)?.print_count(&rt)?,
-            Some("words") => words::print(&rt, &Job::read(&rt, *line, image, schedule)?)?,
+            Some("image") => image = line,
+            Some("schedule") => schedule = line,
+            Some("run") => Job::read(&rt, line, image, schedule)?.print_run(&rt)?,
+            Some("count") => Job::read(&rt, line, image, schedule)?.print_count(&rt)?,
+            Some("words") => words::print(&rt, &Job::read(&rt, line, image, schedule)?)?,
             _ => {}
         }
     }
