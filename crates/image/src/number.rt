@@ -2,7 +2,7 @@
 ghost use Rattle.std.specs.Prelude.{◌≡◌};
 ghost use Rattle.image.specs.Image.{number_of_refusal, number_in};
 
-use crate::{Program, Refusal};
+use crate::Refusal;
 
 impl Refusal {
     pub fn number(self) -> u8
@@ -21,8 +21,8 @@ impl Refusal {
     }
 }
 
-// The number of what `check` answers; 0 for an accepted image.
-pub fn image_number(checked: &Result<Program, Refusal>) -> u8
+// The number of what `check` answers, and of any other answer that tells why an image is refused; 0 for an accepted image.
+pub fn image_number<T>(checked: &Result<T, Refusal>) -> u8
     ensures { result ≡ number_in checked.now }
 {
     match checked {
