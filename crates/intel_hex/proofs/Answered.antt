@@ -1,5 +1,6 @@
 -- The answers of `write` and `read`: each by its cause. Assumes nothing.
 use Rattle.std.proofs.Common.{◌≡◌, ℕ, ◌<◌, ◌≤◌, Bool, true, false, cond, List, ◌++◌, length, take, drop, sym, refl, ap, ◌∙◌, true≢false, arith, take_at, le-leb}
+use Rattle.std.proofs.lemmas.List.{take_all}
 use Rattle.std.specs.Prelude.{Result, Ok, Err}
 use borrow.Author.Tests.{lt-leb}
 use Rattle.image.specs.declared.Refusal.{Refusal}
@@ -41,6 +42,7 @@ module _ (image before : List ℕ) where
         number25 = (λ p. absurd (omega arith), λ p. absurd (not-both refusal (sym v ∙ p.0)));
         number0 = (λ p. absurd (omega arith), ap number_of_hex_written);
         text = refl;
+        count = refl;
         back = λ n p. let z : number_of_refusal refusal ≡ 0 = ap number_of_hex_written p in absurd (omega arith);
       }
     where
@@ -61,6 +63,7 @@ module _ (image before : List ℕ) where
           number25 = (λ p. (v, h), λ p. refl);
           number0 = (λ p. absurd (omega arith), ap number_of_hex_written);
           text = refl;
+          count = refl;
           back = λ n p. let z : ◌≡◌ {A = ℕ} 25 0 = ap number_of_hex_written p in absurd (omega arith);
         }
       where
@@ -80,6 +83,7 @@ module _ (image before : List ℕ) where
           number25 = (λ q. absurd (omega arith), λ q. absurd (omega (arith, q.1)));
           number0 = (λ q. ap Ok e, λ q. refl);
           text = all;
+          count = all ∙ ap (λ s. s ++ drop n before) (sym (take_all n (hex_of image) (omega (arith, size))));
           back = λ m q.
               let same : n ≡ m = ap characters_of q in
               rw (← same, all, take_at (hex_of image) (drop n before) n size) (reads-back image small (omega arith));
@@ -176,6 +180,7 @@ module _ (text before : List ℕ) where
         number25 = (λ p. absurd (omega arith), λ p. absurd (unlike x p.0.lines));
         number0 = (λ p. absurd (omega arith), ap number_of_hex_read);
         bytes = refl;
+        count = refl;
         reads = λ n p. let z : ◌≡◌ {A = ℕ} 27 0 = ap number_of_hex_read p in absurd (omega arith);
         canonical = λ n p. let z : ◌≡◌ {A = ℕ} 27 0 = ap number_of_hex_read p in absurd (omega arith);
       }
@@ -192,6 +197,7 @@ module _ (text before : List ℕ) where
         number25 = (λ p. absurd (omega arith), λ p. absurd (unlike t.1 p.0.checksums));
         number0 = (λ p. absurd (omega arith), ap number_of_hex_read);
         bytes = refl;
+        count = refl;
         reads = λ n p. let z : ◌≡◌ {A = ℕ} 28 0 = ap number_of_hex_read p in absurd (omega arith);
         canonical = λ n p. let z : ◌≡◌ {A = ℕ} 28 0 = ap number_of_hex_read p in absurd (omega arith);
       }
@@ -208,6 +214,7 @@ module _ (text before : List ℕ) where
         number25 = (λ p. absurd (omega arith), λ p. absurd (unlike t.2 p.0.span));
         number0 = (λ p. absurd (omega arith), ap number_of_hex_read);
         bytes = refl;
+        count = refl;
         reads = λ n p. let z : ◌≡◌ {A = ℕ} 29 0 = ap number_of_hex_read p in absurd (omega arith);
         canonical = λ n p. let z : ◌≡◌ {A = ℕ} 29 0 = ap number_of_hex_read p in absurd (omega arith);
       }
@@ -235,6 +242,7 @@ module _ (text before : List ℕ) where
           number25 = (λ p. (all_pass, omega (arith, t.3)), λ p. refl);
           number0 = (λ p. absurd (omega arith), ap number_of_hex_read);
           bytes = refl;
+          count = refl;
           reads = λ m p. let z : ◌≡◌ {A = ℕ} 25 0 = ap number_of_hex_read p in absurd (omega arith);
           canonical = λ m p. let z : ◌≡◌ {A = ℕ} 25 0 = ap number_of_hex_read p in absurd (omega arith);
         }
@@ -251,6 +259,7 @@ module _ (text before : List ℕ) where
           number25 = (λ p. absurd (omega arith), λ p. absurd (omega (arith, p.1, t.3)));
           number0 = (λ p. ap Ok t.3, λ p. refl);
           bytes = is;
+          count = is ∙ ap (λ s. s ++ drop n before) (sym (take_all n (said_by (text_lines text)) (omega (arith, t.3))));
           reads = λ m p. front m (ap bytes_in p);
           canonical = λ m p. canonical text (take m after) (front m (ap bytes_in p));
         }

@@ -58,6 +58,8 @@ pub record HexWrites (image before after : List ℕ) (answer : Result ℕ WriteE
   pub number25 : (number_of_hex_written answer ≡ 25) ↔ ((image_verdict image ≡ Ok tt) × (length before < text_length (length image)))
   pub number0 : (number_of_hex_written answer ≡ 0) ↔ (answer ≡ Ok (text_length (length image)))
   pub text : after ≡ text_after answer image before
+  -- so many characters stand at the front, none of a refused call, and the others stay
+  pub count : after ≡ take (characters_of answer) (hex_of image) ++ drop (characters_of answer) before
   -- "Writing and then reading an image returns that image"
   pub back : (n : ℕ) → answer ≡ Ok n → ReadsAs (take n after) image
 
@@ -108,6 +110,8 @@ pub record HexReads (text before after : List ℕ) (answer : Result ℕ ReadErro
   pub number0 : (number_of_hex_read answer ≡ 0) ↔ (answer ≡ Ok (length (said_by (text_lines text))))
   -- "every text read gives the bytes its records say"
   pub bytes : after ≡ bytes_after answer text before
+  -- so many bytes stand at the front, none of a refused call, and the others stay
+  pub count : after ≡ take (bytes_in answer) (said_by (text_lines text)) ++ drop (bytes_in answer) before
   pub reads : (n : ℕ) → answer ≡ Ok n → ReadsAs text (take n after)
   -- the canonical text of these bytes is read too, and gives them
   pub canonical : (n : ℕ) → answer ≡ Ok n → ReadsAs (hex_of (take n after)) (take n after)
