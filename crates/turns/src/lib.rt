@@ -21,10 +21,11 @@ use tables::marks::{count, is_over};
 fn steps_behind(cores: u8, left: usize) -> usize
     ensures { result ≡ steps_behind cores left }
 {
-    if cores != 1 {
+    // the second test is met by no caller; with it what follows is worked out for a step alone
+    if cores != 1 || left < 3 {
         return 0;
     }
-    left.saturating_sub(3) / 2
+    (left - 3) / 2
 }
 
 // Writes an entry; gives the position behind it.
