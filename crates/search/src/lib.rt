@@ -100,7 +100,10 @@ pub fn choice(c: u8, tables: &[u8], job: &Job<'_>) -> Entry
 pub fn is_nothing(entry: Entry) -> bool
     ensures { result ≡ is_nothing entry }
 {
-    matches!(entry, Entry::Steal(_, t) if NONE <= t)
+    match entry {
+        Entry::Steal(_, t) => NONE <= t,
+        Entry::Step(_) | Entry::Take(_) | Entry::Enable(_) => false,
+    }
 }
 
 // The lowest suspended thread.

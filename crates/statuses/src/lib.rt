@@ -36,7 +36,10 @@ pub fn parent_status(kind: ForkKind) -> Status
 pub fn is_connected(kind: ForkKind) -> bool
     ensures { result ≡ is_connected kind }
 {
-    matches!(kind, ForkKind::Called)
+    match kind {
+        ForkKind::Called => true,
+        ForkKind::Queued | ForkKind::Stolen => false,
+    }
 }
 
 // Does a parent, whose record is q, become ready when a child of its ends?
