@@ -1,5 +1,6 @@
 // Fields as numbers and as bytes. Each thing that cannot be read prints a `bad line`, and something stands for it.
-ghost use Rattle.std.specs.Prelude.{◌≤◌, ◌<◌, length, IfOk, IfSome};
+ghost use Rattle.std.specs.Prelude.{◌≡◌, ◌≤◌, ◌<◌, length, IfOk, IfSome};
+ghost use Rattle.cases.specs.Digits.{digit_value};
 
 use crate::print::bad_line;
 use crate::reading::{Line, cut, is_blank};
@@ -7,8 +8,10 @@ use std::alloc::AllocError;
 use std::io;
 
 // A digit's number, in base 10 or 16.
+#[tactic(auto, unfolding(crate::specs::Digits::digit_value))]
 pub fn value(letter: u8, base: u8) -> Option<u8>
-    ensures { IfSome result (λ d. d < 16) }
+    ensures is { result ≡ digit_value letter base }
+    ensures small { IfSome result (λ d. d < 16) }
 {
     match letter {
         b'0'..=b'9' => Some(letter - b'0'),

@@ -1,5 +1,5 @@
 // Lines and their keywords.
-ghost use Rattle.std.specs.Prelude.{◌≡◌, ◌≤◌, ◌<◌, ◌==◌, length, get_or, IfOk, IfSome};
+ghost use Rattle.std.specs.Prelude.{◌≡◌, ◌≤◌, ◌-◌, ◌==◌, length, get_or, IfOk, IfSome};
 
 use crate::print::bad_line;
 use std::io;
@@ -35,10 +35,9 @@ pub fn is_blank(byte: &u8) -> bool {
     *byte == b' '
 }
 
-// A text up to its first blank, and what follows that.
+// A text up to its first blank, and what follows that; nothing follows where it has none.
 pub fn cut(text: &[u8]) -> (&[u8], &[u8])
-    requires { 0 < length text.now }
-    ensures { length result.1.now < length text.now }
+    ensures { length result.1.now ≤ length text.now - 1 }
 {
     match text.iter().position(is_blank) {
         Some(blank) => (&text[..blank], &text[blank + 1..]),
@@ -90,10 +89,7 @@ impl<'a> Line<'a> {
     {
         let mut text = self.text;
         for _ in 0..k {
-            text = match text.iter().position(is_blank) {
-                Some(blank) => &text[blank + 1..],
-                None => &[],
-            };
+            text = cut(text).1;
         }
         Line { text }
     }
