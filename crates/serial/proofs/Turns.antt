@@ -10,7 +10,6 @@ use Rattle.command.specs.Command.{width_of}
 use Rattle.image.specs.Layout.{slots_of}
 use Rattle.window.specs.Rights.{child_of, sharing_of, rejoined}
 use Rattle.thread.specs.declared.Effect.{Effect}
-use Rattle.thread.specs.Effect.{number_of_fault}
 use Rattle.thread.specs.declared.Effect.TheVariants.{Faults, Sets, Loads, Stores, Goes, Continues, Lforks, Forks, Joins, Suspends, Yields, Returns, Shares}
 use Rattle.thread.specs.Job.{Job, GoodJob, byte_at}
 use Rattle.met.proofs.CommandMet.{ForkMet, ShareMet}

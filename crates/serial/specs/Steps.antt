@@ -5,7 +5,6 @@ use Rattle.image.specs.Code.{commands_of, is_start}
 use Rattle.window.specs.declared.Window.{Window}
 use Rattle.window.specs.Rights.{Fits}
 use Rattle.thread.specs.declared.Effect.{Effect}
-use Rattle.thread.specs.Effect.{number_of_fault}
 use Rattle.thread.specs.declared.Effect.TheVariants.{Faults, Sets, Loads, Stores, Goes, Continues, Lforks, Forks, Joins, Suspends, Yields, Returns, Shares}
 use Rattle.thread.specs.Job.{Job, job_of, word_in, GoodJob}
 use Rattle.serial.specs.declared.Routine.{Routine}
@@ -15,8 +14,6 @@ use Rattle.serial.specs.declared.Ask.TheVariants.{GoOn, Join, Call, Return, Shar
 use Rattle.serial.specs.declared.row.Fork.{Fork}
 use Rattle.serial.specs.declared.row.Row.{Row}
 use Rattle.serial.specs.declared.row.Row.TheVariants as row
-use Rattle.serial.specs.declared.Turn.{Turn}
-use Rattle.serial.specs.declared.Turn.TheVariants.{GoesOn, Returns as ReturnsWith}
 use Rattle.serial.specs.declared.Returned.{Returned}
 use Rattle.serial.specs.declared.Halted.{Halted}
 use Rattle.serial.specs.declared.answer.Stop.{Stop}
@@ -169,29 +166,17 @@ pub record ForksAs (j : Job) (n : ℕ) (whole : Ended) (at : Place) (slots m : L
   pub fork : IsFork j (open_in here slots) here.left f
 
 -- a run that had come to a row's place, once the row has ended
-abbrev pub RowAs : Job → ℕ → Ended → Place → List ℕ → List ℕ → Result Row Halted → Type 0
-RowAs j n whole at slots m (Ok (row.GoesOn next)) = OnAs j n whole at slots m next
-RowAs j n whole at slots m (Ok (row.Forks f here)) = ForksAs j n whole at slots m f here
-RowAs j n whole at slots m (Ok (row.Returns r)) = ReturnsAs j whole at.left m r
-RowAs j n whole at slots m (Err h) = HaltsAs j whole at.left m h
+abbrev pub RowAs : Job → ℕ → Ended → Place → Place → List ℕ → List ℕ → Result Row Halted → Type 0
+RowAs j n whole at next slots m (Ok row.GoesOn) = OnAs j n whole at slots m next
+RowAs j n whole at next slots m (Ok (row.Forks f)) = ForksAs j n whole at slots m f next
+RowAs j n whole at next slots m (Ok (row.Returns v)) = ReturnsAs j whole at.left m (record { value = v; left = next.left })
+RowAs j n whole at next slots m (Err h) = HaltsAs j whole at.left m h
 
 -- what a row gives to every run that had come to its place
-abbrev pub RowFrom : List ℕ → List ℕ → ℕ → Place → List ℕ → List ℕ → List ℕ → List ℕ → Result Row Halted → Type 0
-RowFrom image parameters code at slots m slots' m' r =
+abbrev pub RowFrom : List ℕ → List ℕ → ℕ → Place → List ℕ → List ℕ → Place → List ℕ → List ℕ → Result Row Halted → Type 0
+RowFrom image parameters code at slots m at' slots' m' r =
     (x : RowReady image parameters code at slots m)
-    → RowAs (job_of image x.starts parameters x.come.allowance) x.depth x.come.whole at slots' m' r
-
--- a run that had come to a turn's place, once the turn is over
-abbrev pub TurnAs : Job → ℕ → Ended → Place → List ℕ → List ℕ → Result Turn Halted → Type 0
-TurnAs j n whole at slots m (Ok (GoesOn next)) = OnAs j n whole at slots m next
-TurnAs j n whole at slots m (Ok (ReturnsWith r)) = ReturnsAs j whole at.left m r
-TurnAs j n whole at slots m (Err h) = HaltsAs j whole at.left m h
-
--- what a turn gives to every run that had come to its place
-abbrev pub TurnFrom : List ℕ → List ℕ → List ℕ → ℕ → Place → List ℕ → List ℕ → List ℕ → List ℕ → Result Turn Halted → Type 0
-TurnFrom image starts parameters n at slots m slots' m' o =
-    (x : Come image starts parameters n (open_in at slots) m at.left)
-    → TurnAs (job_of image starts parameters x.allowance) n x.whole at slots' m' o
+    → RowAs (job_of image x.starts parameters x.come.allowance) x.depth x.come.whole at at' slots' m' r
 
 -- what carrying out a fork relies on: some run has come to it
 pub record ForkReady (image starts parameters : List ℕ) (n : ℕ) (at : Place) (slots m : List ℕ) (f : Fork) : Type 0 where
@@ -199,15 +184,15 @@ pub record ForkReady (image starts parameters : List ℕ) (n : ℕ) (at : Place)
   pub fork : IsFork (job_of image starts parameters come.allowance) (open_in at slots) at.left f
 
 -- a run that had come to a fork, once it is carried out
-abbrev pub ForkAs : Job → ℕ → Ended → Place → List ℕ → List ℕ → Result Place Halted → Type 0
-ForkAs j n whole at slots m (Ok next) = OnAs j n whole at slots m next
-ForkAs j n whole at slots m (Err h) = HaltsAs j whole at.left m h
+abbrev pub ForkAs : Job → ℕ → Ended → Place → Place → List ℕ → List ℕ → Result (Unit {0}) Halted → Type 0
+ForkAs j n whole at next slots m (Ok x) = OnAs j n whole at slots m next
+ForkAs j n whole at next slots m (Err h) = HaltsAs j whole at.left m h
 
 -- what it gives to every run that had come to the fork
-abbrev pub ForkFrom : List ℕ → List ℕ → List ℕ → ℕ → Place → List ℕ → List ℕ → Fork → List ℕ → List ℕ → Result Place Halted → Type 0
-ForkFrom image starts parameters n at slots m f slots' m' o =
+abbrev pub ForkFrom : List ℕ → List ℕ → List ℕ → ℕ → Place → List ℕ → List ℕ → Fork → Place → List ℕ → List ℕ → Result (Unit {0}) Halted → Type 0
+ForkFrom image starts parameters n at slots m f at' slots' m' o =
     (x : ForkReady image starts parameters n at slots m f)
-    → ForkAs (job_of image starts parameters x.come.allowance) n x.come.whole at slots' m' o
+    → ForkAs (job_of image starts parameters x.come.allowance) n x.come.whole at at' slots' m' o
 
 -- what is left of the allowance where a routine has ended
 abbrev pub left_of : Result Returned Halted → ℕ

@@ -7,7 +7,10 @@ pub fn lay(slots: &mut [u32; 16], arguments: &[u32])
     requires { (slots.old ≡ replicate 16 0) × (length arguments.now ≤ 16) }
     ensures { slots.new ≡ first_slots arguments.now }
 {
-    slots[..arguments.len()].copy_from_slice(arguments);
+    // where there are none, a call of nothing costs as much as a command
+    if !arguments.is_empty() {
+        slots[..arguments.len()].copy_from_slice(arguments);
+    }
 }
 
 // Slot d becomes a value.

@@ -13,7 +13,7 @@ ghost use Rattle.command.specs.Weight.{standard_weights};
 ghost use Rattle.image.specs.Layout.{program_of, starts_in};
 ghost use Rattle.thread.specs.Job.{job_of};
 ghost use Rattle.serial.specs.Serial.{ended_by, started_on, serial_of};
-ghost use Rattle.serial.specs.Steps.{Padded, Come, ForkReady, ForkFrom, TurnFrom, RunFrom, open_in, left_of, serial_answer, refused_by};
+ghost use Rattle.serial.specs.Steps.{Padded, Come, ForkReady, ForkFrom, RunFrom, left_of, serial_answer, refused_by};
 
 use crate::act::code_start;
 use crate::answer::{Finished, SerialAnswer, Stop, Stopped};
@@ -66,18 +66,9 @@ struct Halted {
     left: u32,
 }
 
-// Where a turn led.
-#[derive(Clone, Copy)]
-enum Turn {
-    // behind a join, a fork or a share
-    GoesOn(Place),
-    // to the routine's end
-    Returns(Returned),
-}
-
 // Carries out a fork: the child starts on its arguments, the parent's slots from the first on, in its part of the parent's window, and runs
 // to its end; its value goes into the result slot. `depth` routines may be open from the parent on, itself included.
-#[cycle(carry_fork_run_routine_run_turn)]
+#[cycle(carry_fork_run_routine)]
 fn carry_fork(
     image: &[u8],
     padded: &[u8; 4104],
@@ -85,12 +76,12 @@ fn carry_fork(
     parameters: &[u32],
     memory: &mut [u32],
     slots: &mut [u32; 16],
-    at: Place,
+    at: &mut Place,
     fork: Fork,
     depth: u8,
-) -> Result<Place, Halted>
-    requires { ForkReady image.now starts.now parameters.now (33 - depth) at slots.old memory.old fork × (depth ≤ 32) × Padded image.now padded.now }
-    ensures { ForkFrom image.now starts.now parameters.now (33 - depth) at slots.old memory.old fork slots.new memory.new result }
+) -> Result<(), Halted>
+    requires { ForkReady image.now starts.now parameters.now (33 - depth) at.old slots.old memory.old fork × (depth ≤ 32) × Padded image.now padded.now }
+    ensures { ForkFrom image.now starts.now parameters.now (33 - depth) at.old slots.old memory.old fork at.new slots.new memory.new result }
 {
     let Some(Cut { child, rest }) = at.window.cut(fork.cut) else {
         // not met: the effect is a fork only where the cut is in range
@@ -121,40 +112,12 @@ fn carry_fork(
         depth - 1,
     )?;
     put(slots, fork.result, returned.value);
-    Ok(at.forked(at.position + 5, returned.left, rest, fork.result))
-}
-
-// Runs a row and carries out the fork that may have ended it. `depth` routines may be open from this one on, itself included.
-#[cycle(carry_fork_run_routine_run_turn)]
-fn run_turn(
-    image: &[u8],
-    padded: &[u8; 4104],
-    starts: &[u16; 32],
-    parameters: &[u32],
-    memory: &mut [u32],
-    weights: &[u8; 15],
-    code: usize,
-    slots: &mut [u32; 16],
-    at: Place,
-    depth: u8,
-) -> Result<Turn, Halted>
-    requires { Come image.now starts.now parameters.now (33 - depth) (open_in at slots.old) memory.old at.left × (depth ≤ 32) × (code ≡ get_or starts.now at.routine 0) × (weights.now ≡ standard_weights) × Padded image.now padded.now }
-    ensures { TurnFrom image.now starts.now parameters.now (33 - depth) at slots.old memory.old slots.new memory.new result }
-{
-    match run_row(image, padded, weights, code, slots, parameters, memory, at)? {
-        Row::GoesOn(next) => Ok(Turn::GoesOn(next)),
-        Row::Forks(fork, here) => {
-            let next = carry_fork(
-                image, padded, starts, parameters, memory, slots, here, fork, depth,
-            )?;
-            Ok(Turn::GoesOn(next))
-        }
-        Row::Returns(returned) => Ok(Turn::Returns(returned)),
-    }
+    at.pass_fork(at.position + 5, returned.left, rest, fork.result);
+    Ok(())
 }
 
 // Runs a routine's commands from its start until it returns or a test is met. `depth` routines may be open from it on, itself included.
-#[cycle(carry_fork_run_routine_run_turn)]
+#[cycle(carry_fork_run_routine)]
 fn run_routine(
     image: &[u8],
     padded: &[u8; 4104],
@@ -177,12 +140,20 @@ fn run_routine(
     lay(&mut slots, arguments);
     let mut at = Place::first(routine, start, most);
     loop {
-        let turn = run_turn(
-            image, padded, starts, parameters, memory, &weights, code, &mut slots, at, depth,
+        let row = run_row(
+            image, padded, &weights, code, &mut slots, parameters, memory, &mut at,
         )?;
-        match turn {
-            Turn::GoesOn(next) => at = next,
-            Turn::Returns(returned) => return Ok(returned),
+        match row {
+            Row::GoesOn => {}
+            Row::Forks(fork) => carry_fork(
+                image, padded, starts, parameters, memory, &mut slots, &mut at, fork, depth,
+            )?,
+            Row::Returns(value) => {
+                return Ok(Returned {
+                    value,
+                    left: at.left,
+                });
+            }
         }
     }
 }

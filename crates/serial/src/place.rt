@@ -23,19 +23,14 @@ pub struct Place {
 
 impl Place {
     // What the routine's next command may look at, in its own slots.
-    pub fn view<'a>(self, slots: &'a [u32]) -> View<'a>
-        ensures { seen_by result ≡ context_of (slot_of slots.now 0) (is_pending self.pending) self.window }
+    pub fn view<'a>(&self, slots: &'a [u32]) -> View<'a>
+        ensures { seen_by result ≡ context_of (slot_of slots.now 0) (is_pending self.now.pending) self.now.window }
     {
-        let Place {
-            pending,
-            window,
-            ..
-        } = self;
         View {
             words: slots,
             base: 0,
-            pending,
-            window,
+            pending: self.pending,
+            window: self.window,
         }
     }
 
@@ -52,53 +47,38 @@ impl Place {
         }
     }
 
-    // At a position, with so much left.
-    pub fn moved(self, position: u16, left: u32) -> Place
-        ensures { result ≡ place_at self.routine position self.pending self.window left }
+    // To a position, with so much left.
+    pub fn go_to(&mut self, position: u16, left: u32)
+        ensures { self.new ≡ place_at self.old.routine position self.old.pending self.old.window left }
     {
-        Place {
-            position,
-            left,
-            ..self
-        }
+        self.position = position;
+        self.left = left;
     }
 
     // Behind a join: no slot is pending, and the mark is back.
-    pub fn joined(self, position: u16, left: u32) -> Place
-        ensures { result ≡ place_at self.routine position 0 (rejoined self.window) left }
+    pub fn pass_join(&mut self, position: u16, left: u32)
+        ensures { self.new ≡ place_at self.old.routine position 0 (rejoined self.old.window) left }
     {
-        Place {
-            position,
-            pending: 0,
-            window: self.window.rejoin(),
-            left,
-            ..self
-        }
+        self.go_to(position, left);
+        self.pending = 0;
+        self.window = self.window.rejoin();
     }
 
     // Behind a fork, whose result slot d is pending, in the rest of the window.
-    pub fn forked(self, position: u16, left: u32, rest: Window, d: u8) -> Place
+    pub fn pass_fork(&mut self, position: u16, left: u32, rest: Window, d: u8)
         requires { d < 16 }
-        ensures { result ≡ place_at self.routine position (with_pending self.pending d) rest left }
+        ensures { self.new ≡ place_at self.old.routine position (with_pending self.old.pending d) rest left }
     {
-        Place {
-            position,
-            pending: with_pending(self.pending, d),
-            window: rest,
-            left,
-            ..self
-        }
+        self.go_to(position, left);
+        self.pending = with_pending(self.pending, d);
+        self.window = rest;
     }
 
     // Behind a share, in the window with its new ceiling.
-    pub fn shared(self, position: u16, left: u32, window: Window) -> Place
-        ensures { result ≡ place_at self.routine position self.pending window left }
+    pub fn pass_share(&mut self, position: u16, left: u32, window: Window)
+        ensures { self.new ≡ place_at self.old.routine position self.old.pending window left }
     {
-        Place {
-            position,
-            window,
-            left,
-            ..self
-        }
+        self.go_to(position, left);
+        self.window = window;
     }
 }

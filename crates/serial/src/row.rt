@@ -7,7 +7,7 @@ use crate::act::{carry_out, cost_of};
 use crate::answer::Stop;
 use crate::padded::five_of;
 use crate::place::Place;
-use crate::{Ask, Halted, Returned};
+use crate::{Ask, Halted};
 use command::command_of;
 use thread::Fault;
 
@@ -21,18 +21,19 @@ pub struct Fork {
     pub weight: u32,
 }
 
-// What ended a row.
+// What ended a row. Where the routine stands then is told by its place, which is changed and not handed on: a place by value in an answer costs as
+// much as a command.
 #[derive(Clone, Copy)]
 pub enum Row {
     // a join or a share, and the routine goes on behind it
-    GoesOn(Place),
-    // a fork, and its place
-    Forks(Fork, Place),
-    // a return
-    Returns(Returned),
+    GoesOn,
+    // a fork, at the routine's place
+    Forks(Fork),
+    // a return, with a value
+    Returns(u32),
 }
 
-// Runs a row from a place on. `code` is where the routine's code starts.
+// Runs a row from a place on, to the place where it ends. `code` is where the routine's code starts.
 pub fn run_row(
     image: &[u8],
     padded: &[u8; 4104],
@@ -41,10 +42,10 @@ pub fn run_row(
     slots: &mut [u32; 16],
     parameters: &[u32],
     memory: &mut [u32],
-    at: Place,
+    at: &mut Place,
 ) -> Result<Row, Halted>
-    requires { RowReady image.now parameters.now code at slots.old memory.old × (weights.now ≡ standard_weights) × Padded image.now padded.now }
-    ensures { RowFrom image.now parameters.now code at slots.old memory.old slots.new memory.new result }
+    requires { RowReady image.now parameters.now code at.old slots.old memory.old × (weights.now ≡ standard_weights) × Padded image.now padded.now }
+    ensures { RowFrom image.now parameters.now code at.old slots.old memory.old at.new slots.new memory.new result }
 {
     let mut position = at.position;
     let mut left = at.left;
@@ -63,7 +64,10 @@ pub fn run_row(
                 position = next;
                 left -= cost;
             }
-            Ok(Ask::Join) => return Ok(Row::GoesOn(at.joined(position + 1, left - cost))),
+            Ok(Ask::Join) => {
+                at.pass_join(position + 1, left - cost);
+                return Ok(Row::GoesOn);
+            }
             Ok(Ask::Call(cut, routine, result, first)) => {
                 let fork = Fork {
                     cut,
@@ -72,13 +76,12 @@ pub fn run_row(
                     first,
                     weight: cost,
                 };
-                return Ok(Row::Forks(fork, at.moved(position, left)));
+                at.go_to(position, left);
+                return Ok(Row::Forks(fork));
             }
             Ok(Ask::Return(value)) => {
-                return Ok(Row::Returns(Returned {
-                    value,
-                    left: left - cost,
-                }));
+                at.go_to(position, left - cost);
+                return Ok(Row::Returns(value));
             }
             Ok(Ask::Share(s)) => {
                 let Some(window) = at.window.share(s) else {
@@ -88,7 +91,8 @@ pub fn run_row(
                         left,
                     });
                 };
-                return Ok(Row::GoesOn(at.shared(position + 2, left - cost, window)));
+                at.pass_share(position + 2, left - cost, window);
+                return Ok(Row::GoesOn);
             }
             Err(by) => return Err(Halted { by, left }),
         }

@@ -2,5 +2,5 @@
 use Rattle.serial.proofs.FirstSlots.{laid}
 use Rattle.serial.proofs.frame.lay.Goals as goal
 
-pub returns : goal.returns
-returns c = rw (c.copy_from_slice.ensures.after, c.requires.0) (laid c.args.arguments.now c.requires.1)
+pub returns-then-not-is_empty : goal.returns-then-not-is_empty
+returns-then-not-is_empty c = rw (c.copy_from_slice.ensures.after, c.requires.0) (laid c.args.arguments.now c.requires.1)
