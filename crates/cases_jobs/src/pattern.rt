@@ -6,15 +6,16 @@
 // - `r0`: the same number, as a thread below 33; `s0`: the same number, as another core below 4.
 //
 // The numbers look random; they are below 65,536.
-ghost use Rattle.std.specs.Prelude.{◌<◌};
+ghost use Rattle.std.specs.Prelude.{◌≡◌, ◌<◌};
 
 use cases::Line;
 use std::io;
 
-fn next_number(x: u32) -> u32
-    ensures { result < 65536 }
+fn next_number(x: &mut u32) -> u32
+    ensures { (result ≡ x.new) × (result < 65536) }
 {
-    (x % 65536 * 1103 + 12345) % 65536
+    *x = (*x % 65536 * 1103 + 12345) % 65536;
+    *x
 }
 
 fn thread(block: usize, more: u8) -> u8
@@ -23,15 +24,15 @@ fn thread(block: usize, more: u8) -> u8
     ((block % 32) as u8 + more % 32) % 32
 }
 
-// The byte of a word of two letters, in a block, with a number, if each digit is one.
-fn byte_of(word: [u8; 2], block: usize, x: u32) -> Option<u8> {
+// The byte of a word of two letters, in a block, where the last number was x, if each digit is one.
+fn byte_of(word: [u8; 2], block: usize, x: &mut u32) -> Option<u8> {
     Some(match word {
         [b't', more] => thread(block, cases::value(more, 10)?),
         [b'u', _] => 31 - thread(block, 0),
-        [b'p', _] => (x / 256 % 4) as u8,
-        [b'q', _] => (x / 256 % 5) as u8,
-        [b'r', _] => (x / 8 % 33) as u8,
-        [b's', _] => (x / 2048 % 4) as u8,
+        [b'p', _] => (next_number(x) / 256 % 4) as u8,
+        [b'q', _] => (next_number(x) / 256 % 5) as u8,
+        [b'r', _] => (*x / 8 % 33) as u8,
+        [b's', _] => (*x / 2048 % 4) as u8,
         [high, low] => cases::value(high, 16)? * 16 + cases::value(low, 16)?,
     })
 }
@@ -44,30 +45,37 @@ fn told_byte_of(rt: &impl Print, word: [u8; 2], block: usize) -> io::Result<u8> 
     Ok(cases::digit(rt, word[0], 16)? * 16 + cases::digit(rt, word[1], 16)?)
 }
 
-// The bytes that a line of entries tells: its SIZE bytes of its PATTERN. A letter that is missing is 0.
+// A word's letters. One that is missing is 0.
+fn letters(word: &[u8]) -> [u8; 2] {
+    match word {
+        [kind, letter, ..] => [*kind, *letter],
+        [kind] => [*kind, 0],
+        [] => [0, 0],
+    }
+}
+
+// The bytes that a line of entries tells: its SIZE bytes of its PATTERN.
 pub fn bytes(rt: &(impl Print + AllocGlobal), entries: Line<'_>) -> io::Result<Vec<u8>> {
     let size = entries.number(rt, 1, 32768)? as usize;
-    let pattern = entries.from_field(2).text;
-    let mut bytes = Vec::new(rt.alloc());
+    let pattern = match entries.from_field(2).text {
+        [] => &[0], // a word without letters
+        words => words,
+    };
+    let mut bytes = Vec::with_capacity(rt.alloc(), size)?;
     let mut x = 1;
-    let mut at = 0;
-    let mut block = 0;
-    for _ in 0..size {
-        let word = [at, at + 1].map(|k| pattern.get(k).copied().unwrap_or(0));
-        if let [b'p' | b'q', _] = word {
-            x = next_number(x);
-        }
-        // a schedule has thousands, and an `io::Result` is large: only a wrong digit makes one
-        let byte = match byte_of(word, block, x) {
-            Some(byte) => byte,
-            None => told_byte_of(rt, word, block)?,
-        };
-        bytes.push(byte)?;
+    for block in 0..size {
         // a blank stands behind each word but the last
-        at += 3;
-        if pattern.len() <= at {
-            at = 0;
-            block += 1;
+        for word in pattern.chunks(3) {
+            if bytes.len() == size {
+                return Ok(bytes);
+            }
+            let word = letters(word);
+            // a schedule has thousands, and an `io::Result` is large: only a wrong digit makes one
+            let byte = match byte_of(word, block, &mut x) {
+                Some(byte) => byte,
+                None => told_byte_of(rt, word, block)?,
+            };
+            bytes.push(byte)?;
         }
     }
     Ok(bytes)
