@@ -7,7 +7,7 @@ pub fn lay(slots: &mut [u32; 16], arguments: &[u32])
     requires { (slots.old ≡ replicate 16 0) × (length arguments.now ≤ 16) }
     ensures { slots.new ≡ first_slots arguments.now }
 {
-    // where there are none, a call of nothing costs as much as a command
+    // where there are none, a call that copies nothing would make a fork a tenth slower
     if !arguments.is_empty() {
         slots[..arguments.len()].copy_from_slice(arguments);
     }
