@@ -15,4 +15,4 @@ mod reading;
 
 pub use fields::{digit, value};
 pub use print::Listed;
-pub use reading::{Line, ends_line, first, input};
+pub use reading::{Line, ends_line, first, first_line, input, lines};

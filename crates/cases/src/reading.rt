@@ -1,7 +1,9 @@
 // Lines and their keywords.
-ghost use Rattle.std.specs.Prelude.{◌≡◌, ◌≤◌, ◌-◌, ◌==◌, length, get_or, IfOk, IfSome};
+ghost use Rattle.std.specs.Prelude.{◌≡◌, ◌≤◌, ◌-◌, ◌==◌, [], map, length, get_or, IfOk, IfSome};
+ghost use Rattle.std.specs.List.{slice_split};
 
 use crate::print::bad_line;
+use std::alloc::{AllocError, Global};
 use std::io;
 use std::io::Read;
 
@@ -21,8 +23,25 @@ pub fn ends_line(byte: &u8) -> bool
     *byte == b'\n'
 }
 
+// All lines of an input, of which there is at least one.
+pub fn lines(alloc: Global, input: &[u8]) -> Result<Vec<Line<'_>>, AllocError>
+    ensures { IfOk result (λ lines. map (λ line. line.text.now) lines.items ≡ slice_split (λ byte. byte == 10) input.now) }
+{
+    input
+        .split(ends_line)
+        .map(|text| Line { text })
+        .collect(alloc)
+}
+
+// The first of some lines, and an empty one where there is none.
+pub fn first<'a>(lines: &[Line<'a>]) -> Line<'a>
+    ensures { result.text.now ≡ get_or (map (λ line. line.text.now) lines.now) 0 [] }
+{
+    lines.first().copied().unwrap_or(Line { text: &[] })
+}
+
 // The first line of an input, up to the byte that ends it.
-pub fn first(input: &[u8]) -> Line<'_>
+pub fn first_line(input: &[u8]) -> Line<'_>
     ensures { length result.text.now ≤ length input.now }
 {
     let end = input.iter().position(ends_line).unwrap_or(input.len());
@@ -92,5 +111,41 @@ impl<'a> Line<'a> {
             text = cut(text).1;
         }
         Line { text }
+    }
+}
+
+#[cfg(test)]
+mod tests {
+    use super::*;
+    use std::test::Fail;
+
+    #[test]
+    fn gives_all_lines(rt: HostRuntime) -> Result<(), Fail> {
+        let lines = lines(rt.alloc(), b"image 0d 00\n\n# no end")?;
+        assert_eq!(rt; lines.len(), 3);
+        assert_eq!(rt; lines[0].text, b"image 0d 00".as_slice());
+        assert_eq!(rt; lines[1].text, b"".as_slice());
+        assert_eq!(rt; lines[2].text, b"# no end".as_slice());
+        Ok(())
+    }
+
+    #[test]
+    fn ends_with_an_empty_line(rt: HostRuntime) -> Result<(), Fail> {
+        assert_eq!(rt; lines(rt.alloc(), b"")?.len(), 1);
+        let lines = lines(rt.alloc(), b"a\n")?;
+        assert_eq!(rt; lines.len(), 2);
+        assert_eq!(rt; lines[1].text, b"".as_slice());
+        Ok(())
+    }
+
+    #[test]
+    fn gives_the_first_of_some_lines(rt: HostRuntime) -> Result<(), Fail> {
+        let input = b"run 1 2\nimage";
+        let lines = lines(rt.alloc(), input)?;
+        assert_eq!(rt; first(&lines).text, b"run 1 2".as_slice());
+        assert_eq!(rt; first(&lines[1..]).text, b"image".as_slice());
+        assert_eq!(rt; first(&lines[2..]).text, b"".as_slice());
+        assert_eq!(rt; first_line(input).text, first(&lines).text);
+        Ok(())
     }
 }

@@ -36,7 +36,7 @@ fn run(rt: &(impl Print + AllocGlobal), line: Line<'_>, image: Line<'_>) -> io::
 
 fn main(rt: HostRuntime) -> io::Result<()> {
     let input = cases::input(&rt)?;
-    let mut image = cases::first(&input);
+    let mut image = cases::first_line(&input);
     for text in input.split(|byte| cases::ends_line(byte)) {
         let line = Line { text };
         match line.keyword(&rt, &[("image", None), ("run", None)])? {

@@ -30,7 +30,7 @@ const KEYWORDS: [(&str, Option<usize>); 5] = [
 
 fn main(rt: HostRuntime) -> io::Result<()> {
     let input = cases::input(&rt)?;
-    let mut image = cases::first(&input);
+    let mut image = cases::first_line(&input);
     let mut schedule = image;
     for text in input.split(|byte| cases::ends_line(byte)) {
         let line = Line { text };
