@@ -45,7 +45,12 @@ module _ {image starts parameters : List ℕ} {n : ℕ} {l : Routine} {m : List 
   fork-ready met = record { come = record { allowance = x.allowance; whole = x.whole; far = met.far }; fork = met.fork }
 
 -- what a fork gives at a place that a row had reached, it gives at the row's place
-pub fork-from : {j : Job} {n : ℕ} {whole : Ended} {slots m : List ℕ} {at here : Place} {f : Fork} → ForksAs j n whole at slots m f here
+pub fork-from : (j : Job) (n : ℕ) (whole : Ended) (slots m : List ℕ) (at here next : Place) → here.left ≤ at.left → here.routine ≡ at.routine
+    → (o : Result (Unit {0}) Halted) → ForkAs j n whole here next slots m o → ForkAs j n whole at next slots m o
+fork-from j n whole slots m at here next less same (Ok x) t = record { less = omega (arith, t.less, less); same = t.same ∙ same; far = t.far }
+fork-from j n whole slots m at here next less same (Err h) t = record { less = omega (arith, t.less, less); is = t.is }
+
+-- so too where the row met the fork there
+pub row-fork-from : {j : Job} {n : ℕ} {whole : Ended} {slots m : List ℕ} {at here : Place} {f : Fork} → ForksAs j n whole at slots m f here
     → (next : Place) (slots' m' : List ℕ) (o : Result (Unit {0}) Halted) → ForkAs j n whole here next slots' m' o → ForkAs j n whole at next slots' m' o
-fork-from met next slots' m' (Ok x) t = record { less = omega (arith, t.less, met.less); same = t.same ∙ met.same; far = t.far }
-fork-from met next slots' m' (Err h) t = record { less = omega (arith, t.less, met.less); is = t.is }
+row-fork-from {j} {n} {whole} {slots} {m} {at} {here} met next slots' m' = fork-from j n whole slots' m' at here next met.less met.same

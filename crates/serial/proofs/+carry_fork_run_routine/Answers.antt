@@ -4,7 +4,7 @@ use Prim.Native.Nat.{suc, ◌<◌, ◌-◌}
 use native.Mathlib.Omega.{arith}
 use Rattle.std.specs.Prelude.{Ok, Err}
 use Rattle.std.proofs.lemmas.Result.{err_from_is_err_and}
-use Rattle.serial.proofs.Places.{goes-on, row-ready, fork-ready, fork-from}
+use Rattle.serial.proofs.Places.{goes-on, row-ready, fork-ready, row-fork-from}
 use Rattle.serial.proofs.Forking.{fork-slot, fork-fits, fork-cuts, fork-end, fork-deep, child-few, child-far, fork-halts, fork-returns}
 use Rattle.serial.proofs.+carry_fork_run_routine.Goals as goal
 
@@ -87,7 +87,7 @@ pub run_routine-returns-in_err-carry_fork-in-Forks : goal.run_routine-returns-in
 run_routine-returns-in_err-carry_fork-in-Forks t c x =
     let f = rw c.in-Forks.is at (c.in_ok-row.ensures (row-ready x c.loop-row.invariant.0 c.code_start-code.ensures.0 (c.loop-row.invariant.1 x).1)) in
     let e = err_from_is_err_and c.from_residual-in_err-carry_fork-in-Forks.result c.from_residual-in_err-carry_fork-in-Forks.ensures.1 in
-    let told = fork-from f c.carry_fork.new.at c.carry_fork.new.slots _ (Err _) (c.in_err-carry_fork-in-Forks.ensures (fork-ready x f)) in
+    let told = row-fork-from f c.carry_fork.new.at c.carry_fork.new.slots _ (Err _) (c.in_err-carry_fork-in-Forks.ensures (fork-ready x f)) in
     rw (e.1, e.2) (record { less = omega (arith, (c.loop-row.invariant.1 x).0, told.less); is = told.is })
 
 pub run_routine-loop-row-smaller-in-GoesOn : goal.run_routine-loop-row-smaller-in-GoesOn
@@ -104,12 +104,12 @@ pub run_routine-loop-row-smaller : goal.run_routine-loop-row-smaller
 run_routine-loop-row-smaller t c =
     let x = c.requires.0 in
     let f = rw c.in-Forks.is at (c.in_ok-row.ensures (row-ready x c.loop-row.invariant.0 c.code_start-code.ensures.0 (c.loop-row.invariant.1 x).1)) in
-    (fork-from f _ _ _ (Ok _) (c.in_ok-carry_fork-in-Forks.ensures (fork-ready x f))).less
+    (row-fork-from f _ _ _ (Ok _) (c.in_ok-carry_fork-in-Forks.ensures (fork-ready x f))).less
 
 pub run_routine-loop-row-preserved : goal.run_routine-loop-row-preserved
 run_routine-loop-row-preserved t c =
     let met = λ (x : _). rw c.in-Forks.is at (c.in_ok-row.ensures (row-ready x c.loop-row.invariant.0 c.code_start-code.ensures.0 (c.loop-row.invariant.1 x).1)) in
-    let on = λ (x : _). fork-from (met x) _ _ _ (Ok _) (c.in_ok-carry_fork-in-Forks.ensures (fork-ready x (met x))) in
+    let on = λ (x : _). row-fork-from (met x) _ _ _ (Ok _) (c.in_ok-carry_fork-in-Forks.ensures (fork-ready x (met x))) in
     ((on c.requires.0).same ∙ c.loop-row.invariant.0, λ x. (omega (arith, (c.loop-row.invariant.1 x).0, (on x).less), (on x).far))
 
 pub run_routine-returns-in-Returns : goal.run_routine-returns-in-Returns
