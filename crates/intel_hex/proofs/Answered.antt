@@ -1,5 +1,5 @@
 -- The answers of `write` and `read`: each by its cause. Assumes nothing.
-use Rattle.std.proofs.Common.{◌≡◌, ℕ, ◌<◌, ◌≤◌, Bool, true, false, cond, List, ◌++◌, length, take, drop, sym, refl, ap, ◌∙◌, true≢false, arith, take_at, le-leb}
+use Rattle.std.proofs.Common.{◌≡◌, ℕ, ◌<◌, ◌≤◌, ◌↔◌, Bool, true, false, cond, List, ◌++◌, length, take, drop, sym, refl, ap, ◌∙◌, true≢false, arith, take_at, le-leb}
 use Rattle.std.proofs.lemmas.List.{take_all}
 use Rattle.std.specs.Prelude.{Result, Ok, Err}
 use borrow.Author.Tests.{lt-leb}
@@ -14,7 +14,7 @@ use Rattle.intel_hex.specs.declared.ReadError.TheVariants.{Malformed, BadChecksu
 use Rattle.hex_format.specs.Text.{hex_of}
 use Rattle.hex_format.specs.Lines.{text_lines}
 use Rattle.hex_format.specs.Reading.{malformed, bad_checksum, bad_span, said_by, text_number}
-use Rattle.intel_hex.specs.Answers.{ReadsAs, number_of_hex_written, characters_of, hex_written, text_length, HexWrites, number_of_hex_read, bytes_in, verdict_of, hex_read, HexReads}
+use Rattle.intel_hex.specs.Answers.{ReadsAs, number_of_hex_written, characters_of, hex_written, text_after, text_length, HexWrites, number_of_hex_read, bytes_in, verdict_of, hex_read, bytes_after, HexReads}
 use Rattle.intel_hex.specs.Found.{PutsText}
 use Rattle.intel_hex.proofs.Storing.{sets-front}
 use Rattle.intel_hex.proofs.RoundTrip.{Small}
@@ -29,6 +29,13 @@ numbers OperandsCutOff = (omega arith, omega arith)
 numbers OutOfRange = (omega arith, omega arith)
 numbers BadEnd = (omega arith, omega arith)
 numbers BadTarget = (omega arith, omega arith)
+
+-- the count of characters follows from the length of the text and what stands there then
+pub written-count : (image before after : List ℕ) (answer : Result ℕ WriteError) → (number_of_hex_written answer ≡ 0) ↔ (answer ≡ Ok (text_length (length image)))
+    → after ≡ text_after answer image before → after ≡ take (characters_of answer) (hex_of image) ++ drop (characters_of answer) before
+written-count image before after (Ok n) given is =
+    is ∙ ap (λ s. s ++ drop n before) (sym (take_all n (hex_of image) (omega (arith, ap characters_of (given.0 refl), text-length image))))
+written-count image before after (Err error) given is = is
 
 module _ (image before : List ℕ) where
   -- a bad image
@@ -83,11 +90,18 @@ module _ (image before : List ℕ) where
           number25 = (λ q. absurd (omega arith), λ q. absurd (omega (arith, q.1)));
           number0 = (λ q. ap Ok e, λ q. refl);
           text = all;
-          count = all ∙ ap (λ s. s ++ drop n before) (sym (take_all n (hex_of image) (omega (arith, size))));
+          count = written-count image before after (Ok n) (λ q. ap Ok e, λ q. refl) all;
           back = λ m q.
               let same : n ≡ m = ap characters_of q in
               rw (← same, all, take_at (hex_of image) (drop n before) n size) (reads-back image small (omega arith));
         }
+
+-- the count of bytes follows from their number and what stands there then
+pub read-count : (text before after : List ℕ) (answer : Result ℕ ReadError) → (number_of_hex_read answer ≡ 0) ↔ (answer ≡ Ok (length (said_by (text_lines text))))
+    → after ≡ bytes_after answer text before → after ≡ take (bytes_in answer) (said_by (text_lines text)) ++ drop (bytes_in answer) before
+read-count text before after (Ok n) given is =
+    is ∙ ap (λ s. s ++ drop n before) (sym (take_all n (said_by (text_lines text)) (omega (arith, ap bytes_in (given.0 refl)))))
+read-count text before after (Err error) given is = is
 
 -- the three tests, in their order
 data Tested (lines : List (List ℕ)) : Result ℕ ReadError → Type 0 where
@@ -259,7 +273,7 @@ module _ (text before : List ℕ) where
           number25 = (λ p. absurd (omega arith), λ p. absurd (omega (arith, p.1, t.3)));
           number0 = (λ p. ap Ok t.3, λ p. refl);
           bytes = is;
-          count = is ∙ ap (λ s. s ++ drop n before) (sym (take_all n (said_by (text_lines text)) (omega (arith, t.3))));
+          count = read-count text before after (Ok n) (λ p. ap Ok t.3, λ p. refl) is;
           reads = λ m p. front m (ap bytes_in p);
           canonical = λ m p. canonical text (take m after) (front m (ap bytes_in p));
         }
