@@ -23,7 +23,7 @@ pub fn ends_line(byte: &u8) -> bool
     *byte == b'\n'
 }
 
-// All lines of an input, of which there is at least one.
+// All lines of an input, of which there is at least one. The programs go through an input part by part and do without this Vec.
 pub fn lines(alloc: Global, input: &[u8]) -> Result<Vec<Line<'_>>, AllocError>
     ensures { IfOk result (λ lines. map (λ line. line.text.now) lines.items ≡ slice_split (λ byte. byte == 10) input.now) }
 {

@@ -30,11 +30,14 @@ numbers OutOfRange = (omega arith, omega arith)
 numbers BadEnd = (omega arith, omega arith)
 numbers BadTarget = (omega arith, omega arith)
 
--- the count of characters follows from the length of the text and what stands there then
+-- all of n bytes are the first n of them
+front-whole : (bytes before after : List ℕ) (n : ℕ) → n ≡ length bytes → after ≡ bytes ++ drop n before → after ≡ take n bytes ++ drop n before
+front-whole bytes before after n size is = is ∙ ap (λ s. s ++ drop n before) (sym (take_all n bytes (omega (arith, size))))
+
+-- `count` of `HexWrites` follows from its `number0` and `text`
 pub written-count : (image before after : List ℕ) (answer : Result ℕ WriteError) → (number_of_hex_written answer ≡ 0) ↔ (answer ≡ Ok (text_length (length image)))
     → after ≡ text_after answer image before → after ≡ take (characters_of answer) (hex_of image) ++ drop (characters_of answer) before
-written-count image before after (Ok n) given is =
-    is ∙ ap (λ s. s ++ drop n before) (sym (take_all n (hex_of image) (omega (arith, ap characters_of (given.0 refl), text-length image))))
+written-count image before after (Ok n) given is = front-whole (hex_of image) before after n (ap characters_of (given.0 refl) ∙ sym (text-length image)) is
 written-count image before after (Err error) given is = is
 
 module _ (image before : List ℕ) where
@@ -96,11 +99,10 @@ module _ (image before : List ℕ) where
               rw (← same, all, take_at (hex_of image) (drop n before) n size) (reads-back image small (omega arith));
         }
 
--- the count of bytes follows from their number and what stands there then
+-- `count` of `HexReads` follows from its `number0` and `bytes`
 pub read-count : (text before after : List ℕ) (answer : Result ℕ ReadError) → (number_of_hex_read answer ≡ 0) ↔ (answer ≡ Ok (length (said_by (text_lines text))))
     → after ≡ bytes_after answer text before → after ≡ take (bytes_in answer) (said_by (text_lines text)) ++ drop (bytes_in answer) before
-read-count text before after (Ok n) given is =
-    is ∙ ap (λ s. s ++ drop n before) (sym (take_all n (said_by (text_lines text)) (omega (arith, ap bytes_in (given.0 refl)))))
+read-count text before after (Ok n) given is = front-whole (said_by (text_lines text)) before after n (ap bytes_in (given.0 refl)) is
 read-count text before after (Err error) given is = is
 
 -- the three tests, in their order

@@ -10,4 +10,7 @@ use Rattle.cases.proofs.reading.lines.Goals as goal
 
 pub returns : goal.returns
 returns c = IfOk-weaker c.collect.result _ _ (λ lines h. h ∙ map-id (slice_split (λ byte. byte == 10) c.args.input.now))
-    (map_from_collect {v = λ line. line.text.now} c.collect.result c.collect.ensures.ran (YieldsList-from_map_by _ (λ line. line.text.now) (λ text. text) (YieldsList-at c.map.ensures.source (YieldsList-from_slice_split _ (λ byte. byte == 10) c.args.input.now c.split.ensures.rest c.split.ensures.done c.split.ensures.closure (λ x b q k. search (rules, tests)))) c.map.ensures.closure (λ x r q k. search (rules, tests))))
+    (map_from_collect {v = λ line. line.text.now} c.collect.result c.collect.ensures.ran
+    (YieldsList-from_map_by _ (λ line. line.text.now) (λ text. text) (YieldsList-at c.map.ensures.source
+    (YieldsList-from_slice_split _ (λ byte. byte == 10) c.args.input.now c.split.ensures.rest c.split.ensures.done c.split.ensures.closure
+    (λ x b q k. search (rules, tests)))) c.map.ensures.closure (λ x r q k. search (rules, tests))))
